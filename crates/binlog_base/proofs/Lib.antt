@@ -1,0 +1,5 @@
+pub mod Appending
+pub mod Groups
+pub mod Lossy
+pub mod BitLists
+pub mod Ambiguity

@@ -1,0 +1,10 @@
+-- The format of a bit list is exact.
+use Rattle.std.specs.Prelude.{ℕ}
+use Rattle.binlog_base.specs.declared.bits.BitOrder.{BitOrder}
+use Rattle.binlog_base.specs.Format.{IsExact, bytes}
+use Rattle.binlog_base.specs.Exact.{exact_bytes, exact_as}
+use Rattle.binlog_base.specs.Bits.{bitmap_len, bits_of, bit_list}
+
+pub exact_bit_list : (order : BitOrder) (n : ℕ) → IsExact (bit_list order n)
+unfolding bit_list
+exact_bit_list order n = exact_as (bytes (bitmap_len n)) (bits_of order n) (exact_bytes (bitmap_len n))

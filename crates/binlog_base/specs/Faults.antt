@@ -1,0 +1,55 @@
+-- The numbers and kinds of faults, and which of them bytes can have.
+use Rattle.std.specs.Prelude.{ℕ, Bool, true, false, IsTrue}
+use Rattle.binlog_base.specs.declared.fault.Fault.{Fault}
+use Rattle.binlog_base.specs.declared.fault.Fault.TheVariants as fault
+use Rattle.binlog_base.specs.declared.fault.FaultKind.{FaultKind}
+use Rattle.binlog_base.specs.declared.fault.FaultKind.TheVariants as kind
+
+-- the table of numbers
+abbrev pub number_of : Fault → ℕ
+number_of fault.UnexpectedEof = 1
+number_of fault.BadLenEnc = 2
+number_of (fault.UnknownColumnType _) = 3
+number_of (fault.UnexpectedColumnType _) = 4
+number_of fault.NoColumnType = 5
+number_of fault.MissingMetadata = 6
+number_of fault.UnknownEnum = 7
+number_of fault.UnknownBlob = 8
+number_of fault.Unhandled = 9
+number_of fault.DecimalScale = 10
+number_of fault.DecimalGroup = 11
+number_of fault.TimeRange = 12
+number_of fault.YearRange = 13
+number_of (fault.UnknownOptionalField _) = 14
+number_of fault.BytesRemaining = 15
+number_of (fault.UnknownGeometryType _) = 16
+number_of (fault.Jsonb _) = 17
+number_of (fault.UnknownJsonbType _) = 18
+number_of (fault.UnknownLiteralType _) = 19
+number_of fault.BadVarLen = 20
+number_of fault.InvalidUtf8 = 21
+number_of fault.OpaqueTooShort = 22
+number_of fault.NestingTooDeep = 23
+number_of fault.TooManyValues = 24
+number_of (fault.UnknownJsonDiffOperation _) = 25
+number_of fault.EmptyPair = 26
+number_of fault.Reader = 27
+number_of fault.Memory = 28
+
+-- 1 is an early end, 2 and 15 are of no kind of their own, 27 and 28 have theirs, all others are invalid data
+abbrev pub kind_of : Fault → FaultKind
+kind_of fault.UnexpectedEof = kind.UnexpectedEof
+kind_of fault.BadLenEnc = kind.Other
+kind_of fault.BytesRemaining = kind.Other
+kind_of fault.Reader = kind.Reader
+kind_of fault.Memory = kind.Memory
+kind_of _ = kind.InvalidData
+
+-- whether bytes can have the fault: it is no failure of a reader or writer, and no want of memory
+abbrev pub is_of_bytes : Fault → Bool
+is_of_bytes fault.Reader = false
+is_of_bytes fault.Memory = false
+is_of_bytes _ = true
+
+abbrev pub IsOfBytes : Fault → Type 0
+IsOfBytes e = IsTrue (is_of_bytes e)

@@ -1,0 +1,255 @@
+-- What is written of a number is a spelling of it, and no spelling of it is shorter.
+use Rattle.std.proofs.Common.{◌≡◌, ℕ, zero, suc, ◌+◌, ◌-◌, ◌*◌, ◌/◌, ◌%◌, ◌<◌, ◌≤◌, ◌^◌, List, [], ◌∷◌, ◌++◌, length, refl, sym, ap, subst, ◌∙◌, arith, inl, inr, append-nil}
+use Rattle.std.specs.Prelude.{ℤ, slice_index, nat_lt, ◌==◌}
+use Rattle.std.specs.Int.{w64}
+use Rattle.std.proofs.lemmas.Bool.{cases_lt, le-ltb, lt-ltb, ltb-true, ltb-false}
+use Rattle.std.proofs.lemmas.List.{length-append}
+use Rattle.std.proofs.lemmas.Nat.{pow-add}
+use Rattle.std.proofs.Math.Nat.{pow-suc, mod-lt, mod-eq_of_lt}
+use Rattle.byteorder.specs.Endian.{little_number, big_number, little_bytes, big_bytes, twos_complement, low_bytes}
+use Rattle.byteorder.specs.Numbers.{little_number-reads_back, big_number-reads_back, length-bytes_low_first, length-bytes_high_first, little_from-lt}
+use Rattle.binlog_base.specs.declared.fault.Fault.TheVariants.{BadLenEnc, BadVarLen}
+use Rattle.binlog_base.specs.Format.{Format, done, fault, as_value, choice}
+use Rattle.binlog_base.specs.Exact.{choice_cases, bytes_width}
+use Rattle.binlog_base.specs.Numbers.{little, big, signed_little, signed_big, lenenc_after, lenenc, lenenc_bytes, groups, groups_bytes, varlen, varlen_bytes}
+use Rattle.binlog_base.specs.TwosComplement.{IsSigned, twos_complement-low_bytes, low_bytes-fits}
+
+-- powers of 256 and of 2
+pub pow_256 : (w : ℕ) → 256 ^ w ≡ 2 ^ (8 * w)
+pow_256 zero = refl
+pow_256 (suc w) =
+    let e : 8 * suc w ≡ 8 * w + 8 = omega arith in
+    let high = pow-suc 256 w in
+    let low = pow-add 2 (8 * w) 8 in
+    let before = pow_256 w in
+    omega (arith, ap (λ (k : ℕ). 2 ^ k) e, high, low, before)
+
+little_of : (w n : ℕ) → n < 256 ^ w → little_number w (little_bytes w n) ≡ n
+little_of w n fits = ap (little_number w) (sym (append-nil (little_bytes w n))) ∙ little_number-reads_back w n [] fits
+
+big_of : (w n : ℕ) → n < 256 ^ w → big_number w (big_bytes w n) ≡ n
+big_of w n fits = ap (big_number w) (sym (append-nil (big_bytes w n))) ∙ big_number-reads_back w n [] fits
+
+pub little_written : (w n : ℕ) → n < 256 ^ w → (little w).spells (little_bytes w n) n
+unfolding little
+little_written w n fits =
+    let x = little_bytes w n in
+    (x, x, [], sym (append-nil x), (refl, length-bytes_low_first 0 w n), (refl, sym (little_of w n fits)))
+
+pub big_written : (w n : ℕ) → n < 256 ^ w → (big w).spells (big_bytes w n) n
+unfolding big
+big_written w n fits =
+    let x = big_bytes w n in
+    (x, x, [], sym (append-nil x), (refl, length-bytes_high_first w n), (refl, sym (big_of w n fits)))
+
+low_fits : (w : ℕ) (z : ℤ) → low_bytes w64 w z < 256 ^ w
+low_fits w z = omega (arith, pow_256 w, low_bytes-fits w z)
+
+pub signed_little_written : (w : ℕ) (z : ℤ) → 0 < w → w ≤ 8 → IsSigned w z → (signed_little w).spells (little_bytes w (low_bytes w64 w z)) z
+unfolding signed_little
+signed_little_written w z some most fits =
+    let n = low_bytes w64 w z in
+    let x = little_bytes w n in
+    let back : twos_complement w (little_number w x) ≡ z = ap (twos_complement w) (little_of w n (low_fits w z)) ∙ twos_complement-low_bytes w z some most fits in
+    (x, x, [], sym (append-nil x), (refl, length-bytes_low_first 0 w n), (refl, sym back))
+
+pub signed_big_written : (w : ℕ) (z : ℤ) → 0 < w → w ≤ 8 → IsSigned w z → (signed_big w).spells (big_bytes w (low_bytes w64 w z)) z
+unfolding signed_big
+signed_big_written w z some most fits =
+    let n = low_bytes w64 w z in
+    let x = big_bytes w n in
+    let back : twos_complement w (big_number w x) ≡ z = ap (twos_complement w) (big_of w n (low_fits w z)) ∙ twos_complement-low_bytes w z some most fits in
+    (x, x, [], sym (append-nil x), (refl, length-bytes_high_first w n), (refl, sym back))
+
+-- a number of w bytes takes w bytes
+pub little_width : (w : ℕ) (x : List ℕ) (n : ℕ) → (little w).spells x n → length x ≡ w
+unfolding little
+little_width w = bytes_width w (little_number w)
+
+pub big_width : (w : ℕ) (x : List ℕ) (n : ℕ) → (big w).spells x n → length x ≡ w
+unfolding big
+big_width w = bytes_width w (big_number w)
+
+pub signed_little_width : (w : ℕ) (x : List ℕ) (z : ℤ) → (signed_little w).spells x z → length x ≡ w
+unfolding signed_little
+signed_little_width w = bytes_width w (λ x. twos_complement w (little_number w x))
+
+pub signed_big_width : (w : ℕ) (x : List ℕ) (z : ℤ) → (signed_big w).spells x z → length x ≡ w
+unfolding signed_big
+signed_big_width w = bytes_width w (λ x. twos_complement w (big_number w x))
+
+-- a byte, as a number of one
+pub byte_written : (b : ℕ) → b < 256 → (little 1).spells (b ∷ []) b
+byte_written b fits =
+    let one : little_bytes 1 b ≡ b ∷ [] = ap (λ (n : ℕ). n ∷ []) (mod-eq_of_lt fits) in
+    subst (λ (x : List ℕ). (little 1).spells x b) one (little_written 1 b fits)
+
+-- and the only one
+number_of_byte : (x : List ℕ) (b : ℕ) → length x ≡ 1 → b ≡ little_number 1 x → x ≡ b ∷ []
+number_of_byte [] b one h = absurd (omega arith)
+number_of_byte (a ∷ []) b one h = let e : a ≡ b = omega (arith, h) in ap (λ (n : ℕ). n ∷ []) e
+number_of_byte (a ∷ c ∷ x) b one h = absurd (omega arith)
+
+pub byte_spelled : (x : List ℕ) (b : ℕ) → (little 1).spells x b → x ≡ b ∷ []
+unfolding little
+byte_spelled x b s =
+    let whole : x ≡ s.0 = s.3 ∙ ap (λ (t : List ℕ). s.1 ++ t) s.5.0 ∙ append-nil s.1 ∙ sym s.4.0 in
+    number_of_byte x b (bytes_width 1 (little_number 1) x b s) (s.5.1 ∙ ap (little_number 1) (sym whole))
+
+pub lenenc_written : (n : ℕ) → n < 256 ^ 8 → lenenc.spells (lenenc_bytes n) n
+unfolding lenenc lenenc_bytes lenenc_after
+lenenc_written n fits =
+    elim (cases_lt n 251) [
+      | inl a ↦ let t = lt-ltb n 251 a in rw (t) (n, n ∷ [], [], refl, byte_written n (omega arith), rw (t) (refl, refl))
+      | inr a ↦
+          let f = le-ltb n 251 a in
+          elim (cases_lt n (256 ^ 2)) [
+            | inl b ↦ let t = lt-ltb n (256 ^ 2) b in rw (f, t) (252, 252 ∷ [], little_bytes 2 n, refl, byte_written 252 (omega arith), little_written 2 n b)
+            | inr b ↦
+                let g = le-ltb n (256 ^ 2) b in
+                elim (cases_lt n (256 ^ 3)) [
+                  | inl d ↦ let t = lt-ltb n (256 ^ 3) d in rw (f, g, t) (253, 253 ∷ [], little_bytes 3 n, refl, byte_written 253 (omega arith), little_written 3 n d)
+                  | inr d ↦ let h = le-ltb n (256 ^ 3) d in rw (f, g, h) (254, 254 ∷ [], little_bytes 8 n, refl, byte_written 254 (omega arith), little_written 8 n fits)
+                ]
+          ]
+    ]
+
+groups_written : (k n : ℕ) → 0 < k → n < 128 ^ k → (groups k).spells (groups_bytes k n) n
+unfolding groups groups_bytes
+groups_written zero n some fits = absurd (omega arith)
+groups_written (suc k) n some fits =
+    elim (cases_lt n 128) [
+      | inl a ↦ let t = lt-ltb n 128 a in rw (t) (n, n ∷ [], [], refl, byte_written n (omega arith), rw (t) (refl, refl))
+      | inr a ↦
+          let f = le-ltb n 128 a in
+          let low : n % 128 < 128 = mod-lt n (omega arith) in
+          let byte = n % 128 + 128 in
+          let g = le-ltb byte 128 (omega arith) in
+          let p = pow-suc 128 k in
+          let k_some : 0 < k = elim (cases_lt 0 k) [ inl h ↦ h | inr h ↦ let z : k ≡ 0 = omega arith in absurd (let q : 128 ^ k ≡ 1 = ap (λ (j : ℕ). 128 ^ j) z in omega (arith, p, q)) ] in
+          let high_fits : n / 128 < 128 ^ k = omega (arith, p) in
+          let whole : n ≡ (byte - 128) + 128 * (n / 128) = omega arith in
+          rw (f) (byte, byte ∷ [], groups_bytes k (n / 128), refl, byte_written byte (omega arith), rw (g) (n / 128, groups_bytes k (n / 128), [], sym (append-nil (groups_bytes k (n / 128))), groups_written k (n / 128) k_some high_fits, (refl, whole)))
+    ]
+
+pub varlen_written : (n : ℕ) → n < 2 ^ 32 → varlen.spells (varlen_bytes n) n
+unfolding varlen varlen_bytes
+varlen_written n fits =
+    let t = lt-ltb n (2 ^ 32) fits in
+    (n, groups_bytes 5 n, [], sym (append-nil (groups_bytes 5 n)), groups_written 5 n (omega arith) (omega arith), rw (t) (refl, refl))
+
+-- ---- no spelling is shorter, where each item is a byte
+
+abbrev pub AreBytes : List ℕ → Type 0
+AreBytes x = (i : ℕ) → slice_index x i < 256
+
+-- what a byte and more bytes have behind the byte
+bytes_behind : (y z : List ℕ) → length y ≡ 1 → AreBytes (y ++ z) → AreBytes z
+bytes_behind [] z one all = absurd (omega arith)
+bytes_behind (b ∷ []) z one all = λ i. all (suc i)
+bytes_behind (b ∷ c ∷ y) z one all = absurd (omega arith)
+
+bytes_before : (y z : List ℕ) → AreBytes (y ++ z) → AreBytes y
+bytes_before [] z all = λ i. omega arith
+bytes_before (b ∷ y) z all = elim [ zero ↦ all 0 | suc i ↦ bytes_before y z (λ k. all (suc k)) i ]
+
+pub little-lt : (w : ℕ) (x : List ℕ) (n : ℕ) → AreBytes x → (little w).spells x n → n < 256 ^ w
+unfolding little
+little-lt w x n all s =
+    let whole : x ≡ s.0 = s.3 ∙ ap (λ (t : List ℕ). s.1 ++ t) s.5.0 ∙ append-nil s.1 ∙ sym s.4.0 in
+    subst (λ (m : ℕ). m < 256 ^ w) (ap (little_number w) whole ∙ sym s.5.1) (little_from-lt 0 w x all)
+
+length-lenenc_bytes : (n : ℕ) → (length (lenenc_bytes n) ≤ 9) × (n < 256 ^ 3 → length (lenenc_bytes n) ≤ 4) × (n < 256 ^ 2 → length (lenenc_bytes n) ≤ 3) × (n < 251 → length (lenenc_bytes n) ≤ 1)
+unfolding lenenc_bytes
+length-lenenc_bytes n =
+    elim (cases_lt n 251) [
+      | inl a ↦ let t = lt-ltb n 251 a in rw (t) (omega arith, λ _. omega arith, λ _. omega arith, λ _. omega arith)
+      | inr a ↦
+          let f = le-ltb n 251 a in
+          elim (cases_lt n (256 ^ 2)) [
+            | inl b ↦ let t = lt-ltb n (256 ^ 2) b in rw (f, t) (omega arith, λ _. omega arith, λ _. omega arith, λ h. absurd (omega arith))
+            | inr b ↦
+                let g = le-ltb n (256 ^ 2) b in
+                elim (cases_lt n (256 ^ 3)) [
+                  | inl d ↦ let t = lt-ltb n (256 ^ 3) d in rw (f, g, t) (omega arith, λ _. omega arith, λ h. absurd (omega arith), λ h. absurd (omega arith))
+                  | inr d ↦ let e = le-ltb n (256 ^ 3) d in rw (f, g, e) (omega arith, λ h. absurd (omega arith), λ h. absurd (omega arith), λ h. absurd (omega arith))
+                ]
+          ]
+    ]
+
+abbrev from_fe : ℕ → Format ℕ
+from_fe first = choice (first == 254) (little 8) (fault BadLenEnc)
+
+abbrev from_fd : ℕ → Format ℕ
+from_fd first = choice (first == 253) (little 3) (from_fe first)
+
+abbrev from_fc : ℕ → Format ℕ
+from_fc first = choice (first == 252) (little 2) (from_fd first)
+
+pub lenenc_shortest : (x : List ℕ) (n : ℕ) → AreBytes x → lenenc.spells x n → length (lenenc_bytes n) ≤ length x
+unfolding lenenc lenenc_after
+lenenc_shortest x n all s =
+    let first = s.0 in
+    let z = s.2 in
+    let one = little_width 1 s.1 first s.4 in
+    let len : length x ≡ 1 + length z = ap length s.3 ∙ length-append s.1 z ∙ ap (λ (m : ℕ). m + length z) one in
+    let behind : AreBytes z = bytes_behind s.1 z one (subst AreBytes s.3 all) in
+    let most = length-lenenc_bytes n in
+    elim (choice_cases (nat_lt first 251) (done first) (from_fc first) z n s.5) [
+      | inl a ↦ let small = ltb-true first 251 a.0 in let same = a.1.1 in omega (arith, len, most.3 (omega (arith, small, same)))
+      | inr a ↦
+          elim (choice_cases (first == 252) (little 2) (from_fd first) z n a.1) [
+            | inl b ↦ omega (arith, len, little_width 2 z n b.1, most.2 (little-lt 2 z n behind b.1))
+            | inr b ↦
+                elim (choice_cases (first == 253) (little 3) (from_fe first) z n b.1) [
+                  | inl d ↦ omega (arith, len, little_width 3 z n d.1, most.1 (little-lt 3 z n behind d.1))
+                  | inr d ↦
+                      elim (choice_cases (first == 254) (little 8) (fault BadLenEnc) z n d.1) [
+                        | inl e ↦ omega (arith, len, little_width 8 z n e.1, most.0)
+                        | inr e ↦ absurd e.1
+                      ]
+                ]
+          ]
+    ]
+
+abbrev more_groups : ℕ → ℕ → Format ℕ
+more_groups k byte = as_value (groups k) (λ high. (byte - 128) + 128 * high)
+
+groups_shortest : (k m : ℕ) (x : List ℕ) (n : ℕ) → AreBytes x → (groups k).spells x n → length (groups_bytes m n) ≤ length x
+unfolding groups groups_bytes
+groups_shortest zero m x n all s = absurd s
+groups_shortest (suc k) zero x n all s = omega arith
+groups_shortest (suc k) (suc m) x n all s =
+    let byte = s.0 in
+    let one = little_width 1 s.1 byte s.4 in
+    let len : length x ≡ 1 + length s.2 = ap length s.3 ∙ length-append s.1 s.2 ∙ ap (λ (m : ℕ). m + length s.2) one in
+    let behind : AreBytes s.2 = bytes_behind s.1 s.2 one (subst AreBytes s.3 all) in
+    let front : AreBytes s.1 = bytes_before s.1 s.2 (subst AreBytes s.3 all) in
+    let byte_fits = little-lt 1 s.1 byte front s.4 in
+    elim (cases_lt n 128) [
+      | inl a ↦ let t = lt-ltb n 128 a in rw (t) (omega (arith, len))
+      | inr a ↦
+          let f = le-ltb n 128 a in
+          elim (choice_cases (nat_lt byte 128) (done byte) (more_groups k byte) s.2 n s.5) [
+            | inl b ↦ let small = ltb-true byte 128 b.0 in let same = b.1.1 in absurd (omega (arith, small, same))
+            | inr b ↦
+                let high = b.1.0 in
+                let large = ltb-false byte 128 b.0 in
+                let value : n ≡ (byte - 128) + 128 * high = b.1.5.1 in
+                let quotient : n / 128 ≡ high = omega (arith, large, byte_fits, value) in
+                let whole : s.2 ≡ b.1.1 = b.1.3 ∙ ap (λ (t : List ℕ). b.1.1 ++ t) b.1.5.0 ∙ append-nil b.1.1 in
+                let more = groups_shortest k m b.1.1 high (subst AreBytes whole behind) b.1.4 in
+                rw (f, quotient) (omega (arith, len, more, ap length whole))
+          ]
+    ]
+
+pub varlen_shortest : (x : List ℕ) (n : ℕ) → AreBytes x → varlen.spells x n → length (varlen_bytes n) ≤ length x
+unfolding varlen varlen_bytes
+varlen_shortest x n all s =
+    elim (choice_cases (nat_lt s.0 (2 ^ 32)) (done s.0) (fault BadVarLen) s.2 n s.5) [
+      | inl a ↦
+          let whole : x ≡ s.1 = s.3 ∙ ap (λ (t : List ℕ). s.1 ++ t) a.1.0 ∙ append-nil s.1 in
+          let least = groups_shortest 5 5 s.1 s.0 (subst AreBytes whole all) s.4 in
+          subst (λ (m : ℕ). length (groups_bytes 5 m) ≤ length x) (sym a.1.1) (omega (arith, least, ap length whole))
+      | inr a ↦ absurd a.1
+    ]

@@ -1,0 +1,172 @@
+ghost use Rattle.std.specs.Prelude.{◌≡◌, ℕ, ◌*◌, ◌≤◌, ◌<◌, Bool, List, length, slice_get, count_by, false, IsTrue, ◌↔◌};
+ghost use Rattle.std.specs.Iterator.{YieldsFirst, item_count};
+ghost use Rattle.binlog_base.specs.Bits.{bits_of, bit_at, bits_from, same_bit, bit_list, bitmap_len};
+ghost use Rattle.binlog_base.specs.BitsExact.{exact_bit_list};
+
+use super::BitOrder;
+use crate::below::{MyDeserialize, ParseBuf};
+use crate::fault::Fault;
+use std::marker::Model;
+
+/// A list of bits over borrowed bytes. Contracts see it as a list of booleans.
+#[derive(Drop)]
+pub struct BitView<'a> {
+    bytes: &'a [u8],
+    len: usize,
+    order: BitOrder,
+}
+
+impl<'a> Model for BitView<'a> {
+    ghost use Rattle.std.specs.Prelude.{List, Bool, ◌≤◌, ◌*◌, length};
+    ghost use Rattle.binlog_base.specs.Bits.{bits_of};
+
+    ghost Value = { List Bool };
+
+    ghost view = { λ a. bits_of a.order a.len a.bytes.now };
+
+    ghost invariant = { λ a. a.len ≤ 8 * length a.bytes.now };
+}
+
+// The bit at place i of the bytes.
+#[tactic(auto, unfolding(crate::specs::Bits::bit_at))]
+fn bit(bytes: &[u8], order: BitOrder, i: usize) -> bool
+    requires { i < 8 * length bytes.now }
+    ensures { result ≡ bit_at order bytes.now i }
+{
+    let byte = bytes[i / 8];
+    let shift = match order {
+        BitOrder::LeastSignificantFirst => i % 8,
+        BitOrder::MostSignificantFirst => 7 - i % 8,
+    };
+    (byte >> shift) & 1 == 1
+}
+
+impl<'a> BitView<'a> {
+    /// The first `len` bits of the bytes.
+    pub fn new(bytes: &'a [u8], len: usize, order: BitOrder) -> Self
+        requires { len ≤ 8 * length bytes.now }
+        ensures { result ≡ bits_of order len bytes.now }
+    {
+        BitView { bytes, len, order }
+    }
+
+    /// The count of the bits.
+    #[tactic(auto, using(crate::proofs::BitLists::length_bits))]
+    pub fn len(&self) -> usize
+        ensures { result ≡ length self.now }
+    {
+        self.len
+    }
+
+    /// Whether there is no bit.
+    #[tactic(auto, using(crate::proofs::BitLists::length_bits))]
+    pub fn is_empty(&self) -> bool
+        ensures { IsTrue result ↔ (length self.now ≡ 0) }
+    {
+        self.len == 0
+    }
+
+    /// The bit of place `i`; none at or behind the count.
+    #[tactic(auto, using(crate::proofs::BitLists::get_bits, crate::proofs::BitLists::no_bits))]
+    pub fn get(&self, i: usize) -> Option<bool>
+        ensures { result ≡ slice_get self.now i }
+    {
+        if i < self.len {
+            Some(bit(self.bytes, self.order, i))
+        } else {
+            None
+        }
+    }
+
+    /// The bits in order.
+    pub fn iter(&self) -> BitIter<'a>
+        ensures { result ≡ self.now }
+    {
+        BitIter {
+            bytes: self.bytes,
+            at: 0,
+            end: self.len,
+            order: self.order,
+        }
+    }
+
+    /// How many bits are set.
+    pub fn count_ones(&self) -> usize
+        ensures { result ≡ count_by same_bit self.now }
+    {
+        let mut ones = 0;
+        for i in 0..self.len {
+            if bit(self.bytes, self.order, i) {
+                ones += 1;
+            }
+        }
+        ones
+    }
+}
+
+/// The bits that are left. Contracts see them as a list.
+#[derive(Drop)]
+pub struct BitIter<'a> {
+    bytes: &'a [u8],
+    at: usize,
+    end: usize,
+    order: BitOrder,
+}
+
+impl<'a> Model for BitIter<'a> {
+    ghost use Rattle.std.specs.Prelude.{List, Bool, ◌≤◌, ◌*◌, ◌-◌, length};
+    ghost use Rattle.binlog_base.specs.Bits.{bits_from};
+
+    ghost Value = { List Bool };
+
+    ghost view = { λ a. bits_from a.order a.bytes.now a.at (a.end - a.at) };
+
+    ghost invariant = { λ a. (a.at ≤ a.end) × (a.end ≤ 8 * length a.bytes.now) };
+}
+
+impl Iterator for BitIter<'_> {
+    type Item = bool;
+
+    ghost next_gives = { YieldsFirst (λ s. s) };
+
+    ghost remaining = { item_count (λ s. s) };
+
+    #[tactic(auto, using(crate::proofs::BitLists::bits_next))]
+    fn next(&mut self) -> Option<bool> {
+        if self.at >= self.end {
+            return None;
+        }
+        let b = bit(self.bytes, self.order, self.at);
+        self.at += 1;
+        Some(b)
+    }
+}
+
+/// The bytes that a bitmap of `len` bits takes.
+pub fn bitmap_len(len: usize) -> usize
+    ensures { result ≡ bitmap_len len }
+{
+    len.div_ceil(8)
+}
+
+/// A bitmap is read with its order and the count of its bits; what stands in its last byte behind them says nothing.
+impl<'de> MyDeserialize<'de> for BitView<'de> {
+    ghost Seen = { List Bool };
+
+    ghost seen = { λ x. x };
+
+    ghost format = { λ ctx. bit_list ctx.0 ctx.1 };
+
+    ghost exact = { λ ctx. exact_bit_list ctx.0 ctx.1 };
+
+    const SIZE: Option<usize> = None;
+
+    type Ctx = (BitOrder, usize);
+
+    #[tactic(auto, unfolding(crate::specs::Bits::bit_list))]
+    fn deserialize(ctx: (BitOrder, usize), buf: &mut ParseBuf<'de>) -> Result<Self, Fault> {
+        let (order, len) = ctx;
+        let bytes = buf.checked_eat(bitmap_len(len))?;
+        Ok(BitView::new(bytes, len, order))
+    }
+}

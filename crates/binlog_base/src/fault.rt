@@ -1,0 +1,193 @@
+//! Why a call was refused.
+
+ghost use Rattle.std.specs.Prelude.{◌≡◌};
+ghost use Rattle.binlog_base.specs.declared.fault.Fault.TheVariants.{Memory};
+ghost use Rattle.binlog_base.specs.Faults.{number_of, kind_of};
+
+use std::alloc::{AllocError, AllocFailed};
+use thiserror::Error;
+
+/// Why a binary JSON container does not stand.
+#[derive(Clone, Copy, Debug, PartialEq, Eq, Error)]
+pub enum JsonbError {
+    /// A key's offset lies before the end of the header, or its bytes end behind the container.
+    #[error("a key's offset is out of range")]
+    InvalidKeyOffsetPointer,
+    /// A value's offset lies before the end of its own entry, or behind the container.
+    #[error("a value's offset is out of range")]
+    InvalidValueOffsetPointer,
+    /// The size is below the header's, or beyond the bytes that are there.
+    #[error("the size is out of range")]
+    SizeOverflow,
+}
+
+/// The kind of a fault, as Rust's `io::ErrorKind` tells it.
+#[derive(Clone, Copy, Debug, PartialEq, Eq)]
+pub enum FaultKind {
+    /// The bytes end early.
+    UnexpectedEof,
+    /// The bytes say what they may not.
+    InvalidData,
+    /// No kind of its own.
+    Other,
+    /// A source or sink failed.
+    Reader,
+    /// Memory was refused.
+    Memory,
+}
+
+/// Why a call was refused: the first demand, from left to right, that is not met.
+#[derive(Clone, Copy, Debug, PartialEq, Eq, Error)]
+pub enum Fault {
+    /// The bytes end before the value does.
+    #[error("unexpected end of the bytes")]
+    UnexpectedEof,
+    /// A length-encoded number begins with FB or FF.
+    #[error("not a length-encoded number")]
+    BadLenEnc,
+    /// A number that no column type has.
+    #[error("unknown column type {0}")]
+    UnknownColumnType(u8),
+    /// A STRING column's metadata names a type that is none of STRING, ENUM and SET.
+    #[error("unexpected column type {0}")]
+    UnexpectedColumnType(u8),
+    /// The rows event has more columns than its table.
+    #[error("a column without a type")]
+    NoColumnType,
+    /// A metadata byte that the column's type reads is not there.
+    #[error("missing metadata")]
+    MissingMetadata,
+    /// An ENUM column takes neither one byte nor two.
+    #[error("unknown width of an enum")]
+    UnknownEnum,
+    /// The length of a BLOB column's cells takes none of 1 to 4 bytes.
+    #[error("unknown width of a blob's length")]
+    UnknownBlob,
+    /// Cells of the column type are not read.
+    #[error("unhandled column type")]
+    Unhandled,
+    /// A decimal's scale is above its precision.
+    #[error("scale above precision")]
+    DecimalScale,
+    /// A group of a packed decimal is out of the range of its digits.
+    #[error("digits out of range")]
+    DecimalGroup,
+    /// A packed time is below -2^63.
+    #[error("time out of range")]
+    TimeRange,
+    /// A DATETIME's year is above 65535.
+    #[error("year out of range")]
+    YearRange,
+    /// A number that no optional metadata field has.
+    #[error("unknown optional field {0}")]
+    UnknownOptionalField(u8),
+    /// A value does not take all of its bytes.
+    #[error("bytes remain")]
+    BytesRemaining,
+    /// A number that no geometry type has.
+    #[error("unknown geometry type {0}")]
+    UnknownGeometryType(u8),
+    /// A binary JSON container does not stand.
+    #[error("bad JSONB: {0}")]
+    Jsonb(JsonbError),
+    /// A number that no binary JSON type has.
+    #[error("unknown JSONB type {0}")]
+    UnknownJsonbType(u8),
+    /// A number that no binary JSON literal has.
+    #[error("unknown literal {0}")]
+    UnknownLiteralType(u8),
+    /// A VarLen number takes more than five bytes or 32 bits.
+    #[error("bad variable length")]
+    BadVarLen,
+    /// A JSON string is not UTF-8.
+    #[error("not UTF-8")]
+    InvalidUtf8,
+    /// An opaque time has fewer than 8 bytes.
+    #[error("opaque value too short")]
+    OpaqueTooShort,
+    /// A JSON document nests more than 100 containers.
+    #[error("nesting too deep")]
+    NestingTooDeep,
+    /// A JSON document has more than one value for three of its bytes.
+    #[error("too many values")]
+    TooManyValues,
+    /// A number that no JSON diff operation has.
+    #[error("unknown operation {0}")]
+    UnknownJsonDiffOperation(u8),
+    /// A pair of rows takes no byte, and bytes remain.
+    #[error("a pair of no bytes")]
+    EmptyPair,
+    /// The source or sink that was handed in failed.
+    #[error("the reader or writer failed")]
+    Reader,
+    /// Memory was refused.
+    #[error("out of memory")]
+    Memory,
+}
+
+impl Fault {
+    /// The number, 1 to 28.
+    pub fn number(&self) -> u8
+        ensures { result ≡ number_of self.now }
+    {
+        match self {
+            Fault::UnexpectedEof => 1,
+            Fault::BadLenEnc => 2,
+            Fault::UnknownColumnType(_) => 3,
+            Fault::UnexpectedColumnType(_) => 4,
+            Fault::NoColumnType => 5,
+            Fault::MissingMetadata => 6,
+            Fault::UnknownEnum => 7,
+            Fault::UnknownBlob => 8,
+            Fault::Unhandled => 9,
+            Fault::DecimalScale => 10,
+            Fault::DecimalGroup => 11,
+            Fault::TimeRange => 12,
+            Fault::YearRange => 13,
+            Fault::UnknownOptionalField(_) => 14,
+            Fault::BytesRemaining => 15,
+            Fault::UnknownGeometryType(_) => 16,
+            Fault::Jsonb(_) => 17,
+            Fault::UnknownJsonbType(_) => 18,
+            Fault::UnknownLiteralType(_) => 19,
+            Fault::BadVarLen => 20,
+            Fault::InvalidUtf8 => 21,
+            Fault::OpaqueTooShort => 22,
+            Fault::NestingTooDeep => 23,
+            Fault::TooManyValues => 24,
+            Fault::UnknownJsonDiffOperation(_) => 25,
+            Fault::EmptyPair => 26,
+            Fault::Reader => 27,
+            Fault::Memory => 28,
+        }
+    }
+
+    /// The kind: 1 is an early end; 2 and 15 are of no kind of their own; 27 and 28 have theirs; all others are invalid data.
+    pub fn kind(&self) -> FaultKind
+        ensures { result ≡ kind_of self.now }
+    {
+        match self {
+            Fault::UnexpectedEof => FaultKind::UnexpectedEof,
+            Fault::BadLenEnc | Fault::BytesRemaining => FaultKind::Other,
+            Fault::Reader => FaultKind::Reader,
+            Fault::Memory => FaultKind::Memory,
+            _ => FaultKind::InvalidData,
+        }
+    }
+}
+
+impl From<AllocError> for Fault {
+    ghost from_gives = { λ _ e. e ≡ Memory };
+
+    fn from(_e: AllocError) -> Fault {
+        Fault::Memory
+    }
+}
+
+impl<T: Drop> From<AllocFailed<T>> for Fault {
+    ghost from_gives = { λ _ e. e ≡ Memory };
+
+    fn from(_e: AllocFailed<T>) -> Fault {
+        Fault::Memory
+    }
+}

@@ -1,0 +1,38 @@
+//! Laws of numbers, strings and formats, each the contract of a function that does nothing.
+
+ghost use Rattle.std.specs.Prelude.{◌≡◌, ℕ, ◌≤◌, List, length, false};
+ghost use Rattle.binlog_base.specs.Laws.{IsUnambiguous, RefusesForOneReason, ReadsBack, LenencIsShortest, VarlenIsShortest};
+
+use crate::below::{BytesRepr, IntRepr, MyDeserialize};
+
+/// No spelling of a number begins another one's spelling.
+pub fn numbers_are_unambiguous<T: IntRepr>()
+    ensures { IsUnambiguous T.format }
+{}
+
+/// What is written of a number reads back as that number.
+pub fn numbers_read_back<T: IntRepr>()
+    ensures { (n : T.Primitive) → T.IsInRange n → ReadsBack T.format (T.spelling n) n }
+{}
+
+/// A number is written in its shortest form: no bytes that spell it are fewer.
+pub fn numbers_are_shortest()
+    ensures lenenc { LenencIsShortest }
+    ensures varlen { VarlenIsShortest }
+{}
+
+/// What is written of a string that its kind can hold is a spelling of it.
+pub fn strings_are_spelled<T: BytesRepr>()
+    ensures { (text : List ℕ) → length text ≤ T.MAX_LEN → (ctx : T.Ctx) × (T.format ctx).spells (T.spelling text) text }
+{}
+
+/// No spelling of a value begins another one's spelling, where a value isn't all of the bytes.
+#[tactic(auto, using(crate::proofs::Ambiguity::one_spelling_at))]
+pub fn readings_are_unambiguous<'de, T: MyDeserialize<'de>>()
+    ensures { T.to_end ≡ false → (ctx : T.Ctx) → IsUnambiguous (T.format ctx) }
+{}
+
+/// Where bytes are refused, none of their fronts spells a value, the fault is one, and it is neither `Reader` nor `Memory`.
+pub fn refusals_have_one_reason<'de, T: MyDeserialize<'de>>()
+    ensures { T.to_end ≡ false → (ctx : T.Ctx) → RefusesForOneReason (T.format ctx) }
+{}

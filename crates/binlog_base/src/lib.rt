@@ -1,0 +1,9 @@
+//! The lower layers that the reader of row events stands on: faults, formats of bytes, numbers, strings, bit lists.
+#![tactic(auto)]
+
+pub mod below;
+pub mod bits;
+pub mod fault;
+pub mod laws;
+#[cfg(test)]
+mod tests;

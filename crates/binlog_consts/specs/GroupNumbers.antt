@@ -1,0 +1,13 @@
+-- The numbers of transactions within their group.
+use Rattle.std.specs.Prelude.{ℕ, Bool, ◌-◌, ◌^◌, ◌==◌, ◌||◌, ◌&&◌, nat_le, nat_lt}
+
+abbrev pub min_gno : ℕ
+min_gno = 1
+
+-- the highest number of an i64
+abbrev pub max_gno : ℕ
+max_gno = 2 ^ 63 - 1
+
+-- 0, which an anonymous transaction has, or at least the lowest and below the highest
+abbrev pub is_group_number : ℕ → Bool
+is_group_number n = n == 0 || (nat_le min_gno n && nat_lt n max_gno)

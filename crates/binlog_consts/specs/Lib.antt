@@ -1,0 +1,6 @@
+pub mod EventTypes
+pub mod StatusVars
+pub mod OptionalMetadata
+pub mod Constants
+pub mod GroupNumbers
+pub mod Flags

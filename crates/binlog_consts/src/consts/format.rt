@@ -1,0 +1,106 @@
+//! What a format description event fixes for the events after it: the version and the checksum.
+
+ghost use Rattle.std.specs.Prelude.{◌≡◌, Ok};
+ghost use Rattle.binlog_base.specs.Tables.{from_table};
+ghost use Rattle.binlog_consts.specs.Constants.{binlog_versions, checksum_algs};
+
+use thiserror::Error;
+
+/// The version of the binary log's format.
+#[derive(Clone, Copy, Debug, PartialEq, Eq, PartialOrd, Ord, Hash)]
+pub enum BinlogVersion {
+    /// MySQL 3.23.
+    Version1 = 1,
+    /// MySQL 4.0.0 and 4.0.1.
+    Version2 = 2,
+    /// MySQL 4.0.2 up to the last before 5.0.0.
+    Version3 = 3,
+    /// MySQL from 5.0.0 on.
+    Version4 = 4,
+}
+
+/// A number that no version of the binary log has.
+#[derive(Clone, Copy, Debug, PartialEq, Eq, Hash, Error)]
+#[error("no binary log has version {0}")]
+pub struct UnknownBinlogVersion(pub u16);
+
+impl TryFrom<u16> for BinlogVersion {
+    type Error = UnknownBinlogVersion;
+
+    ghost try_from_gives = { λ n r. r ≡ from_table binlog_versions (λ k. record { 0 = k }) n };
+
+    fn try_from(number: u16) -> Result<BinlogVersion, UnknownBinlogVersion> {
+        match number {
+            1 => Ok(BinlogVersion::Version1),
+            2 => Ok(BinlogVersion::Version2),
+            3 => Ok(BinlogVersion::Version3),
+            4 => Ok(BinlogVersion::Version4),
+            _ => Err(UnknownBinlogVersion(number)),
+        }
+    }
+}
+
+/// The number of a version: the one that `try_from` takes back to it.
+impl From<BinlogVersion> for u16 {
+    ghost from_gives = { λ v n. from_table binlog_versions (λ k. k) n ≡ Ok v };
+
+    fn from(version: BinlogVersion) -> u16 {
+        version as u16
+    }
+}
+
+/// The number that was refused.
+impl From<UnknownBinlogVersion> for u16 {
+    ghost from_gives = { λ e n. n ≡ e.0 };
+
+    fn from(error: UnknownBinlogVersion) -> u16 {
+        error.0
+    }
+}
+
+/// The checksum at the end of each event.
+#[allow(non_camel_case_types)]
+#[derive(Clone, Copy, Debug, PartialEq, Eq, Hash)]
+pub enum BinlogChecksumAlg {
+    /// Events have no checksum.
+    BINLOG_CHECKSUM_ALG_OFF = 0,
+    /// Events end with a CRC32, as zlib computes it.
+    BINLOG_CHECKSUM_ALG_CRC32 = 1,
+}
+
+/// A number that no checksum algorithm has.
+#[derive(Clone, Copy, Debug, PartialEq, Eq, Hash, Error)]
+#[error("no checksum algorithm has number {0}")]
+pub struct UnknownChecksumAlg(pub u8);
+
+impl TryFrom<u8> for BinlogChecksumAlg {
+    type Error = UnknownChecksumAlg;
+
+    ghost try_from_gives = { λ n r. r ≡ from_table checksum_algs (λ k. record { 0 = k }) n };
+
+    fn try_from(number: u8) -> Result<BinlogChecksumAlg, UnknownChecksumAlg> {
+        match number {
+            0 => Ok(BinlogChecksumAlg::BINLOG_CHECKSUM_ALG_OFF),
+            1 => Ok(BinlogChecksumAlg::BINLOG_CHECKSUM_ALG_CRC32),
+            _ => Err(UnknownChecksumAlg(number)),
+        }
+    }
+}
+
+/// The number that was refused.
+impl From<UnknownChecksumAlg> for u8 {
+    ghost from_gives = { λ e n. n ≡ e.0 };
+
+    fn from(error: UnknownChecksumAlg) -> u8 {
+        error.0
+    }
+}
+
+/// The number of a checksum algorithm: the one that `try_from` takes back to it.
+impl From<BinlogChecksumAlg> for u8 {
+    ghost from_gives = { λ t n. from_table checksum_algs (λ k. k) n ≡ Ok t };
+
+    fn from(algorithm: BinlogChecksumAlg) -> u8 {
+        algorithm as u8
+    }
+}

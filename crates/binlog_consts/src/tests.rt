@@ -1,0 +1,444 @@
+use crate::consts::{
+    BinlogChecksumAlg, BinlogVersion, EventFlags, EventType, Flags, Gno, GtidFlags, IncidentType,
+    IntvarEventType, InvalidGno, LoadDuplicateHandling, OptionalMetadataFieldType, RowsEventFlags,
+    SemiSyncFlags, StatusVarKey, TransactionPayloadCompressionType, TransactionPayloadFields,
+    UnknownBinlogVersion, UnknownChecksumAlg, UnknownDuplicateHandling, UnknownEventFlags,
+    UnknownEventType, UnknownGtidFlags, UnknownIncidentType, UnknownIntvarEventType,
+    UnknownOptionalMetadataFieldType, UnknownRowsEventFlags, UnknownSemiSyncFlags,
+    UnknownStatusVarKey, UnknownTransactionPayloadCompressionType, UnknownTransactionPayloadFields,
+    UnknownUserVarFlags, UserVarFlags,
+};
+use std::test::Fail;
+
+/// Whether a number gives what the table has there, and this refusal where it has nothing.
+fn follows<N, T, E>(table: &[(N, T)], number: N, refusal: E) -> bool
+where
+    N: Copy + PartialEq,
+    T: Copy + PartialEq + TryFrom<N, Error = E>,
+    E: Copy + PartialEq,
+{
+    match table.iter().find(|row| row.0 == number) {
+        Some((_, value)) => T::try_from(number) == Ok(*value),
+        None => T::try_from(number) == Err(refusal),
+    }
+}
+
+/// The documentation's table of event types.
+const EVENT_TYPES: [(u8, EventType); 42] = [
+    (0x00, EventType::UNKNOWN_EVENT),
+    (0x01, EventType::START_EVENT_V3),
+    (0x02, EventType::QUERY_EVENT),
+    (0x03, EventType::STOP_EVENT),
+    (0x04, EventType::ROTATE_EVENT),
+    (0x05, EventType::INTVAR_EVENT),
+    (0x06, EventType::LOAD_EVENT),
+    (0x07, EventType::SLAVE_EVENT),
+    (0x08, EventType::CREATE_FILE_EVENT),
+    (0x09, EventType::APPEND_BLOCK_EVENT),
+    (0x0A, EventType::EXEC_LOAD_EVENT),
+    (0x0B, EventType::DELETE_FILE_EVENT),
+    (0x0C, EventType::NEW_LOAD_EVENT),
+    (0x0D, EventType::RAND_EVENT),
+    (0x0E, EventType::USER_VAR_EVENT),
+    (0x0F, EventType::FORMAT_DESCRIPTION_EVENT),
+    (0x10, EventType::XID_EVENT),
+    (0x11, EventType::BEGIN_LOAD_QUERY_EVENT),
+    (0x12, EventType::EXECUTE_LOAD_QUERY_EVENT),
+    (0x13, EventType::TABLE_MAP_EVENT),
+    (0x14, EventType::PRE_GA_WRITE_ROWS_EVENT),
+    (0x15, EventType::PRE_GA_UPDATE_ROWS_EVENT),
+    (0x16, EventType::PRE_GA_DELETE_ROWS_EVENT),
+    (0x17, EventType::WRITE_ROWS_EVENT_V1),
+    (0x18, EventType::UPDATE_ROWS_EVENT_V1),
+    (0x19, EventType::DELETE_ROWS_EVENT_V1),
+    (0x1A, EventType::INCIDENT_EVENT),
+    (0x1B, EventType::HEARTBEAT_EVENT),
+    (0x1C, EventType::IGNORABLE_EVENT),
+    (0x1D, EventType::ROWS_QUERY_EVENT),
+    (0x1E, EventType::WRITE_ROWS_EVENT),
+    (0x1F, EventType::UPDATE_ROWS_EVENT),
+    (0x20, EventType::DELETE_ROWS_EVENT),
+    (0x21, EventType::GTID_EVENT),
+    (0x22, EventType::ANONYMOUS_GTID_EVENT),
+    (0x23, EventType::PREVIOUS_GTIDS_EVENT),
+    (0x24, EventType::TRANSACTION_CONTEXT_EVENT),
+    (0x25, EventType::VIEW_CHANGE_EVENT),
+    (0x26, EventType::XA_PREPARE_LOG_EVENT),
+    (0x27, EventType::PARTIAL_UPDATE_ROWS_EVENT),
+    (0x28, EventType::TRANSACTION_PAYLOAD_EVENT),
+    (0x2A, EventType::GTID_TAGGED_LOG_EVENT),
+];
+
+/// The documentation's table of status variables.
+const STATUS_VAR_KEYS: [(u8, StatusVarKey); 21] = [
+    (0, StatusVarKey::Flags2),
+    (1, StatusVarKey::SqlMode),
+    (2, StatusVarKey::Catalog),
+    (3, StatusVarKey::AutoIncrement),
+    (4, StatusVarKey::Charset),
+    (5, StatusVarKey::TimeZone),
+    (6, StatusVarKey::CatalogNz),
+    (7, StatusVarKey::LcTimeNames),
+    (8, StatusVarKey::CharsetDatabase),
+    (9, StatusVarKey::TableMapForUpdate),
+    (10, StatusVarKey::MasterDataWritten),
+    (11, StatusVarKey::Invoker),
+    (12, StatusVarKey::UpdatedDbNames),
+    (13, StatusVarKey::Microseconds),
+    (14, StatusVarKey::CommitTs),
+    (15, StatusVarKey::CommitTs2),
+    (16, StatusVarKey::ExplicitDefaultsForTimestamp),
+    (17, StatusVarKey::DdlLoggedWithXid),
+    (18, StatusVarKey::DefaultCollationForUtf8mb4),
+    (19, StatusVarKey::SqlRequirePrimaryKey),
+    (20, StatusVarKey::DefaultTableEncryption),
+];
+
+/// The documentation's table of optional metadata.
+const OPTIONAL_METADATA_FIELD_TYPES: [(u8, OptionalMetadataFieldType); 13] = [
+    (1, OptionalMetadataFieldType::SIGNEDNESS),
+    (2, OptionalMetadataFieldType::DEFAULT_CHARSET),
+    (3, OptionalMetadataFieldType::COLUMN_CHARSET),
+    (4, OptionalMetadataFieldType::COLUMN_NAME),
+    (5, OptionalMetadataFieldType::SET_STR_VALUE),
+    (6, OptionalMetadataFieldType::ENUM_STR_VALUE),
+    (7, OptionalMetadataFieldType::GEOMETRY_TYPE),
+    (8, OptionalMetadataFieldType::SIMPLE_PRIMARY_KEY),
+    (9, OptionalMetadataFieldType::PRIMARY_KEY_WITH_PREFIX),
+    (10, OptionalMetadataFieldType::ENUM_AND_SET_DEFAULT_CHARSET),
+    (11, OptionalMetadataFieldType::ENUM_AND_SET_COLUMN_CHARSET),
+    (12, OptionalMetadataFieldType::COLUMN_VISIBILITY),
+    (13, OptionalMetadataFieldType::VECTOR_DIMENSIONALITY),
+];
+
+#[test]
+fn event_types_by_number(rt: HostRuntime) {
+    for number in 0..=255u8 {
+        assert!(rt;
+            follows(&EVENT_TYPES, number, UnknownEventType(number)),
+            "{number}"
+        );
+        assert_eq!(rt; u8::from(UnknownEventType(number)), number);
+    }
+    for (number, event_type) in EVENT_TYPES {
+        assert_eq!(rt; event_type as u8, number);
+    }
+    assert_eq!(rt; EventType::try_from(0x29), Err(UnknownEventType(0x29)));
+    assert_eq!(rt;
+        EventType::try_from(0x2a),
+        Ok(EventType::GTID_TAGGED_LOG_EVENT)
+    );
+    assert_eq!(rt; EventType::ENUM_END_EVENT as u8, 0x2b);
+}
+
+#[test]
+fn keys_and_fields_by_number(rt: HostRuntime) {
+    for number in 0..=255u8 {
+        assert!(rt;
+            follows(&STATUS_VAR_KEYS, number, UnknownStatusVarKey(number)),
+            "{number}"
+        );
+        assert!(rt;
+            follows(
+                &OPTIONAL_METADATA_FIELD_TYPES,
+                number,
+                UnknownOptionalMetadataFieldType(number),
+            ),
+            "{number}"
+        );
+        assert_eq!(rt; u8::from(UnknownOptionalMetadataFieldType(number)), number);
+    }
+    for (number, key) in STATUS_VAR_KEYS {
+        assert_eq!(rt; key as u8, number);
+    }
+    for (number, field) in OPTIONAL_METADATA_FIELD_TYPES {
+        assert_eq!(rt; field as u8, number);
+    }
+    assert_eq!(rt;
+        StatusVarKey::try_from(20),
+        Ok(StatusVarKey::DefaultTableEncryption)
+    );
+    assert_eq!(rt; StatusVarKey::try_from(21), Err(UnknownStatusVarKey(21)));
+}
+
+const CHECKSUM_ALGS: [(u8, BinlogChecksumAlg); 2] = [
+    (0, BinlogChecksumAlg::BINLOG_CHECKSUM_ALG_OFF),
+    (1, BinlogChecksumAlg::BINLOG_CHECKSUM_ALG_CRC32),
+];
+
+const DUPLICATE_HANDLINGS: [(u8, LoadDuplicateHandling); 3] = [
+    (0, LoadDuplicateHandling::LOAD_DUP_ERROR),
+    (1, LoadDuplicateHandling::LOAD_DUP_IGNORE),
+    (2, LoadDuplicateHandling::LOAD_DUP_REPLACE),
+];
+
+const INTVAR_EVENT_TYPES: [(u8, IntvarEventType); 3] = [
+    (0, IntvarEventType::INVALID_INT_EVENT),
+    (1, IntvarEventType::LAST_INSERT_ID_EVENT),
+    (2, IntvarEventType::INSERT_ID_EVENT),
+];
+
+#[test]
+fn small_enums_by_number(rt: HostRuntime) {
+    for number in 0..=255u8 {
+        assert!(rt;
+            follows(&CHECKSUM_ALGS, number, UnknownChecksumAlg(number)),
+            "{number}"
+        );
+        assert!(rt;
+            follows(
+                &DUPLICATE_HANDLINGS,
+                number,
+                UnknownDuplicateHandling(number),
+            ),
+            "{number}"
+        );
+        assert!(rt;
+            follows(&INTVAR_EVENT_TYPES, number, UnknownIntvarEventType(number)),
+            "{number}"
+        );
+        assert_eq!(rt; u8::from(UnknownChecksumAlg(number)), number);
+        assert_eq!(rt; u8::from(UnknownDuplicateHandling(number)), number);
+        assert_eq!(rt; u8::from(UnknownIntvarEventType(number)), number);
+    }
+    for (number, algorithm) in CHECKSUM_ALGS {
+        assert_eq!(rt; algorithm as u8, number);
+    }
+    for (number, handling) in DUPLICATE_HANDLINGS {
+        assert_eq!(rt; u8::from(handling), number);
+    }
+    for (number, kind) in INTVAR_EVENT_TYPES {
+        assert_eq!(rt; u8::from(kind), number);
+    }
+}
+
+const BINLOG_VERSIONS: [(u16, BinlogVersion); 4] = [
+    (1, BinlogVersion::Version1),
+    (2, BinlogVersion::Version2),
+    (3, BinlogVersion::Version3),
+    (4, BinlogVersion::Version4),
+];
+
+const INCIDENT_TYPES: [(u16, IncidentType); 2] = [
+    (0, IncidentType::INCIDENT_NONE),
+    (1, IncidentType::INCIDENT_LOST_EVENTS),
+];
+
+#[test]
+fn versions_and_incidents_by_number(rt: HostRuntime) {
+    for number in (0..=300u16).chain([u16::MAX]) {
+        assert!(rt;
+            follows(&BINLOG_VERSIONS, number, UnknownBinlogVersion(number)),
+            "{number}"
+        );
+        assert!(rt;
+            follows(&INCIDENT_TYPES, number, UnknownIncidentType(number)),
+            "{number}"
+        );
+        assert_eq!(rt; u16::from(UnknownBinlogVersion(number)), number);
+        assert_eq!(rt; u16::from(UnknownIncidentType(number)), number);
+    }
+    for (number, version) in BINLOG_VERSIONS {
+        assert_eq!(rt; u16::from(version), number);
+        for (other, other_version) in BINLOG_VERSIONS {
+            assert_eq!(rt; version.cmp(&other_version), number.cmp(&other));
+            assert_eq!(rt; version < other_version, number < other);
+        }
+    }
+    for (number, incident) in INCIDENT_TYPES {
+        assert_eq!(rt; u16::from(incident), number);
+    }
+    assert_eq!(rt; BinlogVersion::try_from(0), Err(UnknownBinlogVersion(0)));
+}
+
+const PAYLOAD_FIELDS: [(u64, TransactionPayloadFields); 4] = [
+    (0, TransactionPayloadFields::OTW_PAYLOAD_HEADER_END_MARK),
+    (1, TransactionPayloadFields::OTW_PAYLOAD_SIZE_FIELD),
+    (
+        2,
+        TransactionPayloadFields::OTW_PAYLOAD_COMPRESSION_TYPE_FIELD,
+    ),
+    (
+        3,
+        TransactionPayloadFields::OTW_PAYLOAD_UNCOMPRESSED_SIZE_FIELD,
+    ),
+];
+
+const PAYLOAD_COMPRESSIONS: [(u64, TransactionPayloadCompressionType); 2] = [
+    (0, TransactionPayloadCompressionType::ZSTD),
+    (255, TransactionPayloadCompressionType::NONE),
+];
+
+#[test]
+fn payloads_by_number(rt: HostRuntime) {
+    for number in (0..=300u64).chain([u64::MAX]) {
+        let unknown_field = UnknownTransactionPayloadFields(number);
+        let unknown_compression = UnknownTransactionPayloadCompressionType(number);
+        assert!(rt; follows(&PAYLOAD_FIELDS, number, unknown_field), "{number}");
+        assert!(rt;
+            follows(&PAYLOAD_COMPRESSIONS, number, unknown_compression),
+            "{number}"
+        );
+    }
+    for byte in 0..=255u8 {
+        let number = u64::from(byte);
+        assert_eq!(rt;
+            TransactionPayloadFields::try_from(byte),
+            TransactionPayloadFields::try_from(number)
+        );
+        assert_eq!(rt;
+            TransactionPayloadCompressionType::try_from(byte),
+            TransactionPayloadCompressionType::try_from(number)
+        );
+    }
+    for (number, field) in PAYLOAD_FIELDS {
+        assert_eq!(rt; u64::from(field), number);
+        assert_eq!(rt; u64::from(u8::from(field)), number);
+    }
+    for (number, compression) in PAYLOAD_COMPRESSIONS {
+        assert_eq!(rt; compression as u64, number);
+    }
+    assert_eq!(rt;
+        TransactionPayloadFields::try_from(256u64),
+        Err(UnknownTransactionPayloadFields(256))
+    );
+    assert_eq!(rt;
+        TransactionPayloadCompressionType::try_from(255u8),
+        Ok(TransactionPayloadCompressionType::NONE)
+    );
+    assert_eq!(rt;
+        TransactionPayloadCompressionType::try_from(1u8),
+        Err(UnknownTransactionPayloadCompressionType(1))
+    );
+}
+
+#[test]
+fn group_numbers(rt: HostRuntime) -> Result<(), Fail> {
+    let highest = 0x7fff_ffff_ffff_ffff;
+    assert_eq!(rt; (Gno::MIN_GNO, Gno::MAX_GNO), (1, highest));
+    for number in [0, 1, 2, 300, 1 << 62, highest - 1] {
+        assert_eq!(rt; Gno::try_from(number).map(Gno::get), Ok(number));
+    }
+    for number in [highest, highest + 1, u64::MAX] {
+        assert_eq!(rt; Gno::try_from(number), Err(InvalidGno(number)));
+        assert_eq!(rt; u64::from(InvalidGno(number)), number);
+    }
+    assert!(rt; Gno::try_from(2)? < Gno::try_from(300)?);
+    let alloc = rt.alloc();
+    assert_eq!(rt;
+        InvalidGno(highest).to_string(alloc)?.as_str(),
+        "9223372036854775807 is neither 0 nor a group number from 1 up to, but not including, 9223372036854775807"
+    );
+    Ok(())
+}
+
+#[test]
+fn event_flags_by_bits(rt: HostRuntime) {
+    let named = [
+        (0x0001, EventFlags::LOG_EVENT_BINLOG_IN_USE_F),
+        (0x0002, EventFlags::LOG_EVENT_FORCED_ROTATE_F),
+        (0x0004, EventFlags::LOG_EVENT_THREAD_SPECIFIC_F),
+        (0x0008, EventFlags::LOG_EVENT_SUPPRESS_USE_F),
+        (0x0010, EventFlags::LOG_EVENT_UPDATE_TABLE_MAP_VERSION_F),
+        (0x0020, EventFlags::LOG_EVENT_ARTIFICIAL_F),
+        (0x0040, EventFlags::LOG_EVENT_RELAY_LOG_F),
+        (0x0080, EventFlags::LOG_EVENT_IGNORABLE_F),
+        (0x0100, EventFlags::LOG_EVENT_NO_FILTER_F),
+        (0x0200, EventFlags::LOG_EVENT_MTS_ISOLATE_F),
+    ];
+    for (bits, flag) in named {
+        assert_eq!(rt; flag.bits(), bits);
+        assert_eq!(rt; EventFlags::try_from(bits), Ok(flag));
+    }
+    // the ten lowest bits have names
+    assert_eq!(rt; EventFlags::all().bits(), 0x03ff);
+    assert_eq!(rt; EventFlags::try_from(0x03ff), Ok(EventFlags::all()));
+    for unknown in [0x0400, 0x0401, 0x8000, 0xffff] {
+        assert_eq!(rt;
+            EventFlags::try_from(unknown),
+            Err(UnknownEventFlags(unknown))
+        );
+    }
+}
+
+#[test]
+fn flags_of_row_events(rt: HostRuntime) -> Result<(), Fail> {
+    let ends = RowsEventFlags::STMT_END;
+    let named = [
+        (0x0001, ends),
+        (0x0002, RowsEventFlags::NO_FOREIGN_KEY_CHECKS),
+        (0x0004, RowsEventFlags::RELAXED_UNIQUE_CHECKS),
+        (0x0008, RowsEventFlags::COMPLETE_ROWS),
+    ];
+    for (bits, flag) in named {
+        assert_eq!(rt; flag.bits(), bits);
+    }
+    // the four lowest bits have names
+    assert_eq!(rt; RowsEventFlags::all().bits(), 0x000f);
+    assert!(rt; RowsEventFlags::empty().is_empty());
+    for bits in 0..=0x000f {
+        assert_eq!(rt;
+            RowsEventFlags::try_from(bits),
+            Ok(RowsEventFlags::from_bits_retain(bits))
+        );
+    }
+    assert_eq!(rt;
+        RowsEventFlags::try_from(0x0011),
+        Err(UnknownRowsEventFlags(17))
+    );
+    assert_eq!(rt; RowsEventFlags::from_bits(0x0011), None);
+    assert_eq!(rt; RowsEventFlags::from_bits(0x0001), Some(ends));
+    assert_eq!(rt; RowsEventFlags::from_bits_truncate(0x0011), ends);
+    let kept = RowsEventFlags::from_bits_retain(0x0011);
+    assert_eq!(rt; kept.bits(), 0x0011);
+    assert!(rt; kept.contains(ends));
+    assert!(rt; !kept.contains(ends | RowsEventFlags::COMPLETE_ROWS));
+    assert!(rt; !ends.contains(kept));
+    assert_eq!(rt;
+        UnknownRowsEventFlags(17).to_string(rt.alloc())?.as_str(),
+        "0x11 has a bit that no flag of a row event has"
+    );
+    Ok(())
+}
+
+#[test]
+fn flags_of_one_bit(rt: HostRuntime) {
+    // the lowest bit alone has a name in each of the three types
+    assert_eq!(rt; SemiSyncFlags::all().bits(), 1);
+    assert_eq!(rt; GtidFlags::all().bits(), 1);
+    assert_eq!(rt; UserVarFlags::all().bits(), 1);
+    for (bits, flag) in [
+        (0u8, SemiSyncFlags::empty()),
+        (1, SemiSyncFlags::SEMI_SYNC_ACK_REQ),
+    ] {
+        assert_eq!(rt; SemiSyncFlags::try_from(bits), Ok(flag));
+    }
+    assert_eq!(rt; GtidFlags::try_from(0u8), Ok(GtidFlags::empty()));
+    assert_eq!(rt; GtidFlags::try_from(1u8), Ok(GtidFlags::MAY_HAVE_SBR));
+    assert_eq!(rt; UserVarFlags::try_from(0u8), Ok(UserVarFlags::empty()));
+    assert_eq!(rt; UserVarFlags::try_from(1u8), Ok(UserVarFlags::UNSIGNED));
+    for bits in 2..=255u8 {
+        assert_eq!(rt;
+            SemiSyncFlags::try_from(bits),
+            Err(UnknownSemiSyncFlags(bits))
+        );
+        assert_eq!(rt; GtidFlags::try_from(bits), Err(UnknownGtidFlags(bits)));
+        assert_eq!(rt;
+            UserVarFlags::try_from(bits),
+            Err(UnknownUserVarFlags(bits))
+        );
+    }
+}
+
+#[test]
+fn numbers_of_variants(rt: HostRuntime) {
+    assert_eq!(rt; u8::from(EventType::WRITE_ROWS_EVENT), 0x1e);
+    assert_eq!(rt; u8::from(EventType::ENUM_END_EVENT), 0x2b);
+    assert_eq!(rt; u8::from(BinlogChecksumAlg::BINLOG_CHECKSUM_ALG_CRC32), 1);
+    assert_eq!(rt; u8::from(StatusVarKey::DefaultTableEncryption), 20);
+    assert_eq!(rt;
+        u8::from(OptionalMetadataFieldType::VECTOR_DIMENSIONALITY),
+        13
+    );
+    assert_eq!(rt; u8::from(TransactionPayloadCompressionType::NONE), 255);
+}

@@ -25,7 +25,7 @@ pub use column_type::{ColumnType, UnknownColumnType};
 pub use constant::{Const, Constant, RawFlags};
 pub use geometry::{GeometryType, UnknownGeometryType};
 pub use int::{IntRepr, RawInt};
-pub use length::{LenEnc, VarLen};
+pub use length::{LenEnc, VarLen, lenenc_int_len};
 pub use little_endian::{
     I8, LeI16, LeI24, LeI32, LeI48, LeI64, LeU16, LeU24, LeU32, LeU48, LeU64, U8,
 };

@@ -1,4 +1,4 @@
-ghost use Rattle.std.specs.Prelude.{◌≡◌, None, IfOk, List, [], ◌∷◌, ◌≤◌, ◌<◌, ◌^◌};
+ghost use Rattle.std.specs.Prelude.{◌≡◌, None, IfOk, List, [], ◌∷◌, length, ◌≤◌, ◌<◌, ◌^◌};
 ghost use Rattle.byteorder.specs.Endian.{little_bytes};
 ghost use Rattle.binlog_base.specs.Format.{Parses};
 ghost use Rattle.binlog_base.specs.Numbers.{lenenc, lenenc_bytes, groups, groups_bytes, varlen, varlen_bytes};
@@ -74,6 +74,19 @@ impl IntRepr for LenEnc {
         } else {
             put_behind(0xfe, value, 8, buf)
         }
+    }
+}
+
+/// How many bytes a length-encoded number takes when it is written.
+#[tactic(auto, unfolding(crate::specs::Numbers::lenenc_bytes))]
+pub fn lenenc_int_len(number: u64) -> usize
+    ensures { result ≡ length (lenenc_bytes number) }
+{
+    match number {
+        0..=0xfa => 1,
+        0xfb..=0xffff => 3,
+        0x1_0000..=0xff_ffff => 4,
+        _ => 9,
     }
 }
 

@@ -1,0 +1,2 @@
+pub mod ColumnChunks
+pub mod Arrays

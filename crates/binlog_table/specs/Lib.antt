@@ -1,0 +1,5 @@
+pub mod TableMap
+pub mod TableMapExact
+pub mod Chunks
+pub mod ChunksExact
+pub mod ColumnTypes

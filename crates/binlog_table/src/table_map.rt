@@ -1,0 +1,12 @@
+//! The table map event: a table, its columns and what is written of them.
+
+mod bad_column_type;
+mod column_chunks;
+mod event;
+mod metadata;
+mod table_id;
+
+pub use bad_column_type::BadColumnType;
+pub use column_chunks::ColumnChunks;
+pub use event::TableMapEvent;
+pub use table_id::TableId;

@@ -1,0 +1,58 @@
+ghost use Rattle.std.specs.Prelude.{◌≡◌, ℕ, suc};
+ghost use Rattle.std.specs.Option.{option_map};
+ghost use Rattle.binlog_table.specs.Chunks.{ChunksLeft, chunk_left};
+
+use super::metadata::eat_chunk;
+use binlog_base::below::ParseBuf;
+use std::marker::Model;
+
+/// The chunks of a table's columns, one after the other: what `get_column_metadata` answers for each, at one walk over the metadata.
+#[derive(Drop)]
+pub struct ColumnChunks<'a> {
+    types: &'a [u8],
+    metadata: Option<&'a [u8]>,
+}
+
+impl<'a> Model for ColumnChunks<'a> {
+    ghost use Rattle.std.specs.Option.{option_map};
+    ghost use Rattle.binlog_table.specs.Chunks.{ChunksLeft};
+
+    ghost Value = { ChunksLeft };
+
+    ghost view = { λ c. record { types = c.types.now; metadata = option_map (λ m. m.now) c.metadata } };
+}
+
+impl<'a> ColumnChunks<'a> {
+    ghost use Rattle.std.specs.Prelude.{Some};
+
+    /// The chunks of columns of these raw types, with this metadata.
+    pub(super) fn new(types: &'a [u8], metadata: &'a [u8]) -> Self
+        ensures { result ≡ record { types = types.now; metadata = Some metadata.now } }
+    {
+        ColumnChunks {
+            types,
+            metadata: Some(metadata),
+        }
+    }
+
+    /// The chunk of the next column. None past the table, where a column up to this one has an unknown type, or where its chunk or one
+    /// before it is cut.
+    pub fn next_chunk(&mut self) -> Option<&'a [u8]>
+        ensures first { option_map (λ c. c.now) result ≡ chunk_left self.old 0 }
+        ensures others { (i : ℕ) → chunk_left self.new i ≡ chunk_left self.old (suc i) }
+    {
+        let (raw_type, types) = self.types.split_first()?;
+        self.types = types;
+        let mut buf = ParseBuf(self.metadata?);
+        match eat_chunk(*raw_type, &mut buf) {
+            Ok(chunk) => {
+                self.metadata = Some(buf.0);
+                Some(chunk)
+            }
+            Err(_) => {
+                self.metadata = None;
+                None
+            }
+        }
+    }
+}

@@ -1,0 +1,244 @@
+use super::bad_column_type::BadColumnType;
+use super::column_chunks::ColumnChunks;
+use super::metadata::{column_chunk, real_type};
+use super::table_id::TableId;
+use binlog_base::below::{
+    BareBytes, ColumnType, EofBytes, IntRepr, LeU16, LenEnc, MyDeserialize, ParseBuf, RawBytes,
+    Skip, U8Bytes, UnknownColumnType,
+};
+use binlog_base::bits::{BitOrder, BitView, bitmap_len};
+use binlog_base::fault::Fault;
+use std::alloc::{AllocError, Global};
+use std::borrow::CowStr;
+use std::marker::Model;
+
+/// The table map event of the MySQL binlog: a table's name and columns, which the rows events behind it refer to by its table id.
+///
+/// Its optional metadata is kept as bytes.
+#[derive(Debug, PartialEq, Eq, Drop)]
+pub struct TableMapEvent<'a> {
+    table_id: TableId,
+    flags: u16,
+    database_name: RawBytes<'a, U8Bytes>,
+    table_name: RawBytes<'a, U8Bytes>,
+    columns_count: u64,
+    columns_type: RawBytes<'a, BareBytes<0xffff_ffff_ffff_ffff>>,
+    columns_metadata: RawBytes<'a, LenEnc>,
+    null_bitmask: RawBytes<'a, BareBytes<0x2000_0000_0000_0000>>,
+    optional_metadata: RawBytes<'a, EofBytes>,
+}
+
+impl<'a> Model for TableMapEvent<'a> {
+    ghost use Rattle.std.specs.Prelude.{◌≡◌, ◌≤◌, ◌*◌, length};
+    ghost use Rattle.binlog_table.specs.TableMap.{TableMap};
+
+    ghost Value = { TableMap };
+
+    ghost view = { λ t. record { table_id = t.table_id; flags = t.flags; database = t.database_name; table = t.table_name; columns_count = t.columns_count; types = t.columns_type; metadata = t.columns_metadata; null_bits = t.null_bitmask; optional_metadata = t.optional_metadata } };
+
+    ghost invariant = { λ t. (t.columns_count ≡ length t.columns_type) × (t.columns_count ≤ 8 * length t.null_bitmask) };
+
+    ghost inverse = { λ t. record { table_id = t.table_id; flags = t.flags; database_name = t.database; table_name = t.table; columns_count = t.columns_count; columns_type = t.types; columns_metadata = t.metadata; null_bitmask = t.null_bits; optional_metadata = t.optional_metadata } };
+}
+
+impl<'a> TableMapEvent<'a> {
+    ghost use Rattle.std.specs.Prelude.{◌≡◌, ◌↔◌, false, ℕ, List, Some, IfOk};
+    ghost use Rattle.std.specs.Option.{option_map};
+    ghost use Rattle.std.specs.Cow.{cow_str_bytes};
+    ghost use Rattle.std.specs.Str.Lossy.{utf8_lossy};
+    ghost use Rattle.std.specs.Prelude.{slice_get};
+    ghost use Rattle.binlog_base.specs.declared.bits.BitOrder.TheVariants.{LeastSignificantFirst};
+    ghost use Rattle.binlog_base.specs.Bits.{bits_of};
+    ghost use Rattle.binlog_base.specs.Format.{Parses};
+    ghost use Rattle.binlog_table.specs.TableMap.{table_map};
+    ghost use Rattle.binlog_table.specs.Chunks.{chunk_at, HasChunk};
+    ghost use Rattle.binlog_table.specs.ColumnTypes.{raw_type_of, real_type_of, column_type_at, json_count};
+
+    // All parts of the event, one behind the other.
+    #[tactic(auto, unfolding(crate::specs::TableMap::table_map))]
+    fn read(post_header_len: u8, buf: &mut ParseBuf<'a>) -> Result<Self, Fault>
+        ensures { Parses false (λ t. t) result buf.new.0.now (table_map post_header_len) buf.old.0.now }
+    {
+        let table_id = buf.parse(post_header_len)?;
+        let flags = LeU16::deserialize(buf)?;
+        let database_name = buf.parse(())?;
+        buf.parse::<Skip<1>>(())?;
+        let table_name = buf.parse(())?;
+        buf.parse::<Skip<1>>(())?;
+        let columns_count = <LenEnc as IntRepr>::deserialize(buf)?;
+        let columns_type = buf.parse(columns_count as usize)?;
+        let columns_metadata = buf.parse(())?;
+        let null_bitmask = buf.parse(bitmap_len(columns_count as usize))?;
+        let optional_metadata = buf.parse(())?;
+        Ok(TableMapEvent {
+            table_id,
+            flags,
+            database_name,
+            table_name,
+            columns_count,
+            columns_type,
+            columns_metadata,
+            null_bitmask,
+            optional_metadata,
+        })
+    }
+
+    /// The number by which rows events refer to the table.
+    pub fn table_id(&self) -> u64
+        ensures { result ≡ self.now.table_id }
+    {
+        self.table_id.get()
+    }
+
+    /// The count of the table's columns.
+    pub fn columns_count(&self) -> u64
+        ensures { result ≡ self.now.columns_count }
+    {
+        self.columns_count
+    }
+
+    /// How many columns have the raw type JSON.
+    pub fn json_column_count(&self) -> usize
+        ensures { result ≡ json_count self.now.types }
+    {
+        self.columns_type
+            .as_bytes()
+            .iter()
+            .filter(|number| **number == 245)
+            .count()
+    }
+
+    /// A bit for each column, set where the column may be NULL.
+    pub fn null_bitmask(&self) -> BitView<'_>
+        ensures { result ≡ bits_of LeastSignificantFirst self.now.columns_count self.now.null_bits }
+    {
+        BitView::new(
+            self.null_bitmask.as_bytes(),
+            self.columns_count as usize,
+            BitOrder::LeastSignificantFirst,
+        )
+    }
+
+    /// The database's name.
+    pub fn database_name_raw(&self) -> &[u8]
+        ensures { result.now ≡ self.now.database }
+    {
+        self.database_name.as_bytes()
+    }
+
+    /// The database's name as lossy text. It takes memory where the name isn't UTF-8.
+    pub fn database_name(&self, alloc: Global) -> Result<CowStr<'_>, AllocError>
+        ensures { IfOk result (λ text. cow_str_bytes text ≡ utf8_lossy self.now.database) }
+    {
+        self.database_name.as_str(alloc)
+    }
+
+    /// The table's name.
+    pub fn table_name_raw(&self) -> &[u8]
+        ensures { result.now ≡ self.now.table }
+    {
+        self.table_name.as_bytes()
+    }
+
+    /// The table's name as lossy text. It takes memory where the name isn't UTF-8.
+    pub fn table_name(&self, alloc: Global) -> Result<CowStr<'_>, AllocError>
+        ensures { IfOk result (λ text. cow_str_bytes text ≡ utf8_lossy self.now.table) }
+    {
+        self.table_name.as_str(alloc)
+    }
+
+    /// The optional metadata, as it stands behind the null bits.
+    pub fn optional_metadata_raw(&self) -> &[u8]
+        ensures { result.now ≡ self.now.optional_metadata }
+    {
+        self.optional_metadata.as_bytes()
+    }
+
+    /// The raw type of column `index`, as its type byte tells it; `Ok(None)` past the table.
+    pub fn get_raw_column_type(&self, index: usize) -> Result<Option<ColumnType>, UnknownColumnType>
+        ensures { result ≡ raw_type_of (slice_get self.now.types index) }
+    {
+        match self.columns_type.as_bytes().get(index) {
+            None => Ok(None),
+            Some(number) => Ok(Some(ColumnType::try_from(*number)?)),
+        }
+    }
+
+    /// The real type of column `index`: DATE is NEWDATE, and the metadata of STRING may say ENUM or SET; `Ok(None)` past the table.
+    pub fn get_column_type(&self, index: usize) -> Result<Option<ColumnType>, BadColumnType>
+        ensures { result ≡ column_type_at self.now.types self.now.metadata index }
+    {
+        self.real_column_type(index, self.get_column_metadata(index))
+    }
+
+    /// The real type of column `index`, whose metadata is known already.
+    pub fn real_column_type(
+        &self,
+        index: usize,
+        metadata: Option<&[u8]>,
+    ) -> Result<Option<ColumnType>, BadColumnType>
+        ensures { result ≡ real_type_of (raw_type_of (slice_get self.now.types index)) (option_map (λ c. c.now) metadata.entry) }
+    {
+        match self.get_raw_column_type(index)? {
+            None => Ok(None),
+            Some(raw_type) => Ok(Some(real_type(raw_type, metadata)?)),
+        }
+    }
+
+    /// The metadata of each column, one after the other.
+    pub fn column_chunks(&self) -> ColumnChunks<'_>
+        ensures { result ≡ record { types = self.now.types; metadata = Some self.now.metadata } }
+    {
+        ColumnChunks::new(
+            self.columns_type.as_bytes(),
+            self.columns_metadata.as_bytes(),
+        )
+    }
+
+    /// The metadata of column `index`: its chunk of the columns' metadata. None past the table, where a column up to it has an unknown
+    /// type, or where its chunk or one before it is cut.
+    pub fn get_column_metadata(&self, index: usize) -> Option<&[u8]>
+        ensures chunk { option_map (λ c. c.now) result ≡ chunk_at self.now.types self.now.metadata index }
+        // The metadata begins with the chunks of the columns up to this one, of which it is the last.
+        ensures stands { (c : List ℕ) → (option_map (λ c. c.now) result ≡ Some c) ↔ HasChunk self.now.types self.now.metadata index c }
+    {
+        column_chunk(
+            self.columns_type.as_bytes(),
+            self.columns_metadata.as_bytes(),
+            index,
+        )
+    }
+}
+
+impl<'de> MyDeserialize<'de> for TableMapEvent<'de> {
+    ghost use Rattle.std.specs.Prelude.{true, false};
+    ghost use Rattle.binlog_base.specs.Format.{Parses, Reads};
+    ghost use Rattle.binlog_table.specs.TableMap as Spec;
+    ghost use Rattle.binlog_table.specs.TableMapExact.{exact_table_map};
+
+    ghost Seen = { Spec.TableMap };
+
+    ghost seen = { λ t. t };
+
+    ghost format = { Spec.table_map };
+
+    ghost to_end = { true };
+
+    ghost exact = { exact_table_map };
+
+    const SIZE: Option<usize> = None;
+
+    type Ctx = u8;
+
+    /// Reads the event from its body, all of it, with the post-header length of table map events.
+    ///
+    /// It takes no memory. `UnexpectedEof` where a part is cut, `BadLenEnc` where the columns' count or their metadata's length begins with
+    /// FB or FF.
+    fn deserialize(post_header_len: u8, buf: &mut ParseBuf<'de>) -> Result<Self, Fault>
+        ensures parses { Parses false (λ t. t) result buf.new.0.now (Spec.table_map post_header_len) buf.old.0.now }
+        // An event comes out exactly where the layout stands, with those very parts; else the layout's fault.
+        ensures reads { Reads true false (λ t. t) result buf.new.0.now (Spec.table_map post_header_len) buf.old.0.now }
+    {
+        TableMapEvent::read(post_header_len, buf)
+    }
+}

@@ -1,0 +1,116 @@
+ghost use Rattle.std.specs.Prelude.{◌≡◌, false, ℕ, List, Option, option_map, ◌<◌, length};
+ghost use Rattle.binlog_base.specs.Format.{Parses};
+ghost use Rattle.binlog_table.specs.Chunks.{metadata_len, inner_metadata, array_chunk, chunk, chunk_at};
+ghost use Rattle.binlog_table.specs.ColumnTypes.{string_type, real_type};
+ghost use Rattle.binlog_base.specs.ColumnTypes.{column_type_of};
+
+use super::bad_column_type::BadColumnType;
+use binlog_base::below::{ColumnType, Constant, IntRepr, ParseBuf, U8};
+use binlog_base::fault::Fault;
+
+// How many bytes of metadata a type has, TYPED_ARRAY aside.
+fn metadata_len(column_type: ColumnType) -> usize
+    ensures { result ≡ metadata_len column_type }
+{
+    match column_type {
+        ColumnType::MYSQL_TYPE_FLOAT
+        | ColumnType::MYSQL_TYPE_DOUBLE
+        | ColumnType::MYSQL_TYPE_TINY_BLOB
+        | ColumnType::MYSQL_TYPE_MEDIUM_BLOB
+        | ColumnType::MYSQL_TYPE_LONG_BLOB
+        | ColumnType::MYSQL_TYPE_BLOB
+        | ColumnType::MYSQL_TYPE_GEOMETRY
+        | ColumnType::MYSQL_TYPE_JSON
+        | ColumnType::MYSQL_TYPE_VECTOR
+        | ColumnType::MYSQL_TYPE_TIMESTAMP2
+        | ColumnType::MYSQL_TYPE_DATETIME2
+        | ColumnType::MYSQL_TYPE_TIME2 => 1,
+        ColumnType::MYSQL_TYPE_VARCHAR
+        | ColumnType::MYSQL_TYPE_VAR_STRING
+        | ColumnType::MYSQL_TYPE_STRING
+        | ColumnType::MYSQL_TYPE_ENUM
+        | ColumnType::MYSQL_TYPE_SET
+        | ColumnType::MYSQL_TYPE_BIT
+        | ColumnType::MYSQL_TYPE_NEWDECIMAL => 2,
+        _ => 0,
+    }
+}
+
+// The metadata of the type inside a TYPED_ARRAY.
+fn eat_inner<'a>(inner: ColumnType, buf: &mut ParseBuf<'a>) -> Result<&'a [u8], Fault>
+    ensures { Parses false (λ x. x.now) result buf.new.0.now (inner_metadata inner) buf.old.0.now }
+{
+    match inner {
+        ColumnType::MYSQL_TYPE_VARCHAR => buf.checked_eat(3),
+        ColumnType::MYSQL_TYPE_TYPED_ARRAY => Err(Fault::Unhandled),
+        _ => buf.checked_eat(metadata_len(inner)),
+    }
+}
+
+// The chunk of a TYPED_ARRAY: the inner type's byte and its metadata.
+fn eat_array<'a>(buf: &mut ParseBuf<'a>) -> Result<&'a [u8], Fault>
+    ensures { Parses false (λ x. x.now) result buf.new.0.now array_chunk buf.old.0.now }
+{
+    let whole = buf.0;
+    let inner = U8::deserialize(buf)?;
+    let metadata = eat_inner(ColumnType::from_number(inner)?, buf)?;
+    Ok(&whole[..1 + metadata.len()])
+}
+
+/// Takes the chunk of a column of this raw type.
+#[tactic(auto, unfolding(crate::specs::Chunks::chunk))]
+pub(super) fn eat_chunk<'a>(raw_type: u8, buf: &mut ParseBuf<'a>) -> Result<&'a [u8], Fault>
+    ensures { Parses false (λ x. x.now) result buf.new.0.now (chunk raw_type) buf.old.0.now }
+{
+    match ColumnType::from_number(raw_type)? {
+        ColumnType::MYSQL_TYPE_TYPED_ARRAY => eat_array(buf),
+        column_type => buf.checked_eat(metadata_len(column_type)),
+    }
+}
+
+/// The chunk of column `index` of columns of these raw types, with this metadata.
+pub(super) fn column_chunk<'a>(types: &[u8], metadata: &'a [u8], index: usize) -> Option<&'a [u8]>
+    ensures { option_map (λ c. c.now) result ≡ chunk_at types.now metadata.now index }
+{
+    let mut buf = ParseBuf(metadata);
+    for (i, raw_type) in types.iter().enumerate() {
+        match eat_chunk(*raw_type, &mut buf) {
+            Err(_) => return None,
+            Ok(chunk) if i == index => return Some(chunk),
+            Ok(_) => {}
+        }
+    }
+    None
+}
+
+// The type that the metadata of a STRING column says.
+fn string_type(chunk: Option<&[u8]>) -> Result<ColumnType, BadColumnType>
+    ensures { result ≡ string_type (option_map (λ c. c.now) chunk.entry) }
+{
+    let Some([first, ..]) = chunk else {
+        return Ok(ColumnType::MYSQL_TYPE_STRING);
+    };
+    if *first == 0 {
+        return Ok(ColumnType::MYSQL_TYPE_STRING);
+    }
+    match *first | 0x30 {
+        247 => Ok(ColumnType::MYSQL_TYPE_ENUM),
+        248 => Ok(ColumnType::MYSQL_TYPE_SET),
+        254 => Ok(ColumnType::MYSQL_TYPE_STRING),
+        other => Err(BadColumnType::Unexpected(other)),
+    }
+}
+
+/// The real type of a column by its raw type and its chunk of metadata.
+pub(super) fn real_type(
+    raw_type: ColumnType,
+    chunk: Option<&[u8]>,
+) -> Result<ColumnType, BadColumnType>
+    ensures { result ≡ real_type raw_type (option_map (λ c. c.now) chunk.entry) }
+{
+    match raw_type {
+        ColumnType::MYSQL_TYPE_DATE => Ok(ColumnType::MYSQL_TYPE_NEWDATE),
+        ColumnType::MYSQL_TYPE_STRING => string_type(chunk),
+        _ => Ok(raw_type),
+    }
+}

@@ -1,0 +1,277 @@
+use crate::table_map::{BadColumnType, TableId, TableMapEvent};
+use binlog_base::below::{ColumnType, MySerialize, ParseBuf, UnknownColumnType};
+use binlog_base::fault::Fault;
+use std::test::Fail;
+
+/// The table d.t of two columns, LONG and VARCHAR.
+fn two_columns() -> [u8; 21] {
+    [
+        1, 0, 0, 0, 0, 0, 1, 0, 1, 0x64, 0, 1, 0x74, 0, 2, 3, 0x0f, 2, 0x0a, 0, 2,
+    ]
+}
+
+/// A table d.t with these bytes from the column count on.
+fn with_columns(rt: &HostRuntime, columns: &[u8]) -> Result<Vec<u8>, Fail> {
+    let mut bytes = two_columns()[..14].to_vec(rt.alloc())?;
+    bytes.extend_from_slice(columns)?;
+    Ok(bytes)
+}
+
+fn read(bytes: &[u8], post_header_len: u8) -> Result<TableMapEvent<'_>, Fault> {
+    ParseBuf(bytes).parse(post_header_len)
+}
+
+/// Whether the bytes are refused by this fault.
+fn is_refused(bytes: &[u8], fault: Fault) -> bool {
+    match read(bytes, 8) {
+        Ok(_) => false,
+        Err(other) => other == fault,
+    }
+}
+
+/// Whether column `index` has this type and this metadata.
+fn is_column(
+    table: &TableMapEvent<'_>,
+    index: usize,
+    column_type: Result<Option<ColumnType>, BadColumnType>,
+    metadata: Option<&[u8]>,
+) -> bool {
+    table.get_column_type(index) == column_type && table.get_column_metadata(index) == metadata
+}
+
+/// Whether the table has this id and these names.
+fn is_table(table: &TableMapEvent<'_>, id: u64, database: &[u8], name: &[u8]) -> bool {
+    table.table_id() == id
+        && table.database_name_raw() == database
+        && table.table_name_raw() == name
+}
+
+/// Whether the table has this many columns, JSON columns among them, and no optional metadata.
+fn has_counts(table: &TableMapEvent<'_>, columns: u64, json_columns: usize) -> bool {
+    table.columns_count() == columns
+        && table.json_column_count() == json_columns
+        && table.optional_metadata_raw().is_empty()
+}
+
+/// Whether the columns may be NULL so.
+fn has_null_bits(table: &TableMapEvent<'_>, bits: &[bool]) -> bool {
+    let null_bits = table.null_bitmask();
+    null_bits.len() == bits.len()
+        && bits
+            .iter()
+            .enumerate()
+            .all(|(i, bit)| null_bits.get(i) == Some(*bit))
+}
+
+/// Whether two readings of the bytes, with these post-header lengths, give the same event.
+fn read_alike(bytes: &[u8], one: u8, other: u8) -> bool {
+    match (read(bytes, one), read(bytes, other)) {
+        (Ok(one), Ok(other)) => one == other,
+        _ => false,
+    }
+}
+
+#[test]
+fn a_table_of_two_columns(rt: HostRuntime) -> Result<(), Fail> {
+    let bytes = two_columns();
+    let table = read(&bytes, 8)?;
+    assert!(rt; is_table(&table, 1, b"d", b"t"));
+    assert!(rt; has_counts(&table, 2, 0));
+    assert!(rt; has_null_bits(&table, &[false, true]));
+    Ok(())
+}
+
+#[test]
+fn readings_are_alike(rt: HostRuntime) {
+    assert!(rt; read_alike(&two_columns(), 8, 10));
+}
+
+#[test]
+fn the_columns_of_a_table(rt: HostRuntime) -> Result<(), Fail> {
+    let bytes = two_columns();
+    let table = read(&bytes, 8)?;
+    assert!(rt; is_column(&table, 0, Ok(Some(ColumnType::MYSQL_TYPE_LONG)), Some(&[])));
+    assert!(rt;
+        is_column(
+            &table,
+            1,
+            Ok(Some(ColumnType::MYSQL_TYPE_VARCHAR)),
+            Some(&[0x0a, 0])
+        )
+    );
+    assert!(rt; is_column(&table, 2, Ok(None), None));
+    assert!(rt; table.get_raw_column_type(0) == Ok(Some(ColumnType::MYSQL_TYPE_LONG)));
+    assert!(rt; table.get_raw_column_type(2) == Ok(None));
+    assert_eq!(rt; table.database_name(rt.alloc())?.as_str(), "d");
+    assert_eq!(rt; table.table_name(rt.alloc())?.as_str(), "t");
+    Ok(())
+}
+
+#[test]
+fn cut_events(rt: HostRuntime) {
+    let bytes = two_columns();
+    for len in 0..bytes.len() {
+        assert!(rt; is_refused(&bytes[..len], Fault::UnexpectedEof), "{len}");
+    }
+}
+
+#[test]
+fn hostile_counts(rt: HostRuntime) -> Result<(), Fail> {
+    let rows: [(&[u8], Fault); 5] = [
+        (&[0xfb], Fault::BadLenEnc),
+        (
+            &[0xfe, 0xff, 0xff, 0xff, 0xff, 0xff, 0xff, 0xff, 0xff],
+            Fault::UnexpectedEof,
+        ),
+        (&[0xfe, 0, 0, 0, 0, 0, 0, 0, 0x80, 3], Fault::UnexpectedEof),
+        (&[1, 3, 0xff], Fault::BadLenEnc),
+        (
+            &[1, 3, 0xfe, 0xff, 0xff, 0xff, 0xff, 0xff, 0xff, 0xff, 0xff],
+            Fault::UnexpectedEof,
+        ),
+    ];
+    for (columns, fault) in rows {
+        let bytes = with_columns(&rt, columns)?;
+        assert!(rt; is_refused(bytes.as_slice(), fault), "{columns:?}");
+    }
+    Ok(())
+}
+
+#[test]
+fn table_ids(rt: HostRuntime) -> Result<(), Fail> {
+    let old: TableId = ParseBuf(&[1, 2, 3, 4]).parse(6)?;
+    assert_eq!(rt; old.get(), 0x0403_0201);
+    let new: TableId = ParseBuf(&[1, 2, 3, 4, 5, 6]).parse(8)?;
+    assert_eq!(rt; new.get(), 0x0605_0403_0201);
+    let mut buf = Vec::new(rt.alloc());
+    old.serialize(&mut buf)?;
+    assert_eq!(rt; buf.as_slice(), [1, 2, 3, 4, 0, 0].as_slice());
+    Ok(())
+}
+
+/// STRING four times, DATE, TYPED_ARRAY of VARCHAR, TYPED_ARRAY of LONG, an unknown type, LONG.
+fn nine_columns() -> [u8; 26] {
+    [
+        9, 254, 254, 254, 254, 10, 20, 20, 244, 3, 13, 0xf7, 1, 0xfe, 0x0a, 0xee, 4, 0x11, 0, 15,
+        1, 2, 3, 3, 0, 0,
+    ]
+}
+
+#[test]
+fn real_types(rt: HostRuntime) -> Result<(), Fail> {
+    let bytes = with_columns(&rt, &nine_columns())?;
+    let table = read(bytes.as_slice(), 8)?;
+    assert!(rt;
+        is_column(
+            &table,
+            0,
+            Ok(Some(ColumnType::MYSQL_TYPE_ENUM)),
+            Some(&[0xf7, 1])
+        )
+    );
+    assert!(rt;
+        is_column(
+            &table,
+            1,
+            Ok(Some(ColumnType::MYSQL_TYPE_STRING)),
+            Some(&[0xfe, 0x0a])
+        )
+    );
+    assert!(rt;
+        is_column(
+            &table,
+            2,
+            Ok(Some(ColumnType::MYSQL_TYPE_STRING)),
+            Some(&[0xee, 4])
+        )
+    );
+    assert!(rt;
+        is_column(
+            &table,
+            3,
+            Err(BadColumnType::Unexpected(49)),
+            Some(&[0x11, 0])
+        )
+    );
+    assert!(rt;
+        is_column(
+            &table,
+            4,
+            Ok(Some(ColumnType::MYSQL_TYPE_NEWDATE)),
+            Some(&[])
+        )
+    );
+    Ok(())
+}
+
+/// Whether a walk over the chunks gives each column's own chunk and real type, and none behind the last.
+fn walks_alike(table: &TableMapEvent<'_>, columns: usize) -> bool {
+    let mut chunks = table.column_chunks();
+    for index in 0..columns {
+        let chunk = chunks.next_chunk();
+        if chunk != table.get_column_metadata(index)
+            || table.real_column_type(index, chunk) != table.get_column_type(index)
+        {
+            return false;
+        }
+    }
+    chunks.next_chunk().is_none()
+}
+
+#[test]
+fn chunks_in_one_walk(rt: HostRuntime) -> Result<(), Fail> {
+    let bytes = with_columns(&rt, &nine_columns())?;
+    let table = read(bytes.as_slice(), 8)?;
+    assert!(rt; walks_alike(&table, 9));
+    Ok(())
+}
+
+#[test]
+fn arrays_and_unknown_types(rt: HostRuntime) -> Result<(), Fail> {
+    let bytes = with_columns(&rt, &nine_columns())?;
+    let table = read(bytes.as_slice(), 8)?;
+    assert!(rt;
+        is_column(
+            &table,
+            5,
+            Ok(Some(ColumnType::MYSQL_TYPE_TYPED_ARRAY)),
+            Some(&[15, 1, 2, 3])
+        )
+    );
+    assert!(rt;
+        is_column(
+            &table,
+            6,
+            Ok(Some(ColumnType::MYSQL_TYPE_TYPED_ARRAY)),
+            Some(&[3])
+        )
+    );
+    assert!(rt;
+        is_column(
+            &table,
+            7,
+            Err(BadColumnType::Unknown(UnknownColumnType(244))),
+            None
+        )
+    );
+    assert!(rt; is_column(&table, 8, Ok(Some(ColumnType::MYSQL_TYPE_LONG)), None));
+    assert!(rt; Fault::from(BadColumnType::Unexpected(49)) == Fault::UnexpectedColumnType(49));
+    Ok(())
+}
+
+#[test]
+fn strings_that_stay_strings(rt: HostRuntime) -> Result<(), Fail> {
+    // The first metadata byte is 0; the second column has no chunk.
+    let bytes = with_columns(&rt, &[2, 254, 254, 2, 0, 5, 0])?;
+    let table = read(bytes.as_slice(), 8)?;
+    assert!(rt;
+        is_column(
+            &table,
+            0,
+            Ok(Some(ColumnType::MYSQL_TYPE_STRING)),
+            Some(&[0, 5])
+        )
+    );
+    assert!(rt; is_column(&table, 1, Ok(Some(ColumnType::MYSQL_TYPE_STRING)), None));
+    Ok(())
+}

@@ -1,0 +1,4 @@
+pub mod RowsEvent
+pub mod RowsEventExact
+pub mod Cells
+pub mod CellsExact

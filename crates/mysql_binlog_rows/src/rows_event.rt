@@ -1,0 +1,5 @@
+//! The rows event and its pairs of rows.
+
+mod event;
+
+pub use event::{RowsEvent, RowsEventCtx};

@@ -1,0 +1,5 @@
+pub mod Covers
+pub mod Loop
+pub mod Plans
+pub mod Pairs
+pub mod Runs

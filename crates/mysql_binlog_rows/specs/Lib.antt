@@ -2,3 +2,10 @@ pub mod RowsEvent
 pub mod RowsEventExact
 pub mod Cells
 pub mod CellsExact
+pub mod Images
+pub mod ImagesExact
+pub mod Cover
+pub mod Laws
+pub mod Rows
+pub mod Columns
+pub mod Decodes

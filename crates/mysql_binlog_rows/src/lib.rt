@@ -1,6 +1,8 @@
-//! Rows events: the event by its written layout, and single cells.
+//! Rows events: the event by its written layout, and its pairs of rows.
 #![tactic(auto)]
 
+pub mod laws;
+pub mod row;
 pub mod rows_event;
 #[cfg(test)]
 mod tests;

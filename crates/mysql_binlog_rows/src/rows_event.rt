@@ -1,5 +1,9 @@
 //! The rows event and its pairs of rows.
 
+mod decode;
 mod event;
+mod rows;
 
+pub use decode::{Decoded, decode_pairs};
 pub use event::{RowsEvent, RowsEventCtx};
+pub use rows::{RowPair, RowsEventRows};

@@ -1,8 +1,12 @@
-use crate::rows_event::{RowsEvent, RowsEventCtx};
+use crate::laws::pairs_are_unambiguous;
+use crate::row::BinlogRow;
+use crate::rows_event::{Decoded, RowPair, RowsEvent, RowsEventCtx, decode_pairs};
 use crate::value::BinlogValue;
-use binlog_base::below::{ColumnType, ParseBuf, Value};
+use binlog_base::below::{Column, ColumnType, ParseBuf, Value};
 use binlog_base::fault::Fault;
 use binlog_consts::consts::{BinlogVersion, EventType, RowsEventFlags};
+use binlog_table::table_map::TableMapEvent;
+use std::rc::RcSlice;
 use std::test::Fail;
 
 /// An event of this type, whose post-header has this length, where that of `WRITE_ROWS_EVENT` has 10.
@@ -159,4 +163,252 @@ fn cells_of_text(rt: HostRuntime) -> Result<(), Fail> {
         )
     );
     Ok(())
+}
+
+/// The table d.t of two columns, LONG and VARCHAR.
+fn two_columns() -> [u8; 21] {
+    [
+        1, 0, 0, 0, 0, 0, 1, 0, 1, 0x64, 0, 1, 0x74, 0, 2, 3, 0x0f, 2, 0x0a, 0, 2,
+    ]
+}
+
+/// The pairs of a rows event of this type, whose post-header has this length.
+fn decode(
+    rt: &HostRuntime,
+    table: &[u8],
+    rows: &[u8],
+    event_type: EventType,
+    post_header_len: u8,
+) -> Result<Decoded, Fault> {
+    let ctx = RowsEventCtx {
+        event_type,
+        post_header_len,
+        write_rows_post_header_len: 10,
+    };
+    decode_pairs(rt.alloc(), table, 8, rows, ctx)
+}
+
+/// The pairs of a WRITE_ROWS_EVENT.
+fn inserted(rt: &HostRuntime, table: &[u8], rows: &[u8]) -> Result<Decoded, Fault> {
+    decode(rt, table, rows, EventType::WRITE_ROWS_EVENT, 10)
+}
+
+/// Whether the value of a place is this number; none for NULL.
+fn is_number(row: &BinlogRow, index: usize, number: Option<i64>) -> bool {
+    match row.as_ref(index) {
+        Some(BinlogValue::Value(Value::Int(other))) => number == Some(*other),
+        Some(_) => false,
+        None => number.is_none(),
+    }
+}
+
+/// Whether the value of a place is this text; none for NULL.
+fn is_text(row: &BinlogRow, index: usize, text: Option<&[u8]>) -> bool {
+    match row.as_ref(index) {
+        Some(BinlogValue::Value(Value::Bytes(other))) => text == Some(other.as_slice()),
+        Some(_) => false,
+        None => text.is_none(),
+    }
+}
+
+/// Whether the pair is an inserted row of this number and this text.
+fn is_inserted(pair: &RowPair, number: Option<i64>, text: Option<&[u8]>) -> bool {
+    match pair {
+        (None, Some(row)) => row.len() == 2 && is_number(row, 0, number) && is_text(row, 1, text),
+        _ => false,
+    }
+}
+
+/// Whether there are this many pairs, and this fault behind them.
+fn ends(decoded: &Result<Decoded, Fault>, pairs: usize, fault: Option<Fault>) -> bool {
+    match decoded {
+        Ok(decoded) => decoded.pairs.len() == pairs && decoded.fault == fault,
+        Err(_) => false,
+    }
+}
+
+/// Whether the run is refused by this fault.
+fn refuses(decoded: &Result<Decoded, Fault>, fault: Fault) -> bool {
+    match decoded {
+        Ok(_) => false,
+        Err(other) => *other == fault,
+    }
+}
+
+/// Whether a column has this type and this name, of the table d.t.
+fn is_column(column: &Column, column_type: ColumnType, name: &[u8]) -> bool {
+    column.column_type() == column_type
+        && column.schema_ref() == b"d".as_slice()
+        && column.table_ref() == b"t".as_slice()
+        && column.org_table_ref() == b"t".as_slice()
+        && column.name_ref() == name
+}
+
+/// Whether the columns are those of d.t.
+fn are_columns(columns: &[Column]) -> bool {
+    match columns {
+        [first, second] => {
+            is_column(first, ColumnType::MYSQL_TYPE_LONG, b"@0")
+                && is_column(second, ColumnType::MYSQL_TYPE_VARCHAR, b"@1")
+        }
+        _ => false,
+    }
+}
+
+#[test]
+fn two_inserted_rows(rt: HostRuntime) -> Result<(), Fail> {
+    let decoded = inserted(&rt, &two_columns(), &two_rows())?;
+    assert!(rt; decoded.fault.is_none());
+    match decoded.pairs.as_slice() {
+        [first, second] => {
+            assert!(rt; is_inserted(first, Some(42), Some(b"ab")));
+            assert!(rt; is_inserted(second, Some(-1), None));
+        }
+        _ => assert!(rt; false),
+    }
+    Ok(())
+}
+
+/// Whether the columns of an inserted row are those of d.t, also where they are shared.
+fn has_columns(pair: &RowPair) -> Result<bool, Fault> {
+    match pair {
+        (None, Some(row)) => {
+            let shared = row.columns()?;
+            Ok(!row.is_empty() && are_columns(row.columns_ref()) && are_columns(shared.as_slice()))
+        }
+        _ => Ok(false),
+    }
+}
+
+#[test]
+fn columns_of_rows(rt: HostRuntime) -> Result<(), Fail> {
+    let decoded = inserted(&rt, &two_columns(), &two_rows())?;
+    for pair in &decoded.pairs {
+        assert!(rt; has_columns(pair)?);
+    }
+    let none: RcSlice<Column> = RcSlice::from_vec(Vec::new(rt.alloc()))?;
+    assert!(rt; BinlogRow::new(Vec::new(rt.alloc()), none).is_empty());
+    pairs_are_unambiguous();
+    Ok(())
+}
+
+#[test]
+fn ends_of_rows_data(rt: HostRuntime) -> Result<(), Fail> {
+    let rows = two_rows();
+    let cut = inserted(&rt, &two_columns(), &rows[..24]);
+    assert!(rt; ends(&cut, 1, Some(Fault::UnexpectedEof)));
+    let none = inserted(&rt, &two_columns(), &rows[..12]);
+    assert!(rt; ends(&none, 0, None));
+    // The event has no columns, so a pair has no bytes.
+    let empty = inserted(&rt, &two_columns(), &[1, 0, 0, 0, 0, 0, 1, 0, 2, 0, 0, 7]);
+    assert!(rt; ends(&empty, 0, Some(Fault::EmptyPair)));
+    Ok(())
+}
+
+#[test]
+fn faults_of_columns(rt: HostRuntime) {
+    let rows = two_rows();
+    // The table has one column, the event two.
+    let one = [1, 0, 0, 0, 0, 0, 1, 0, 1, 0x64, 0, 1, 0x74, 0, 1, 3, 0, 0];
+    assert!(rt; ends(&inserted(&rt, &one, &rows), 0, Some(Fault::NoColumnType)));
+    // VARCHAR without metadata.
+    let bare = [
+        1, 0, 0, 0, 0, 0, 1, 0, 1, 0x64, 0, 1, 0x74, 0, 2, 3, 0x0f, 0, 0,
+    ];
+    assert!(rt;
+        ends(
+            &inserted(&rt, &bare, &rows),
+            0,
+            Some(Fault::MissingMetadata)
+        )
+    );
+    // LONG and an unknown type: the cell of the first is cut, or whole.
+    let unknown = [
+        1, 0, 0, 0, 0, 0, 1, 0, 1, 0x64, 0, 1, 0x74, 0, 2, 3, 244, 0, 0,
+    ];
+    assert!(rt;
+        ends(
+            &inserted(&rt, &unknown, &rows[..16]),
+            0,
+            Some(Fault::UnexpectedEof)
+        )
+    );
+    assert!(rt;
+        ends(
+            &inserted(&rt, &unknown, &rows),
+            0,
+            Some(Fault::UnknownColumnType(244))
+        )
+    );
+}
+
+#[test]
+fn first_version_pairs(rt: HostRuntime) -> Result<(), Fail> {
+    let bytes = [1, 0, 0, 0, 1, 0, 2, 3, 3];
+    let decoded = decode(
+        &rt,
+        &two_columns(),
+        &bytes,
+        EventType::WRITE_ROWS_EVENT_V1,
+        6,
+    )?;
+    assert!(rt; decoded.fault.is_none());
+    match decoded.pairs.as_slice() {
+        [pair] => assert!(rt; is_inserted(pair, None, None)),
+        _ => assert!(rt; false),
+    }
+    Ok(())
+}
+
+#[test]
+fn refused_runs(rt: HostRuntime) {
+    let count = [1, 0, 0, 0, 0, 0, 1, 0, 2, 0, 0xfb];
+    assert!(rt; refuses(&inserted(&rt, &two_columns(), &count), Fault::BadLenEnc));
+    let long = [
+        1, 0, 0, 0, 0, 0, 1, 0, 2, 0, 0xfe, 0xff, 0xff, 0xff, 0xff, 0xff, 0xff, 0xff, 0xff,
+    ];
+    assert!(rt; refuses(&inserted(&rt, &two_columns(), &long), Fault::UnexpectedEof));
+    // Both events are refused: the table map event tells.
+    assert!(rt;
+        refuses(
+            &inserted(&rt, &two_columns()[..20], &count),
+            Fault::UnexpectedEof
+        )
+    );
+}
+
+#[test]
+fn what_is_not_carried(rt: HostRuntime) {
+    // A deleted row, and a table with optional metadata.
+    let rows = two_rows();
+    let deleted = decode(&rt, &two_columns(), &rows, EventType::DELETE_ROWS_EVENT, 10);
+    assert!(rt; ends(&deleted, 0, Some(Fault::Unhandled)));
+    let table = [
+        1, 0, 0, 0, 0, 0, 1, 0, 1, 0x64, 0, 1, 0x74, 0, 2, 3, 0x0f, 2, 0x0a, 0, 2, 1, 1, 0x80,
+    ];
+    assert!(rt; ends(&inserted(&rt, &table, &rows), 0, Some(Fault::Unhandled)));
+}
+
+/// What four calls of `next` give: a pair, a fault, or nothing.
+fn walk(rt: &HostRuntime, table: &[u8], bytes: &[u8]) -> Result<[char; 4], Fault> {
+    let table: TableMapEvent<'_> = ParseBuf(table).parse(8)?;
+    let event = read(bytes, EventType::WRITE_ROWS_EVENT, 10)?;
+    let mut rows = event.rows(rt.alloc(), &table);
+    let mut items = ['?'; 4];
+    for item in &mut items {
+        *item = match rows.next() {
+            Some(Ok(_)) => 'p',
+            Some(Err(_)) => 'f',
+            None => '-',
+        };
+    }
+    Ok(items)
+}
+
+#[test]
+fn pairs_one_by_one(rt: HostRuntime) {
+    let rows = two_rows();
+    let cut = &rows[..24];
+    assert!(rt; walk(&rt, &two_columns(), &rows) == Ok(['p', 'p', '-', '-']));
+    assert!(rt; walk(&rt, &two_columns(), cut) == Ok(['p', 'f', '-', '-']));
 }

@@ -1,0 +1,51 @@
+-- The whole run: the events are one, and so are their pairs.
+use Rattle.std.proofs.Common.{◌≡◌, ℕ, List, [], Option, None, Result, Ok, Err, sym, ap, subst, refl, ◌∙◌}
+use Rattle.std.specs.Prelude.{IfOk, IfErr}
+use Rattle.std.proofs.lemmas.List.{append-nil}
+use Rattle.binlog_base.specs.declared.fault.Fault.{Fault}
+use Rattle.binlog_base.specs.Exact.{ok_is}
+use Rattle.binlog_table.specs.TableMap.{TableMap}
+use Rattle.binlog_table.specs.TableMapExact.{exact_table_map}
+use Rattle.mysql_binlog_rows.specs.RowsEvent.{RowsEvent}
+use Rattle.mysql_binlog_rows.specs.RowsEventExact.{exact_rows_event}
+use Rattle.mysql_binlog_rows.specs.Images.{Pair, grammar_of}
+use Rattle.mysql_binlog_rows.specs.ImagesExact.{grammar_sound}
+use Rattle.mysql_binlog_rows.specs.Cover.{Covers, concat}
+use Rattle.mysql_binlog_rows.specs.Decodes.{Input, IsTable, IsEvent, Decodes, IsAllPairs}
+use Rattle.mysql_binlog_rows.proofs.Covers.{covers_one}
+
+pub if_ok : {A : Type 0} (r : Result A Fault) (P Q : A → Type 0) → ((a : A) → P a → Q a) → IfOk r P → IfOk r Q
+if_ok (Ok a) P Q f h = f a h
+if_ok (Err e) P Q f h = tt
+
+pub if_err : {A : Type 0} (r : Result A Fault) (P Q : Fault → Type 0) → ((e : Fault) → P e → Q e) → IfErr r P → IfErr r Q
+if_err (Ok a) P Q f h = tt
+if_err (Err e) P Q f h = f e h
+
+table_one : (i : Input) (t u : TableMap) → IsTable i t → IsTable i u → t ≡ u
+table_one i t u ht hu =
+    let ef = exact_table_map i.table_post_header_len in
+    ap (λ (p : TableMap × List ℕ). p.0) (ok_is (t, []) (u, []) (sym (ef.again i.table t ht) ∙ ef.again i.table u hu))
+
+event_one : (i : Input) (d e : RowsEvent) → IsEvent i d → IsEvent i e → d ≡ e
+event_one i d e hd he =
+    let ef = exact_rows_event i.ctx.event_type i.ctx.post_header_len i.ctx.write_rows_post_header_len in
+    ap (λ (p : RowsEvent × List ℕ). p.0) (ok_is (d, []) (e, []) (sym (ef.again i.rows d hd) ∙ ef.again i.rows e he))
+
+pub decoded_one : (i : Input) (ps qs : List Pair) (e f : Option Fault) → Decodes i ps e → Decodes i qs f → (ps ≡ qs) × (e ≡ f)
+decoded_one i ps qs e f a b =
+    let t-is = table_one i b.table a.table b.is_table a.is_table in
+    let e-is = event_one i b.event a.event b.is_event a.is_event in
+    let with_event = subst (λ (v : RowsEvent). Covers (grammar_of b.table v) v.rows_data qs f) e-is b.covers in
+    let other = subst (λ (t : TableMap). Covers (grammar_of t a.event) a.event.rows_data qs f) t-is with_event in
+    covers_one (grammar_of a.table a.event) (grammar_sound a.table a.event) a.event.rows_data ps qs e f a.covers other
+
+-- pairs that are together the rows data cover it
+pub all_decode : (i : Input) (parts : List (List ℕ)) (ps : List Pair) → IsAllPairs i parts ps → Decodes i ps None
+all_decode i parts ps h = record {
+  table = h.table;
+  event = h.event;
+  is_table = h.is_table;
+  is_event = h.is_event;
+  covers = record { parts = parts; rest = []; whole = h.whole ∙ sym (append-nil (concat parts)); each = h.each; ending = refl };
+}

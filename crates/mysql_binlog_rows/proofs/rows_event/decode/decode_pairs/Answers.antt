@@ -1,0 +1,23 @@
+use Rattle.std.proofs.Common.{None, sym}
+use Rattle.binlog_table.specs.TableMapExact.{exact_table_map}
+use Rattle.mysql_binlog_rows.specs.RowsEventExact.{exact_rows_event}
+use Rattle.mysql_binlog_rows.proofs.Runs.{if_ok, if_err, decoded_one, all_decode}
+use Rattle.mysql_binlog_rows.proofs.rows_event.decode.decode_pairs.Goals as goal
+
+pub returns-clause-covers : goal.returns-clause-covers
+returns-clause-covers c =
+    let t = (exact_table_map c.args.table_post_header_len).found _ _ _ c.in_ok-table.ensures.parses in
+    let e = (exact_rows_event c.args.ctx.event_type c.args.ctx.post_header_len c.args.ctx.write_rows_post_header_len).found _ _ _ c.in_ok-event.ensures.parses in
+    if_ok c.pairs_of.result _ _ (λ d h. record { table = c.in_ok-table.table; event = c.in_ok-event.event; is_table = t.1; is_event = e.1; covers = h }) c.pairs_of.ensures.covers
+
+pub returns-clause-only : goal.returns-clause-only
+returns-clause-only c = if_ok c.pairs_of.result _ _ (λ d h. λ pairs end other. decoded_one _ pairs _ end _ other h) (returns-clause-covers c)
+
+pub returns-clause-every : goal.returns-clause-every
+returns-clause-every c =
+    if_ok c.pairs_of.result _ _ (λ d h. λ parts pairs all.
+    let one = decoded_one _ pairs _ None _ (all_decode _ parts pairs all) h in
+    (one.0, sym one.1)) (returns-clause-covers c)
+
+pub returns-clause-refused : goal.returns-clause-refused
+returns-clause-refused c = if_err c.pairs_of.result _ _ (λ e memory. λ other. absurd (other memory)) c.pairs_of.ensures.err

@@ -1,0 +1,11 @@
+//! Laws of the pairs of rows, each the contract of a function that does nothing.
+
+ghost use Rattle.mysql_binlog_rows.specs.Laws.{OneListOfPairs, NoProperFront, OneCover};
+
+/// Rows data is a list of pairs in one way: pairs of at least one byte whose bytes together are the same are the same pairs, no such
+/// pair is a proper front of another, and rows data has one cover.
+pub fn pairs_are_unambiguous()
+    ensures one_list { OneListOfPairs }
+    ensures no_proper_front { NoProperFront }
+    ensures one_cover { OneCover }
+{}

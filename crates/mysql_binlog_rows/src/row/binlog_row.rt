@@ -1,0 +1,77 @@
+ghost use Rattle.std.specs.Prelude.{◌≡◌, length, map, IsTrue, ◌↔◌, IfOk};
+ghost use Rattle.std.specs.Option.{option_map};
+ghost use Rattle.std.specs.Rc.{rc_slice_items};
+ghost use Rattle.mysql_binlog_rows.specs.Cells.{cell_of};
+ghost use Rattle.mysql_binlog_rows.specs.Images.{value_at};
+
+use crate::value::BinlogValue;
+use binlog_base::below::Column;
+use std::alloc::AllocError;
+use std::marker::Model;
+use std::rc::RcSlice;
+
+/// A row of an event: a value for each of its columns, none for NULL. Rows of one event share their columns.
+#[derive(Debug, Drop)]
+pub struct BinlogRow {
+    values: Vec<Option<BinlogValue>>,
+    columns: RcSlice<Column>,
+}
+
+impl Model for BinlogRow {
+    ghost use Rattle.std.specs.Prelude.{map};
+    ghost use Rattle.std.specs.Option.{option_map};
+    ghost use Rattle.std.specs.Rc.{rc_slice_items};
+    ghost use Rattle.mysql_binlog_rows.specs.Cells.{cell_of};
+    ghost use Rattle.mysql_binlog_rows.specs.Images as Spec;
+
+    ghost Value = { Spec.BinlogRow };
+
+    ghost view = { λ r. record { columns = rc_slice_items r.columns; values = map (option_map cell_of) r.values.items } };
+}
+
+impl BinlogRow {
+    /// The row of these values and columns.
+    pub fn new(values: Vec<Option<BinlogValue>>, columns: RcSlice<Column>) -> Self
+        ensures { result ≡ record { columns = rc_slice_items columns; values = map (option_map cell_of) values.items } }
+    {
+        BinlogRow { values, columns }
+    }
+
+    /// The count of the values.
+    pub fn len(&self) -> usize
+        ensures { result ≡ length self.now.values }
+    {
+        self.values.len()
+    }
+
+    /// Whether there is no value.
+    pub fn is_empty(&self) -> bool
+        ensures { IsTrue result ↔ (length self.now.values ≡ 0) }
+    {
+        self.values.is_empty()
+    }
+
+    /// The columns.
+    pub fn columns_ref(&self) -> &[Column]
+        ensures { result.now ≡ self.now.columns }
+    {
+        self.columns.as_slice()
+    }
+
+    /// The columns, shared with this row.
+    pub fn columns(&self) -> Result<RcSlice<Column>, AllocError>
+        ensures { IfOk result (λ columns. rc_slice_items columns ≡ self.now.columns) }
+    {
+        self.columns.clone()
+    }
+
+    /// The value of place `index`; none behind the last, or where it is NULL.
+    pub fn as_ref(&self, index: usize) -> Option<&BinlogValue>
+        ensures { option_map (λ v. cell_of v.now) result ≡ value_at self.now.values index }
+    {
+        match self.values.get(index) {
+            Some(Some(value)) => Some(value),
+            _ => None,
+        }
+    }
+}

@@ -3,3 +3,4 @@ pub mod Loop
 pub mod Plans
 pub mod Pairs
 pub mod Runs
+pub mod Equality

@@ -9,3 +9,4 @@ pub mod Laws
 pub mod Rows
 pub mod Columns
 pub mod Decodes
+pub mod Equality

@@ -280,6 +280,28 @@ fn has_columns(pair: &RowPair) -> Result<bool, Fault> {
     }
 }
 
+/// Whether the rows after an insert are equal.
+fn are_equal(pair: &RowPair, other: &RowPair) -> bool {
+    match (pair, other) {
+        ((None, Some(row)), (None, Some(other))) => row == other,
+        _ => false,
+    }
+}
+
+#[test]
+fn equal_rows(rt: HostRuntime) -> Result<(), Fail> {
+    let decoded = inserted(&rt, &two_columns(), &two_rows())?;
+    let again = inserted(&rt, &two_columns(), &two_rows())?;
+    match (decoded.pairs.as_slice(), again.pairs.as_slice()) {
+        ([first, second], [other, _]) => {
+            assert!(rt; are_equal(first, other));
+            assert!(rt; !are_equal(second, other));
+        }
+        _ => assert!(rt; false),
+    }
+    Ok(())
+}
+
 #[test]
 fn columns_of_rows(rt: HostRuntime) -> Result<(), Fail> {
     let decoded = inserted(&rt, &two_columns(), &two_rows())?;

@@ -2,8 +2,12 @@
 
 ghost use Rattle.std.specs.Prelude.{◌≡◌, true, false};
 ghost use Rattle.binlog_base.specs.Format.{Parses};
-ghost use Rattle.mysql_binlog_rows.specs.Cells.{Cell, cell_of, cell, long_cell, text, length_width, varchar_cell};
+ghost use Rattle.mysql_binlog_rows.specs.Cells.{Cell, PlainCell, cell_of, cell, long_cell, text, length_width, varchar_cell};
 ghost use Rattle.mysql_binlog_rows.specs.CellsExact.{exact_cell};
+ghost use Rattle.mysql_binlog_rows.specs.Equality.{same_cell, same_cell_is_equivalence};
+ghost use Rattle.binlog_base.specs.Values.{plain_of};
+ghost use Rattle.std.specs.Ordering.{on};
+ghost use Rattle.std.specs.Cmp.{on_per, partial_equiv_from_equiv};
 
 use binlog_base::below::{
     ColumnType, IntRepr, LeI32, LeU16, LeU32, MyDeserialize, ParseBuf, U8, Value,
@@ -12,10 +16,30 @@ use binlog_base::fault::Fault;
 use std::alloc::Global;
 
 /// The value of a cell.
-#[derive(Debug, PartialEq, Drop)]
+#[derive(Debug, Drop)]
 pub enum BinlogValue {
     /// A plain value.
     Value(Value),
+}
+
+// Whether two plain values are the same.
+fn same_value(a: &Value, b: &Value) -> bool
+    ensures { result ≡ same_cell (PlainCell (plain_of a.now)) (PlainCell (plain_of b.now)) }
+{
+    a == b
+}
+
+/// Two are equal where their cells are the same.
+impl PartialEq for BinlogValue {
+    ghost eq = { on cell_of same_cell };
+
+    ghost laws = { on_per cell_of (partial_equiv_from_equiv same_cell_is_equivalence) };
+
+    fn eq(&self, other: &Self) -> bool {
+        match (self, other) {
+            (BinlogValue::Value(value), BinlogValue::Value(others)) => same_value(value, others),
+        }
+    }
 }
 
 /// Why a value of the binlog is no plain value.

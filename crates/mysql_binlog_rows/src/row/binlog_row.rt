@@ -3,12 +3,26 @@ ghost use Rattle.std.specs.Option.{option_map};
 ghost use Rattle.std.specs.Rc.{rc_slice_items};
 ghost use Rattle.mysql_binlog_rows.specs.Cells.{cell_of};
 ghost use Rattle.mysql_binlog_rows.specs.Images.{value_at};
+ghost use Rattle.mysql_binlog_rows.specs.Equality.{same_cell, same_cell_is_equivalence};
+ghost use Rattle.std.specs.Option.{option_eq};
+ghost use Rattle.std.specs.Ordering.{on, eq_of_both};
+ghost use Rattle.binlog_base.specs.contracts.below.column.ColumnPartialEq.TheImpl.Laws.{laws-law};
+ghost use Rattle.std.specs.Cmp.{and_per, on_per, partial_equiv_from_equiv};
+ghost use Rattle.std.specs.Cmp.Lexicographic.{pointwise, lists_per, options_equiv};
 
 use crate::value::BinlogValue;
 use binlog_base::below::Column;
 use std::alloc::AllocError;
 use std::marker::Model;
 use std::rc::RcSlice;
+
+// Whether the values are the same, place by place.
+#[tactic(auto, using(crate::proofs::Equality::same_values))]
+fn same_values(values: &[Option<BinlogValue>], others: &[Option<BinlogValue>]) -> bool
+    ensures { result ≡ pointwise (option_eq same_cell) (map (option_map cell_of) values.now) (map (option_map cell_of) others.now) }
+{
+    values == others
+}
 
 /// A row of an event: a value for each of its columns, none for NULL. Rows of one event share their columns.
 #[derive(Debug, Drop)]
@@ -27,6 +41,18 @@ impl Model for BinlogRow {
     ghost Value = { Spec.BinlogRow };
 
     ghost view = { λ r. record { columns = rc_slice_items r.columns; values = map (option_map cell_of) r.values.items } };
+}
+
+/// Two rows are equal where their columns are, and their values in order.
+impl PartialEq for BinlogRow {
+    ghost eq = { eq_of_both (on (λ r. r.columns) (pointwise ⟦<Column as PartialEq>⟧.eq)) (on (λ r. r.values) (pointwise (option_eq same_cell))) };
+
+    ghost laws = { and_per (on_per (λ r. r.columns) (lists_per laws-law)) (on_per (λ r. r.values) (lists_per (partial_equiv_from_equiv (options_equiv same_cell_is_equivalence)))) };
+
+    fn eq(&self, other: &Self) -> bool {
+        self.columns.as_slice() == other.columns.as_slice()
+            && same_values(&self.values, &other.values)
+    }
 }
 
 impl BinlogRow {

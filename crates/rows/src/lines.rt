@@ -1,0 +1,192 @@
+//! The lines that the program prints.
+
+ghost use Rattle.std.specs.Prelude.{◌≡◌, Some, length};
+ghost use Rattle.std.specs.Option.{option_map};
+ghost use Rattle.binlog_base.specs.Values.{plain_of};
+ghost use Rattle.mysql_binlog_rows.specs.Cells.{cell_of};
+ghost use Rattle.rows.specs.Lines.{hex_byte, hex_text, plain_text, cell_text, name_text, field_text, fields_text, image_text, lines_text};
+
+use binlog_base::below::{Column, Value};
+use bstr::BStr;
+use mysql_binlog_rows::row::BinlogRow;
+use mysql_binlog_rows::rows_event::RowPair;
+use mysql_binlog_rows::value::BinlogValue;
+use std::fmt;
+
+// A byte as two lower-case hexadecimal digits.
+#[derive(Drop)]
+struct HexByte(u8);
+
+impl fmt::Display for HexByte {
+    ghost output = { λ b. Some (hex_byte b.0) };
+
+    fn fmt<W: fmt::Write>(&self, f: &mut fmt::Formatter<W>) -> fmt::Result {
+        let high = self.0 / 16;
+        let low = self.0 % 16;
+        write!(f, "{high:x}{low:x}")
+    }
+}
+
+// Bytes as lower-case hexadecimal digits.
+#[derive(Drop)]
+struct Hex<'a>(&'a [u8]);
+
+impl fmt::Display for Hex<'_> {
+    ghost output = { λ h. Some (hex_text h.0.now) };
+
+    fn fmt<W: fmt::Write>(&self, f: &mut fmt::Formatter<W>) -> fmt::Result {
+        for byte in self.0 {
+            let digits = HexByte(*byte);
+            write!(f, "{digits}")?;
+        }
+        Ok(())
+    }
+}
+
+// A plain value.
+#[derive(Drop)]
+struct Plain<'a>(&'a Value);
+
+impl fmt::Display for Plain<'_> {
+    ghost output = { λ v. Some (plain_text (plain_of v.0.now)) };
+
+    fn fmt<W: fmt::Write>(&self, f: &mut fmt::Formatter<W>) -> fmt::Result {
+        match self.0 {
+            Value::NULL => write!(f, "NULL"),
+            Value::Bytes(bytes) => {
+                let hex = Hex(bytes);
+                write!(f, "x{hex}")
+            }
+            Value::Int(number) => write!(f, "{number}"),
+            Value::UInt(number) => write!(f, "{number}"),
+            Value::Float(bits) => {
+                let bytes = bits.to_be_bytes();
+                let hex = Hex(&bytes);
+                write!(f, "f32:{hex}")
+            }
+            Value::Double(bits) => {
+                let bytes = bits.to_be_bytes();
+                let hex = Hex(&bytes);
+                write!(f, "f64:{hex}")
+            }
+            Value::Date(year, month, day, hour, minute, second, microseconds) => write!(
+                f,
+                "date({year},{month},{day},{hour},{minute},{second},{microseconds})"
+            ),
+            Value::Time(is_negative, days, hours, minutes, seconds, microseconds) => write!(
+                f,
+                "time({is_negative},{days},{hours},{minutes},{seconds},{microseconds})"
+            ),
+        }
+    }
+}
+
+// A cell, none for NULL.
+#[derive(Drop)]
+struct Cell<'a>(Option<&'a BinlogValue>);
+
+impl fmt::Display for Cell<'_> {
+    ghost output = { λ c. Some (cell_text (option_map (λ v. cell_of v.now) c.0)) };
+
+    fn fmt<W: fmt::Write>(&self, f: &mut fmt::Formatter<W>) -> fmt::Result {
+        match self.0 {
+            None => write!(f, "NULL"),
+            Some(BinlogValue::Value(value)) => {
+                let plain = Plain(value);
+                write!(f, "{plain}")
+            }
+        }
+    }
+}
+
+// The name of a column as lossy text; nothing where there is no column.
+#[derive(Drop)]
+struct Name<'a>(Option<&'a Column>);
+
+impl fmt::Display for Name<'_> {
+    ghost output = { λ n. Some (name_text (option_map (λ c. c.now) n.0)) };
+
+    fn fmt<W: fmt::Write>(&self, f: &mut fmt::Formatter<W>) -> fmt::Result {
+        match self.0 {
+            None => Ok(()),
+            Some(column) => {
+                let name = BStr::new(column.name_ref());
+                write!(f, "{name}")
+            }
+        }
+    }
+}
+
+// The place `index` of a row: its column's name and its cell.
+#[derive(Drop)]
+struct Field<'a> {
+    row: &'a BinlogRow,
+    index: usize,
+}
+
+impl fmt::Display for Field<'_> {
+    ghost output = { λ p. Some (field_text p.row.now p.index) };
+
+    fn fmt<W: fmt::Write>(&self, f: &mut fmt::Formatter<W>) -> fmt::Result {
+        let comma = if self.index == 0 { "" } else { ", " };
+        let name = Name(self.row.columns_ref().get(self.index));
+        let cell = Cell(self.row.as_ref(self.index));
+        write!(f, "{comma}{name}={cell}")
+    }
+}
+
+// The places of a row, one behind the other.
+#[derive(Drop)]
+struct Fields<'a>(&'a BinlogRow);
+
+impl fmt::Display for Fields<'_> {
+    ghost output = { λ r. Some (fields_text r.0.now (length r.0.now.values)) };
+
+    #[tactic(auto, unfolding(crate::specs::Lines::fields_text))]
+    fn fmt<W: fmt::Write>(&self, f: &mut fmt::Formatter<W>) -> fmt::Result {
+        for index in 0..self.0.len() {
+            let field = Field { row: self.0, index };
+            write!(f, "{field}")?;
+        }
+        Ok(())
+    }
+}
+
+// An image of a pair.
+#[derive(Drop)]
+struct Image<'a>(&'a Option<BinlogRow>);
+
+impl fmt::Display for Image<'_> {
+    ghost output = { λ i. Some (image_text i.0.now) };
+
+    fn fmt<W: fmt::Write>(&self, f: &mut fmt::Formatter<W>) -> fmt::Result {
+        match self.0 {
+            None => write!(f, "-"),
+            Some(row) => {
+                let fields = Fields(row);
+                write!(f, "{{{fields}}}")
+            }
+        }
+    }
+}
+
+/// Pairs of rows, a line each: `BEFORE -> AFTER`. An image that isn't there is `-`; else it is `{`, each place as `name=cell` (the
+/// name as lossy text), joined by `, `, and `}`.
+///
+/// A cell is `NULL`, a whole number, `x` and lower-case hexadecimal for bytes, `f32:` or `f64:` and the bits of a float,
+/// `date(year,month,day,hour,minute,second,microseconds)`, or `time(negative,days,hours,minutes,seconds,microseconds)`.
+#[derive(Drop)]
+pub struct Lines<'a>(pub &'a [RowPair]);
+
+impl fmt::Display for Lines<'_> {
+    ghost output = { λ l. Some (lines_text l.0.now) };
+
+    fn fmt<W: fmt::Write>(&self, f: &mut fmt::Formatter<W>) -> fmt::Result {
+        for pair in self.0 {
+            let before = Image(&pair.0);
+            let after = Image(&pair.1);
+            writeln!(f, "{before} -> {after}")?;
+        }
+        Ok(())
+    }
+}

@@ -1,0 +1,324 @@
+use crate::run::run;
+use binlog_base::below::Value;
+use binlog_base::fault::Fault;
+use binlog_consts::consts::EventType;
+use mysql_binlog_rows::rows_event::{RowsEventCtx, decode_pairs};
+use mysql_binlog_rows::value::BinlogValue;
+use std::alloc::{AllocError, Global};
+use std::io;
+use std::io::Write;
+use std::test::Fail;
+
+const USAGE: &str = "usage: rows MLEN TYPE PLEN WLEN MAPHEX ROWSHEX\n";
+
+/// The table d.t of an INT and a VARCHAR column.
+const TABLE: &str = "010000000000010001640001740002030F020A0002";
+
+/// Whether the program, on these words, ends with the status and writes these texts.
+fn prints(
+    alloc: Global,
+    all: &[&str],
+    status: u8,
+    text: &str,
+    usage: &str,
+) -> Result<bool, AllocError> {
+    let mut words = Vec::new(alloc);
+    for word in all {
+        words.push(String::from_str(alloc, word)?)?;
+    }
+    let mut out = Vec::new(alloc);
+    let mut err = Vec::new(alloc);
+    let answer = run(alloc, &words, &mut out, &mut err);
+    Ok(answer == status && out.as_slice() == text.as_bytes() && err.as_slice() == usage.as_bytes())
+}
+
+/// The same of a WRITE_ROWS_EVENT over the table d.t.
+fn prints_rows(alloc: Global, rows: &str, status: u8, text: &str) -> Result<bool, AllocError> {
+    prints(
+        alloc,
+        &["8", "1E", "10", "10", TABLE, rows],
+        status,
+        text,
+        "",
+    )
+}
+
+#[test]
+fn rows_of_a_table(rt: HostRuntime) -> Result<(), Fail> {
+    let cases = [
+        (
+            "010000000000010002000203002A00000002616202FFFFFFFF",
+            0,
+            "- -> {@0=42, @1=x6162}\n- -> {@0=-1, @1=NULL}\n",
+        ),
+        // Digits in either case, and a text of no bytes.
+        (
+            "010000000000010002000203002a0000000002FfffffFF",
+            0,
+            "- -> {@0=42, @1=x}\n- -> {@0=-1, @1=NULL}\n",
+        ),
+        ("010000000000010002000203", 0, ""),
+        // Only the second column is in the image.
+        ("01000000000001000200020200026162", 0, "- -> {@1=x6162}\n"),
+        // The last byte is cut.
+        (
+            "010000000000010002000203002A00000002616202FFFFFF",
+            1,
+            "- -> {@0=42, @1=x6162}\nfault UnexpectedEof\n",
+        ),
+        ("0100000000000100020000", 0, ""),
+        ("010000000000010002000005", 1, "fault EmptyPair\n"),
+        ("0100000000000100020003070700", 1, "fault NoColumnType\n"),
+        ("01000000000001000200FB", 1, "fault BadLenEnc\n"),
+        ("", 1, "fault UnexpectedEof\n"),
+    ];
+    for (rows, status, text) in cases {
+        assert!(rt; prints_rows(rt.alloc(), rows, status, text)?, "{rows}");
+    }
+    Ok(())
+}
+
+#[test]
+fn other_tables(rt: HostRuntime) -> Result<(), Fail> {
+    let rows = "010000000000010002000203002A0000000261620200000000";
+    let cases = [
+        // A deleted row, and optional metadata, aren't carried.
+        ("20", TABLE, 1, "fault Unhandled\n"),
+        (
+            "1E",
+            "010000000000010001640001740002030F020A0002010180",
+            1,
+            "fault Unhandled\n",
+        ),
+        // VARCHAR without metadata, an unknown type, and a string that is none.
+        (
+            "1E",
+            "010000000000010001640001740002030F0002",
+            1,
+            "fault MissingMetadata\n",
+        ),
+        (
+            "1E",
+            "01000000000001000164000174000203F40002",
+            1,
+            "fault UnknownColumnType(244)\n",
+        ),
+        (
+            "1E",
+            "01000000000001000164000174000203FE02110002",
+            1,
+            "fault UnexpectedColumnType(49)\n",
+        ),
+        ("1E", "", 1, "fault UnexpectedEof\n"),
+    ];
+    for (event, table, status, text) in cases {
+        let words = ["8", event, "10", "10", table, rows];
+        assert!(rt; prints(rt.alloc(), &words, status, text, "")?, "{table}");
+    }
+    // The first version of the event, in lower case, with post-header lengths of 6.
+    let words = [
+        "6",
+        "17",
+        "6",
+        "010",
+        "0100000001000164000174000103 0001",
+        "01000000010001010002000000",
+    ];
+    assert!(rt; prints(rt.alloc(), &words, 2, "", USAGE)?);
+    let words = [
+        "6",
+        "17",
+        "6",
+        "010",
+        "01000000010001640001740001030001",
+        "0100000001000101000200 0000",
+    ];
+    assert!(rt; prints(rt.alloc(), &words, 2, "", USAGE)?);
+    let words = [
+        "6",
+        "17",
+        "6",
+        "010",
+        "01000000010001640001740001030001",
+        "01000000010001010002000000",
+    ];
+    assert!(rt; prints(rt.alloc(), &words, 0, "- -> {@0=2}\n", "")?);
+    Ok(())
+}
+
+/// Inserts that a MariaDB 10.11 server wrote, and what its tables then held.
+#[test]
+fn real_inserts(rt: HostRuntime) -> Result<(), Fail> {
+    let cases = [
+        (
+            "e6000000000001000464625f42000278360001030001",
+            "e6000000000001000101fe01000000",
+            "- -> {@0=1}\n",
+        ),
+        (
+            "e7000000000001000464625f42000278370001030001",
+            "e7000000000001000101fe01000000",
+            "- -> {@0=1}\n",
+        ),
+        (
+            "07010000000001000464625f42000378333900010f02500001",
+            "07010000000001000101fe0161",
+            "- -> {@0=x61}\n",
+        ),
+        (
+            "08010000000001000464625f42000378343000010f02ff0001",
+            "08010000000001000101fe0161",
+            "- -> {@0=x61}\n",
+        ),
+        (
+            "0a010000000001000464625f42000378343200010f02fc0001",
+            "0a010000000001000101fe0161",
+            "- -> {@0=x61}\n",
+        ),
+        (
+            "0c010000000001000464625f42000378343400010f02e80301",
+            "0c010000000001000101fe010061",
+            "- -> {@0=x61}\n",
+        ),
+        (
+            "10010000000001000464625f42000378343800010f02100001",
+            "10010000000001000101fe0161",
+            "- -> {@0=x61}\n",
+        ),
+        (
+            "11010000000001000464625f42000378343900010f02ff0001",
+            "11010000000001000101fe0161",
+            "- -> {@0=x61}\n",
+        ),
+        (
+            "12010000000001000464625f42000378353000010f02000101",
+            "12010000000001000101fe010061",
+            "- -> {@0=x61}\n",
+        ),
+        (
+            "e8020000000001000464625f460007706b5f6175746f0002030f02280002",
+            "e8020000000001000203fc020000000162",
+            "- -> {@0=2, @1=x62}\n",
+        ),
+        (
+            "ec020000000001000464625f460007756b5f6f6e6c790003030f0302280003",
+            "ec020000000001000307f802000000016206000000",
+            "- -> {@0=2, @1=x62, @2=6}\n",
+        ),
+        (
+            "f1020000000001000464625f46000367656e000503030f03030228000f",
+            "f102000000000100051fe8020000000400000002763200000000e70700000001000000",
+            "- -> {@0=2, @1=4, @2=x7632, @3=NULL, @4=0}\n- -> {@0=NULL, @1=NULL, @2=NULL, @3=7, @4=1}\n",
+        ),
+        (
+            "f6020000000001000464625f4600036d5f630002030f02280002",
+            "f6020000000001000203fc0b00000002736afc0c00000002736afc0d000000027363",
+            "- -> {@0=11, @1=x736a}\n- -> {@0=12, @1=x736a}\n- -> {@0=13, @1=x7363}\n",
+        ),
+    ];
+    for (table, rows, text) in cases {
+        let words = ["8", "17", "8", "10", table, rows];
+        assert!(rt; prints(rt.alloc(), &words, 0, text, "")?, "{rows}");
+    }
+    Ok(())
+}
+
+#[test]
+fn usage(rt: HostRuntime) -> Result<(), Fail> {
+    let good = ["8", "1E", "10", "10", TABLE, "00"];
+    assert!(rt; prints(rt.alloc(), &[], 2, "", USAGE)?);
+    assert!(rt; prints(rt.alloc(), &good[..5], 2, "", USAGE)?);
+    let seven = ["8", "1E", "10", "10", TABLE, "00", "00"];
+    assert!(rt; prints(rt.alloc(), &seven, 2, "", USAGE)?);
+    // Each word out of its form, in its place.
+    let bad = [
+        (0, "256"),
+        (0, ""),
+        (0, "+8"),
+        (0, "-8"),
+        (1, "29"),
+        (1, "2B"),
+        (1, "1"),
+        (1, "01E"),
+        (1, ""),
+        (2, "1000"),
+        (2, "0010"),
+        (3, "1e1"),
+        (4, "010"),
+        (5, "0g"),
+        (5, "0 "),
+    ];
+    for (place, word) in bad {
+        let mut words = good;
+        words[place] = word;
+        assert!(rt; prints(rt.alloc(), &words, 2, "", USAGE)?, "{word}");
+    }
+    Ok(())
+}
+
+/// An output that takes no byte.
+#[derive(Drop)]
+struct Closed;
+
+impl Write for Closed {
+    fn write(&mut self, _buf: &[u8]) -> io::Result<usize> {
+        Err(io::Error::from(io::ErrorKind::BrokenPipe))
+    }
+
+    fn flush(&mut self) -> io::Result<()> {
+        Ok(())
+    }
+}
+
+/// The status where the output fails.
+fn status_of_closed(alloc: Global) -> Result<u8, AllocError> {
+    let rows = "010000000000010002000203002A00000002616202FFFFFFFF";
+    let mut words = Vec::new(alloc);
+    for word in ["8", "1E", "10", "10", TABLE, rows] {
+        words.push(String::from_str(alloc, word)?)?;
+    }
+    Ok(run(alloc, &words, &mut Closed, &mut Closed))
+}
+
+#[test]
+fn closed_output(rt: HostRuntime) -> Result<(), Fail> {
+    assert_eq!(rt; status_of_closed(rt.alloc())?, 1);
+    Ok(())
+}
+
+/// The numbers in the first column of the rows that a WRITE_ROWS_EVENT inserts; none for NULL, and for what is no number.
+fn first_numbers(alloc: Global, table: &[u8], rows: &[u8]) -> Result<Vec<Option<i64>>, Fault> {
+    let ctx = RowsEventCtx {
+        event_type: EventType::WRITE_ROWS_EVENT,
+        post_header_len: 10,
+        write_rows_post_header_len: 10,
+    };
+    let decoded = decode_pairs(alloc, table, 8, rows, ctx)?;
+    if let Some(fault) = decoded.fault {
+        return Err(fault);
+    }
+    let mut numbers = Vec::new(alloc);
+    for (_, after) in &decoded.pairs {
+        let value = after.as_ref().and_then(|row| row.as_ref(0));
+        numbers.push(match value {
+            Some(BinlogValue::Value(Value::Int(number))) => Some(*number),
+            _ => None,
+        })?;
+    }
+    Ok(numbers)
+}
+
+/// The example of the README.
+#[test]
+fn example(rt: HostRuntime) -> Result<(), Fail> {
+    let table = [
+        1, 0, 0, 0, 0, 0, 1, 0, 1, 0x64, 0, 1, 0x74, 0, 2, 3, 0x0f, 2, 0x0a, 0, 2,
+    ];
+    let rows = [
+        1, 0, 0, 0, 0, 0, 1, 0, 2, 0, 2, 3, 0, 0x2a, 0, 0, 0, 2, 0x61, 0x62, 2, 0xff, 0xff, 0xff,
+        0xff,
+    ];
+    let numbers = first_numbers(rt.alloc(), &table, &rows)?;
+    assert!(rt; numbers.as_slice() == [Some(42), Some(-1)].as_slice());
+    Ok(())
+}

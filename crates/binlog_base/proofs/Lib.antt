@@ -3,3 +3,6 @@ pub mod Groups
 pub mod Lossy
 pub mod BitLists
 pub mod Ambiguity
+pub mod Telling
+pub mod PackedTelling
+pub mod Known

@@ -16,3 +16,5 @@ pub mod BitsExact
 pub mod Failures
 pub mod Values
 pub mod Laws
+pub mod PackedTimes
+pub mod PackedTimesExact

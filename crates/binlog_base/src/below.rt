@@ -7,14 +7,18 @@ mod column;
 mod column_flags;
 mod column_type;
 mod constant;
+mod counted;
 mod geometry;
 mod int;
 mod length;
 mod little_endian;
+mod once;
 mod row;
 mod skip;
+mod source_numbers;
 mod streams;
 mod string;
+mod transfers;
 mod value;
 
 pub use big_endian::{BeI16, BeI24, BeI32, BeU16, BeU24, BeU32, BeU40, BeU48};
@@ -23,14 +27,18 @@ pub use column::Column;
 pub use column_flags::ColumnFlags;
 pub use column_type::{ColumnType, UnknownColumnType};
 pub use constant::{Const, Constant, RawFlags};
+pub use counted::Counted;
 pub use geometry::{GeometryType, UnknownGeometryType};
 pub use int::{IntRepr, RawInt};
 pub use length::{LenEnc, VarLen, lenenc_int_len};
 pub use little_endian::{
     I8, LeI16, LeI24, LeI32, LeI48, LeI64, LeU16, LeU24, LeU32, LeU48, LeU64, U8,
 };
+pub use once::{ReadOnce, WriteOnce};
 pub use row::{Row, new_row_raw};
 pub use skip::Skip;
+pub use source_numbers::{read_big_number, read_signed_big_number};
 pub use streams::{Failed, Sink, Source};
 pub use string::{BareBytes, BytesRepr, EofBytes, RawBytes, U8Bytes};
+pub use transfers::{read_exact, write_all};
 pub use value::Value;

@@ -5,5 +5,6 @@ pub mod below;
 pub mod bits;
 pub mod fault;
 pub mod laws;
+pub mod misc;
 #[cfg(test)]
 mod tests;

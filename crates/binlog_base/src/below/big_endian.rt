@@ -15,7 +15,7 @@ use byteorder::{BigEndian, ByteOrder};
 use std::alloc::AllocError;
 
 // The number in the first bytes, the highest first.
-fn read_big(bytes: &[u8], width: usize) -> u64
+pub(super) fn read_big(bytes: &[u8], width: usize) -> u64
     requires some { 1 ≤ width }
     requires most { width ≤ 8 }
     requires there { width ≤ length bytes.now }
@@ -26,7 +26,7 @@ fn read_big(bytes: &[u8], width: usize) -> u64
 }
 
 // The same in two's complement.
-fn read_signed_big(bytes: &[u8], width: usize) -> i64
+pub(super) fn read_signed_big(bytes: &[u8], width: usize) -> i64
     requires some { 1 ≤ width }
     requires most { width ≤ 8 }
     requires there { width ≤ length bytes.now }

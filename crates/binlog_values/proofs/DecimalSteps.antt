@@ -1,0 +1,242 @@
+-- The steps of the loops over digits and bytes of decimals.
+use Rattle.std.proofs.Common.{◌≡◌, ℕ, zero, suc, ◌+◌, ◌-◌, ◌*◌, ◌/◌, ◌%◌, ◌^◌, ◌<◌, ◌≤◌, Bool, true, false, List, [], ◌∷◌, ◌++◌, length, get_or, take, drop, set, map, replicate, Result, Ok, Err, refl, sym, ap, subst, ◌∙◌, append_assoc, append-nil, arith}
+use Rattle.std.specs.Prelude.{slice_index, ◌&&◌}
+use Rattle.std.specs.Int.{bytes_high_first}
+use Rattle.binlog_values.specs.DecimalMasks.{masked, is_nil, masked-append, masked-nil}
+use Rattle.std.specs.List.{list_all}
+use Rattle.std.specs.Prelude.{◌==◌}
+use Rattle.std.specs.Int.Digits.{AllBelowBase, number_from_digits}
+use Rattle.std.proofs.Math.Dec.{eqb-suc-zero}
+use Rattle.std.proofs.Math.Nat.{pow-le-pow_right}
+use Rattle.std.proofs.lemmas.Int.Digits.{number_more, number_lt}
+use Rattle.std.proofs.lemmas.List.{length-take-le, length-drop, take_all, take-append-drop, drop_all, drop_more, take_more, set_at, get_or_at, map-append, length-map}
+use Rattle.byteorder.specs.Endian.{big_bytes}
+use Rattle.binlog_base.specs.declared.fault.Fault.{Fault}
+use Rattle.binlog_values.specs.Decimals.{group_width, group_bytes, grouped, integer_groups, without_zero_groups}
+use Rattle.binlog_values.specs.DecimalCuts.{places, IsCut, below-front, below-back, length-places, below-places, number-places, bytes-places, same_digits, number-group_bytes, length-group_bytes, cut-group, group-cut, cut-append, cut-parts, cut-length, cut-nil, bytes_in, digits_in}
+use Rattle.binlog_values.specs.DecimalReads.{Unpacks}
+
+-- ---- numbers of digits
+
+pub below-take : (base i : ℕ) (ds : List ℕ) → AllBelowBase base ds → AllBelowBase base (take i ds)
+below-take base i ds h = below-front base (take i ds) (drop i ds) (subst (AllBelowBase base) (sym (take-append-drop i ds)) h)
+
+pub below-drop : (base i : ℕ) (ds : List ℕ) → AllBelowBase base ds → AllBelowBase base (drop i ds)
+below-drop base i ds h = below-back base (take i ds) (drop i ds) (subst (AllBelowBase base) (sym (take-append-drop i ds)) h)
+
+-- bytes are below 256
+pub below-bytes : (xs : List ℕ) → ((k : ℕ) → slice_index xs k < 256) → AllBelowBase 256 xs
+below-bytes [] h = tt
+below-bytes (x ∷ xs) h = (h 0, below-bytes xs (λ k. h (suc k)))
+
+next_below : (base i : ℕ) (ds : List ℕ) → 1 ≤ base → i < length ds → AllBelowBase base ds → base ^ length ds ≤ 2 ^ 32 → number_from_digits base (take i ds) * base + get_or ds i 0 < 2 ^ 32
+next_below base i ds some within below fits =
+    let more = number_more base ds i within in
+    let low = number_lt base (take (i + 1) ds) (below-take base (i + 1) ds below) in
+    let long : length (take (i + 1) ds) ≤ length ds = omega (arith, length-take-le (i + 1) ds (omega arith)) in
+    let power : base ^ length (take (i + 1) ds) ≤ base ^ length ds = pow-le-pow_right (omega arith) long in
+    omega (arith, more, low, power, fits)
+
+-- one more digit stays below the bound
+pub number-step : (base i n : ℕ) (ds : List ℕ) → n ≡ number_from_digits base (take i ds) → 1 ≤ base → i < length ds → AllBelowBase base ds → base ^ length ds ≤ 2 ^ 32 → n * base + get_or ds i 0 < 2 ^ 32
+number-step base i n ds is some within below fits = subst (λ (m : ℕ). m * base + get_or ds i 0 < 2 ^ 32) (sym is) (next_below base i ds some within below fits)
+
+pub ten-fits : (k : ℕ) → k ≤ 9 → 10 ^ k ≤ 2 ^ 32
+ten-fits k most = let h : 10 ^ k ≤ 10 ^ 9 = pow-le-pow_right (omega arith) most in omega (arith, h)
+
+pub bytes-fit : (k : ℕ) → k ≤ 4 → 256 ^ k ≤ 2 ^ 32
+bytes-fit k most = let h : 256 ^ k ≤ 256 ^ 4 = pow-le-pow_right (omega arith) most in omega (arith, h)
+
+-- ---- bytes that are mapped in place
+
+pub mapped-more : (f : ℕ → ℕ) (xs ys : List ℕ) (i : ℕ) → i < length xs → ys ≡ map f (take i xs) ++ drop i xs → set ys i (f (get_or ys i 0)) ≡ map f (take (i + 1) xs) ++ drop (i + 1) xs
+mapped-more f xs ys i within is =
+    let x = get_or xs i 0 in
+    let front : length (map f (take i xs)) ≡ i = length-map (take i xs) f ∙ length-take-le i xs (omega arith) in
+    let split : ys ≡ map f (take i xs) ++ x ∷ drop (i + 1) xs = is ∙ ap (λ (l : List ℕ). map f (take i xs) ++ l) (drop_more xs i 0 within) in
+    let here : get_or ys i 0 ≡ x = ap (λ (l : List ℕ). get_or l i 0) split ∙ get_or_at (map f (take i xs)) x (drop (i + 1) xs) 0 i front in
+    let written : set ys i (f (get_or ys i 0)) ≡ map f (take i xs) ++ f x ∷ drop (i + 1) xs =
+    ap (λ (y : ℕ). set ys i (f y)) here ∙ ap (λ (l : List ℕ). set l i (f x)) split ∙ set_at (map f (take i xs)) x (drop (i + 1) xs) (f x) i front in
+    let taken : map f (take (i + 1) xs) ≡ map f (take i xs) ++ f x ∷ [] = ap (map f) (take_more xs i 0 within) ∙ map-append f (take i xs) (x ∷ []) in
+    written ∙ sym (ap (λ (l : List ℕ). l ++ drop (i + 1) xs) taken ∙ append_assoc (map f (take i xs)) (f x ∷ []) (drop (i + 1) xs))
+
+pub mapped-all : (f : ℕ → ℕ) (xs ys : List ℕ) (i : ℕ) → length xs ≤ i → ys ≡ map f (take i xs) ++ drop i xs → ys ≡ map f xs
+mapped-all f xs ys i all is =
+    is ∙ ap (λ (l : List ℕ). map f l ++ drop i xs) (take_all i xs all) ∙ ap (λ (l : List ℕ). map f xs ++ l) (drop_all i xs all) ∙ append-nil (map f xs)
+
+-- the digits of a number, one digit more
+pub places-push : (base count n : ℕ) → 0 < count → places base count n ≡ places base (count - 1) (n / base) ++ (n % base) ∷ []
+places-push base zero n some = absurd (omega arith)
+places-push base (suc count) n some = let e : suc count - 1 ≡ count = omega arith in rw e refl
+
+-- ---- groups that are all zeros
+
+abbrev all_zeros : List ℕ → Bool
+all_zeros ds = list_all (λ d. d == 0) ds
+
+zeros_stop : (size : ℕ) (sizes ds : List ℕ) → all_zeros (take size ds) ≡ false → without_zero_groups (size ∷ sizes) ds ≡ ds
+unfolding without_zero_groups
+zeros_stop size sizes ds h = rw h refl
+
+zeros_more : (size : ℕ) (sizes ds : List ℕ) → all_zeros (take size ds) ≡ true → without_zero_groups (size ∷ sizes) ds ≡ without_zero_groups sizes (drop size ds)
+unfolding without_zero_groups
+zeros_more size sizes ds h = rw h refl
+
+zeros_end : (ds : List ℕ) → without_zero_groups [] ds ≡ ds
+unfolding without_zero_groups
+zeros_end ds = refl
+
+-- groups of nine digits, one fewer
+pub nines-of : (xs rest : List ℕ) → 9 ≤ length xs → rest ≡ drop 9 xs → replicate {A = ℕ} (length xs / 9) 9 ≡ 9 ∷ replicate {A = ℕ} (length rest / 9) 9
+nines-of xs rest some is =
+    let long : length rest ≡ length xs - 9 = ap length is ∙ length-drop 9 xs in
+    let count : length xs / 9 ≡ suc (length rest / 9) = omega arith in
+    ap (λ (n : ℕ). replicate {A = ℕ} n 9) count
+
+-- the bytes of such groups
+pub fours-of : (xs rest : List ℕ) → 4 ≤ length xs → rest ≡ drop 4 xs → replicate {A = ℕ} (length xs / 4) 9 ≡ 9 ∷ replicate {A = ℕ} (length rest / 4) 9
+fours-of xs rest some is =
+    let long : length rest ≡ length xs - 4 = ap length is ∙ length-drop 4 xs in
+    let count : length xs / 4 ≡ suc (length rest / 4) = omega arith in
+    ap (λ (n : ℕ). replicate {A = ℕ} n 9) count
+
+pub trim-stop : (ds front : List ℕ) (r : Bool) → front ≡ take (length ds % 9) ds → r ≡ all_zeros front → r ≡ false → ds ≡ without_zero_groups (integer_groups (length ds)) ds
+trim-stop ds front r is zeros other = sym (zeros_stop (length ds % 9) (replicate (length ds / 9) 9) ds (sym (zeros ∙ ap all_zeros is) ∙ other))
+
+pub trim-start : (ds front left : List ℕ) (r : Bool) → front ≡ take (length ds % 9) ds → left ≡ drop (length ds % 9) ds → r ≡ all_zeros front → r ≡ true → (9 * (length left / 9) ≡ length left) × (without_zero_groups (replicate (length left / 9) 9) left ≡ without_zero_groups (integer_groups (length ds)) ds)
+trim-start ds front left r is rest zeros same =
+    let long : length left ≡ length ds - length ds % 9 = ap length rest ∙ length-drop (length ds % 9) ds in
+    let count : length left / 9 ≡ length ds / 9 = omega arith in
+    (omega arith, ap (λ (n : ℕ). without_zero_groups (replicate n 9) left) count ∙ ap (without_zero_groups (replicate (length ds / 9) 9)) rest ∙ sym (zeros_more (length ds % 9) (replicate (length ds / 9) 9) ds (sym (zeros ∙ ap all_zeros is) ∙ same)))
+
+pub trim-here : (left front : List ℕ) (r : Bool) → 9 ≤ length left → front ≡ take 9 left → r ≡ all_zeros front → r ≡ false → without_zero_groups (replicate (length left / 9) 9) left ≡ left
+trim-here left front r some is zeros other =
+    ap (λ (sizes : List ℕ). without_zero_groups sizes left) (nines-of left (drop 9 left) some refl) ∙ zeros_stop 9 (replicate (length (drop 9 left) / 9) 9) left (sym (zeros ∙ ap all_zeros is) ∙ other)
+
+pub trim-step : (left front rest : List ℕ) (r : Bool) → 9 ≤ length left → 9 * (length left / 9) ≡ length left → front ≡ take 9 left → rest ≡ drop 9 left → r ≡ all_zeros front → r ≡ true → (9 * (length rest / 9) ≡ length rest) × (without_zero_groups (replicate (length rest / 9) 9) rest ≡ without_zero_groups (replicate (length left / 9) 9) left)
+trim-step left front rest r some whole is after zeros same =
+    let long : length rest ≡ length left - 9 = ap length after ∙ length-drop 9 left in
+    (omega arith, ap (without_zero_groups (replicate (length rest / 9) 9)) after ∙ sym (ap (λ (sizes : List ℕ). without_zero_groups sizes left) (nines-of left rest some after) ∙ zeros_more 9 (replicate (length rest / 9) 9) left (sym (zeros ∙ ap all_zeros is) ∙ same)))
+
+pub trim-end : (left : List ℕ) → 9 * (length left / 9) ≡ length left → length left < 9 → without_zero_groups (replicate (length left / 9) 9) left ≡ left
+trim-end left whole low =
+    let none : length left / 9 ≡ 0 = omega arith in
+    ap (λ (n : ℕ). without_zero_groups (replicate n 9) left) none ∙ zeros_end left
+
+-- ---- groups that are written
+
+pub last_bytes : (w n : ℕ) → w ≤ 4 → take w (drop (4 - w) (bytes_high_first 4 n)) ≡ bytes_high_first w n
+last_bytes zero n h = refl
+last_bytes (suc zero) n h = refl
+last_bytes (suc (suc zero)) n h = refl
+last_bytes (suc (suc (suc zero))) n h = refl
+last_bytes (suc (suc (suc (suc zero)))) n h = refl
+last_bytes (suc (suc (suc (suc (suc w))))) n h = absurd (omega arith)
+
+some_group : (ds : List ℕ) → 0 < length ds → is_nil (group_bytes ds) ≡ false
+some_group ds some = not_nil (group_bytes ds) (omega (arith, length-group_bytes ds))
+  where
+    not_nil : (xs : List ℕ) → 0 < length xs → is_nil xs ≡ false
+    not_nil [] h = absurd (omega arith)
+    not_nil (x ∷ xs) h = refl
+
+and_false : (b : Bool) → (b && false) ≡ false
+and_false true = refl
+and_false false = refl
+
+-- the first of groups of nine digits, and those behind it
+pub nines-masked : (negative front : Bool) (left group rest : List ℕ) → 9 ≤ length left → group ≡ take 9 left → rest ≡ drop 9 left → masked negative front (grouped (replicate (length left / 9) 9) left) ≡ masked negative front (group_bytes group) ++ masked negative false (grouped (replicate (length rest / 9) 9) rest)
+unfolding grouped
+nines-masked negative front left group rest some is after =
+    let count : 0 < length group = omega (arith, ap length is, length-take-le 9 left some) in
+    let parts : grouped (replicate (length left / 9) 9) left ≡ group_bytes group ++ grouped (replicate (length rest / 9) 9) rest =
+    ap (λ (sizes : List ℕ). grouped sizes left) (nines-of left rest some after)
+    ∙ ap (λ (l : List ℕ). group_bytes l ++ grouped (replicate (length rest / 9) 9) (drop 9 left)) (sym is)
+    ∙ ap (λ (l : List ℕ). group_bytes group ++ grouped (replicate (length rest / 9) 9) l) (sym after) in
+    let later : (front && is_nil (group_bytes group)) ≡ false = ap (λ (b : Bool). front && b) (some_group group count) ∙ and_false front in
+    ap (masked negative front) parts ∙ masked-append negative front (group_bytes group) (grouped (replicate (length rest / 9) 9) rest)
+    ∙ ap (λ (b : Bool). masked negative front (group_bytes group) ++ masked negative b (grouped (replicate (length rest / 9) 9) rest)) later
+
+pub nines-none : (negative front : Bool) (left : List ℕ) → length left ≡ 0 → masked negative front (grouped (replicate (length left / 9) 9) left) ≡ []
+unfolding grouped
+nines-none negative front left none =
+    let count : length left / 9 ≡ 0 = omega arith in
+    ap (λ (n : ℕ). masked negative front (grouped (replicate n 9) left)) count ∙ masked-nil negative front
+
+-- ---- groups that are read
+
+-- the digits of a group's number have its bytes
+pub group_bytes-places : (size : ℕ) (bytes : List ℕ) → AllBelowBase 256 bytes → length bytes ≡ group_width size → number_from_digits 256 bytes < 10 ^ size → group_bytes (places 10 size (number_from_digits 256 bytes)) ≡ bytes
+group_bytes-places size bytes below long low =
+    let n = number_from_digits 256 bytes in
+    let w = group_width size in
+    let count : length (places 10 size n) ≡ size = length-places 10 size n in
+    let held : number_from_digits 10 (places 10 size n) ≡ n = number-places 10 size n (omega arith) low in
+    let fits : n < 256 ^ w = subst (λ (k : ℕ). n < 256 ^ k) long (number_lt 256 bytes below) in
+    ap (λ (k : ℕ). big_bytes (group_width k) (number_from_digits 10 (places 10 size n))) count ∙ ap (big_bytes w) held ∙ bytes-places w n
+    ∙ same_digits 256 (places 256 w n) bytes (length-places 256 w n ∙ sym long) (below-places 256 w n (omega arith)) below (number-places 256 w n (omega arith) fits)
+
+pub group-unpacked : {X : Type 0} (x : X) (size : ℕ) (bytes old new : List ℕ) → AllBelowBase 256 bytes → length bytes ≡ group_width size → number_from_digits 256 bytes < 10 ^ size → new ≡ old ++ places 10 size (number_from_digits 256 bytes) → Unpacks (Ok x) (size ∷ []) bytes old new
+group-unpacked x size bytes old new below long low is =
+    let digits = places 10 size (number_from_digits 256 bytes) in
+    (digits, is, cut-group size bytes digits (below-places 10 size (number_from_digits 256 bytes) (omega arith)) (length-places 10 size (number_from_digits 256 bytes)) (group_bytes-places size bytes below long low))
+
+pub group-refused : (size : ℕ) (bytes : List ℕ) → size ≤ 9 → 10 ^ size ≤ number_from_digits 256 bytes → (digits : List ℕ) → IsCut (size ∷ []) bytes digits → ⊥
+group-refused size bytes most high digits h =
+    let held : number_from_digits 256 bytes ≡ number_from_digits 10 digits = ap (number_from_digits 256) (sym (group-cut size bytes digits h)) ∙ number-group_bytes digits h.below (omega (arith, h.count)) in
+    let long : length digits ≡ size = omega (arith, h.count) in
+    let low : number_from_digits 10 digits < 10 ^ size = subst (λ (k : ℕ). number_from_digits 10 digits < 10 ^ k) long (number_lt 10 digits h.below) in
+    omega (arith, held, low, high)
+
+-- groups behind groups
+pub unpacks-then : {X Y : Type 0} (a b x y old mid new : List ℕ) (u : X) (r : Result Y Fault) → Unpacks (Ok u) a x old mid → Unpacks r b y mid new → Unpacks r (a ++ b) (x ++ y) old new
+unpacks-then a b x y old mid new u (Ok v) h k =
+    (h.0 ++ k.0, k.1 ∙ ap (λ (l : List ℕ). l ++ k.0) h.1 ∙ append_assoc old h.0 k.0, cut-append a b x y h.0 k.0 h.2 k.2)
+unpacks-then a b x y old mid new u (Err e) h k =
+    λ other. ((k other).0, λ ds c. (k other).1 (drop (digits_in a) ds) (cut-parts a b x y ds (cut-length a x h.0 h.2) c).1)
+
+pub unpacks-stop : (X Y : Type 0) (a b x y old mid new : List ℕ) (e : Fault) → length x ≡ bytes_in a → Unpacks {X = X} (Err e) a x old mid → Unpacks {X = Y} (Err e) (a ++ b) (x ++ y) old new
+unpacks-stop X Y a b x y old mid new e long h =
+    λ other. ((h other).0, λ ds c. (h other).1 (take (digits_in a) ds) (cut-parts a b x y ds long c).0)
+
+pub unpacks-nil : {X : Type 0} (x : X) (old : List ℕ) → Unpacks (Ok x) [] [] old old
+unpacks-nil x old = ([], sym (append-nil old), cut-nil)
+
+-- groups of nine digits: the first of them, and those behind it
+abbrev UnpacksNines : (X : Type 0) → Result X Fault → List ℕ → List ℕ → List ℕ → Type 0
+UnpacksNines X r left old new = Unpacks r (replicate (length left / 4) 9) left old new
+
+as_nines : (X : Type 0) (r : Result X Fault) (left group rest old new : List ℕ) → 4 ≤ length left → group ≡ take 4 left → rest ≡ drop 4 left → Unpacks r (9 ∷ replicate (length rest / 4) 9) (group ++ rest) old new → UnpacksNines X r left old new
+as_nines X r left group rest old new some is after h =
+    let all : group ++ rest ≡ left = ap (λ (l : List ℕ). l ++ rest) is ∙ ap (λ (l : List ℕ). take 4 left ++ l) after ∙ take-append-drop 4 left in
+    let sizes : 9 ∷ replicate (length rest / 4) 9 ≡ replicate (length left / 4) 9 = sym (fours-of left rest some after) in
+    subst (λ (l : List ℕ). Unpacks r (replicate (length left / 4) 9) l old new) all (subst (λ (s : List ℕ). Unpacks r s (group ++ rest) old new) sizes h)
+
+pub nines-then : (X Y : Type 0) (left group rest old mid new : List ℕ) (u : X) (r : Result Y Fault) → 4 ≤ length left → group ≡ take 4 left → rest ≡ drop 4 left → Unpacks (Ok u) (9 ∷ []) group old mid → UnpacksNines Y r rest mid new → UnpacksNines Y r left old new
+nines-then X Y left group rest old mid new u r some is after h k =
+    as_nines Y r left group rest old new some is after (unpacks-then (9 ∷ []) (replicate (length rest / 4) 9) group rest old mid new u r h k)
+
+pub nines-stop : (X Y : Type 0) (left group rest old mid new : List ℕ) (e : Fault) → 4 ≤ length left → group ≡ take 4 left → rest ≡ drop 4 left → Unpacks {X = X} (Err e) (9 ∷ []) group old mid → UnpacksNines Y (Err e) left old new
+nines-stop X Y left group rest old mid new e some is after h =
+    let width : length group ≡ 4 = ap length is ∙ length-take-le 4 left some in
+    as_nines Y (Err e) left group rest old new some is after (unpacks-stop X Y (9 ∷ []) (replicate (length rest / 4) 9) group rest old mid new e width h)
+
+pub nines-end : (X : Type 0) (x : X) (left old : List ℕ) → length left ≡ 0 → UnpacksNines X (Ok x) left old old
+nines-end X x [] old none = unpacks-nil x old
+nines-end X x (b ∷ left) old none = absurd (omega arith)
+
+-- what a test for an empty slice says
+pub some_left : (n : ℕ) → false ≡ (n == 0) → 0 < n
+some_left zero h = absurd cc
+some_left (suc n) h = omega arith
+
+pub none_left : (n : ℕ) → true ≡ (n == 0) → n ≡ 0
+none_left zero h = refl
+none_left (suc n) h = let other = eqb-suc-zero n in absurd cc
+
+-- the last of four bytes are those of a group
+pub group-slice : (w n : ℕ) (ds bytes : List ℕ) → bytes ≡ bytes_high_first 4 n → w ≡ group_width (length ds) → n ≡ number_from_digits 10 ds → take (4 - (4 - w)) (drop (4 - w) bytes) ≡ group_bytes ds
+group-slice w n ds bytes is width value =
+    let count : 4 - (4 - w) ≡ w = omega arith in
+    ap (λ (k : ℕ). take k (drop (4 - w) bytes)) count ∙ ap (λ (l : List ℕ). take w (drop (4 - w) l)) is ∙ last_bytes w n (omega arith)
+    ∙ ap (λ (k : ℕ). bytes_high_first k n) width ∙ ap (bytes_high_first (group_width (length ds))) value

@@ -1,0 +1,5 @@
+pub mod DecimalSteps
+pub mod DecimalTelling
+pub mod DecimalTexts
+pub mod DecimalPrinting
+pub mod DecimalRanges

@@ -1,0 +1,11 @@
+pub mod Times
+pub mod TimeText
+pub mod Decimals
+pub mod DecimalCuts
+pub mod DecimalMasks
+pub mod DecimalReads
+pub mod PackedDecimals
+pub mod PackedDecimalsExact
+pub mod DecimalLaws
+pub mod DecimalText
+pub mod DecimalParses

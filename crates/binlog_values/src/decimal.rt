@@ -1,0 +1,105 @@
+//! Decimals of MySQL: their packed bytes and their text.
+
+ghost use Rattle.std.specs.Prelude.{◌≡◌, ◌≤◌, ◌<◌, ◌+◌, ◌-◌, ◌^◌, ℕ, [], ◌∷◌, length, OnOk, IfOk};
+ghost use Rattle.binlog_values.specs.Decimals.{DecimalView, IsDecimal, packed_size, zero_decimal};
+
+mod group;
+pub mod laws;
+mod mask;
+mod order;
+mod pack;
+mod parse;
+mod read;
+mod show;
+#[cfg(test)]
+mod tests;
+mod unpack;
+
+use group::digits_size;
+pub use parse::ParseDecimalError;
+use std::alloc::{AllocError, Global};
+use std::marker::Model;
+
+/// The number of a group of digits.
+pub type Digit = i32;
+
+/// The digits of a whole group.
+pub const DIG_PER_DEC: usize = 9;
+
+/// The number of values of a whole group.
+pub const DIG_BASE: usize = 1_000_000_000;
+
+/// The bytes of a group of that many digits.
+pub const DIG_TO_BYTES: [u8; 10] = [0, 1, 1, 2, 2, 3, 3, 4, 4, 4];
+
+/// The powers of ten.
+pub const POWERS_10: [Digit; 10] = [
+    1,
+    10,
+    100,
+    1_000,
+    10_000,
+    100_000,
+    1_000_000,
+    10_000_000,
+    100_000_000,
+    1_000_000_000,
+];
+
+/// A decimal: a sign, and digits before and behind the point, at least one of them. Zeros at either end are part of it.
+#[derive(Drop)]
+pub struct Decimal {
+    negative: bool,
+    integer: Vec<u8>,
+    fraction: Vec<u8>,
+}
+
+impl Model for Decimal {
+    ghost Value = { DecimalView };
+
+    ghost view = { λ d. record { negative = d.negative; integer = d.integer.items; fraction = d.fraction.items } };
+
+    ghost invariant = { λ d. IsDecimal (record { negative = d.negative; integer = d.integer.items; fraction = d.fraction.items }) };
+}
+
+impl Decimal {
+    /// Positive zero, of one digit.
+    pub fn default(alloc: Global) -> Result<Decimal, AllocError>
+        ensures { IfOk result (λ d. d ≡ zero_decimal) }
+    {
+        let integer = vec![in alloc; 0u8]?;
+        Ok(Decimal {
+            negative: false,
+            integer,
+            fraction: Vec::new(alloc),
+        })
+    }
+
+    /// The same decimal again.
+    pub fn clone(&self, alloc: Global) -> Result<Decimal, AllocError>
+        ensures { IfOk result (λ d. d ≡ self.now) }
+    {
+        let integer = Vec::from_slice(alloc, &self.integer)?;
+        let fraction = Vec::from_slice(alloc, &self.fraction)?;
+        Ok(Decimal {
+            negative: self.negative,
+            integer,
+            fraction,
+        })
+    }
+
+    /// The bytes of its packed form.
+    pub fn bin_size(&self) -> usize
+        ensures { result ≡ packed_size (length self.now.integer) (length self.now.fraction) }
+    {
+        digits_size(self.integer.len()) + digits_size(self.fraction.len())
+    }
+}
+
+/// The bytes of the packed form of a decimal of `precision` digits, `scale` of them behind the point.
+pub fn decimal_bin_size(precision: usize, scale: usize) -> usize
+    requires { scale ≤ precision }
+    ensures { result ≡ packed_size (precision - scale) scale }
+{
+    digits_size(precision - scale) + digits_size(scale)
+}

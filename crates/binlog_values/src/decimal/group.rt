@@ -1,0 +1,59 @@
+//! Groups of digits, and their numbers.
+
+ghost use Rattle.std.specs.Prelude.{◌≡◌, ◌≤◌, ◌<◌, ◌^◌, ◌++◌, length, OnOk};
+ghost use Rattle.std.specs.Int.Digits.{AllBelowBase, number_from_digits};
+ghost use Rattle.binlog_values.specs.Decimals.{group_width, digits_size};
+ghost use Rattle.binlog_values.specs.DecimalCuts.{places};
+
+use super::{DIG_PER_DEC, DIG_TO_BYTES, POWERS_10};
+use std::alloc::AllocError;
+
+// The bytes of a group of that many digits.
+pub(super) fn group_width(digits: usize) -> usize
+    requires { digits ≤ 9 }
+    ensures { result ≡ group_width digits }
+{
+    usize::from(DIG_TO_BYTES[digits])
+}
+
+// The bytes of that many digits.
+pub(super) fn digits_size(digits: usize) -> usize
+    ensures size { result ≡ digits_size digits }
+    ensures within { result ≤ digits }
+{
+    digits / DIG_PER_DEC * 4 + group_width(digits % DIG_PER_DEC)
+}
+
+// The number that a group of that many digits doesn't reach.
+pub(super) fn power_of_10(digits: usize) -> u64
+    requires { digits ≤ 9 }
+    ensures { result ≡ 10 ^ digits }
+{
+    POWERS_10[digits] as u64
+}
+
+// The number of digits to a base, the highest first.
+pub(super) fn number_of(digits: &[u8], base: u64) -> u64
+    requires below { AllBelowBase base digits.now }
+    requires fits { base ^ length digits.now ≤ 2 ^ 32 }
+    requires base { 1 ≤ base }
+    ensures value { result ≡ number_from_digits base digits.now }
+    ensures fits { result < base ^ length digits.now }
+{
+    let mut number = 0;
+    for digit in digits {
+        number = number * base + u64::from(*digit);
+    }
+    number
+}
+
+// Writes the lowest `count` digits of a number behind the others.
+pub(super) fn push_digits(number: u64, count: usize, digits: &mut Vec<u8>) -> Result<(), AllocError>
+    ensures { OnOk result (digits.new.items ≡ digits.old.items ++ places 10 count number) }
+{
+    if count > 0 {
+        push_digits(number / 10, count - 1, digits)?;
+        digits.push((number % 10) as u8)?;
+    }
+    Ok(())
+}

@@ -1,0 +1,239 @@
+use super::{
+    DIG_BASE, DIG_PER_DEC, DIG_TO_BYTES, Decimal, Digit, POWERS_10, ParseDecimalError,
+    decimal_bin_size,
+};
+use binlog_base::below::{Counted, Failed, Sink};
+use binlog_base::fault::Fault;
+use binlog_base::misc::LimitWrite;
+use std::alloc::Global;
+use std::cmp::Ordering;
+use std::test::Fail;
+
+const LONG: [u8; 7] = [0x81, 0x0d, 0xfb, 0x38, 0xd2, 0x04, 0xd2];
+
+const MINUS: [u8; 7] = [0x7e, 0xf2, 0x04, 0xc7, 0x2d, 0xfb, 0x2d];
+
+const COUNTED: [u8; 9] = [0x0e, 0x04, 0x81, 0x0d, 0xfb, 0x38, 0xd2, 0x04, 0xd2];
+
+// A sink that takes nothing.
+#[derive(Drop)]
+struct Broken {
+    failures: u64,
+}
+
+impl Sink for Broken {
+    ghost failures = { λ b. b.failures };
+
+    fn write_some(&mut self, _buf: &[u8]) -> Result<usize, Failed> {
+        self.failures = self.failures.saturating_add(1);
+        Err(Failed)
+    }
+}
+
+fn shows(rt: &HostRuntime, decimal: &Decimal, wanted: &str) -> Result<bool, Fail> {
+    let text = format!(in rt.alloc(); "{decimal}")?;
+    Ok(text.as_str() == wanted)
+}
+
+fn packs(rt: &HostRuntime, decimal: &Decimal, wanted: &[u8]) -> Result<bool, Fail> {
+    let mut bytes = Vec::new(rt.alloc());
+    let mut sink = Counted::new(&mut bytes);
+    let written = decimal.write_bin(&mut sink);
+    Ok(written == Ok(()) && bytes.as_slice() == wanted && decimal.bin_size() == wanted.len())
+}
+
+// Whether a text is read, and what is printed and packed of it.
+fn reads(rt: &HostRuntime, text: &str, printed: &str, packed: &[u8]) -> Result<bool, Fail> {
+    match Decimal::from_str(rt.alloc(), text) {
+        Ok(decimal) => Ok(shows(rt, &decimal, printed)? && packs(rt, &decimal, packed)?),
+        Err(_) => Ok(false),
+    }
+}
+
+fn is_refused(rt: &HostRuntime, text: &str) -> bool {
+    matches!(
+        Decimal::from_str(rt.alloc(), text),
+        Err(ParseDecimalError::Invalid)
+    )
+}
+
+fn is_refused_whole(rt: &HostRuntime, text: &[u8]) -> bool {
+    matches!(
+        Decimal::parse_str_bytes(rt.alloc(), text),
+        Err(ParseDecimalError::Invalid)
+    )
+}
+
+// What is read of packed bytes, and whether all of them were taken.
+fn unpacked(
+    alloc: Global,
+    bytes: &[u8],
+    precision: usize,
+    scale: usize,
+    keep: bool,
+) -> Result<(Decimal, bool), Fault> {
+    let mut left = bytes;
+    let decimal = Decimal::read_bin(alloc, &mut left, precision, scale, keep)?;
+    Ok((decimal, left.is_empty()))
+}
+
+fn unpacks(
+    rt: &HostRuntime,
+    bytes: &[u8],
+    counts: (usize, usize, bool),
+    wanted: &str,
+) -> Result<bool, Fail> {
+    let (precision, scale, keep) = counts;
+    match unpacked(rt.alloc(), bytes, precision, scale, keep) {
+        Ok((decimal, all)) => Ok(all && shows(rt, &decimal, wanted)?),
+        Err(_) => Ok(false),
+    }
+}
+
+fn refuses(rt: &HostRuntime, bytes: &[u8], precision: usize, scale: usize) -> Option<Fault> {
+    match unpacked(rt.alloc(), bytes, precision, scale, false) {
+        Ok(_) => None,
+        Err(fault) => Some(fault),
+    }
+}
+
+// How two texts compare.
+fn compares(rt: &HostRuntime, one: &str, other: &str) -> Result<Option<Ordering>, Fail> {
+    match (
+        Decimal::from_str(rt.alloc(), one),
+        Decimal::from_str(rt.alloc(), other),
+    ) {
+        (Ok(a), Ok(b)) => Ok(Some(a.try_cmp(rt.alloc(), &b)?)),
+        _ => Ok(None),
+    }
+}
+
+#[test]
+fn decimals_are_packed(rt: HostRuntime) -> Result<(), Fail> {
+    assert!(rt; reads(&rt, "1234567890.1234", "1234567890.1234", &LONG)?);
+    assert!(rt; reads(&rt, "-1234567890.1234", "-1234567890.1234", &MINUS)?);
+    assert_eq!(rt; decimal_bin_size(14, 4), 7);
+    Ok(())
+}
+
+#[test]
+fn packed_decimals_are_read(rt: HostRuntime) -> Result<(), Fail> {
+    let mut left = COUNTED.as_slice();
+    match Decimal::read_packed(rt.alloc(), &mut left, false) {
+        Ok(decimal) => assert!(rt; left.is_empty() && shows(&rt, &decimal, "1234567890.1234")?),
+        Err(_) => assert!(rt; false),
+    }
+    Ok(())
+}
+
+#[test]
+fn zeros_are_kept_or_trimmed(rt: HostRuntime) -> Result<(), Fail> {
+    assert!(rt; unpacks(&rt, &[0x7f, 0xff], (4, 2, false), "-0.00")?);
+    assert!(rt; unpacks(&rt, &[0x7f, 0xff], (4, 2, true), "-0.00")?);
+    assert!(rt; unpacks(&rt, &[0x7f], (2, 0, true), "-0")?);
+    assert!(rt; unpacks(&rt, &[0x7f], (2, 0, false), "0")?);
+    assert!(rt; unpacks(&rt, &[], (0, 0, false), "0")?);
+    Ok(())
+}
+
+#[test]
+fn packed_decimals_are_refused(rt: HostRuntime) {
+    assert!(rt; refuses(&rt, &[0xe4, 0x00], 4, 2) == Some(Fault::DecimalGroup));
+    assert!(rt; refuses(&rt, &[0xe4, 0x00], 2, 4) == Some(Fault::DecimalScale));
+    assert!(rt; refuses(&rt, &[0xe4], 4, 2) == Some(Fault::UnexpectedEof));
+}
+
+#[test]
+fn texts_are_read(rt: HostRuntime) -> Result<(), Fail> {
+    assert!(rt; reads(&rt, "0005", "5", &[0x80 + 5])?);
+    assert!(rt; reads(&rt, ".5", "0.5", &[0x85])?);
+    assert!(rt; reads(&rt, "-0.0", "0.0", &[0x80, 0])?);
+    assert!(rt; reads(&rt, "-.5", "-0.5", &[0x7a])?);
+    assert!(rt; reads(&rt, "5.", "5", &[0x85])?);
+    Ok(())
+}
+
+#[test]
+fn zeros_of_texts_are_kept(rt: HostRuntime) -> Result<(), Fail> {
+    assert!(rt; reads(&rt, "+007", "7", &[0x80, 7])?);
+    assert!(rt; reads(&rt, "0000000007", "7", &[0x87])?);
+    assert!(rt; reads(&rt, "+0000000007", "0000000007", &[0x80, 0, 0, 0, 7])?);
+    assert!(rt; reads(&rt, " 5", "5", &[0x85])?);
+    Ok(())
+}
+
+#[test]
+fn texts_are_refused(rt: HostRuntime) {
+    assert!(rt; is_refused(&rt, "."));
+    assert!(rt; is_refused(&rt, "1.2.3"));
+    assert!(rt; is_refused(&rt, "00-5"));
+    assert!(rt; is_refused_whole(&rt, b" 5"));
+    assert!(rt; !is_refused_whole(&rt, b"5"));
+}
+
+#[test]
+fn bytes_are_texts(rt: HostRuntime) -> Result<(), Fail> {
+    match Decimal::parse_bytes(rt.alloc(), b" 5") {
+        Ok(decimal) => assert!(rt; shows(&rt, &decimal, "5")?),
+        Err(_) => assert!(rt; false),
+    }
+    assert!(rt;
+        matches!(
+            Decimal::parse_bytes(rt.alloc(), &[0xff]),
+            Err(ParseDecimalError::Invalid)
+        )
+    );
+    Ok(())
+}
+
+#[test]
+fn decimals_are_ordered(rt: HostRuntime) -> Result<(), Fail> {
+    assert!(rt; compares(&rt, "1000", "9")? == Some(Ordering::Less));
+    assert!(rt; compares(&rt, ".5", "5")? == Some(Ordering::Equal));
+    assert!(rt; compares(&rt, "-1", "1")? == Some(Ordering::Less));
+    Ok(())
+}
+
+#[test]
+fn default_is_zero(rt: HostRuntime) -> Result<(), Fail> {
+    let zero = Decimal::default(rt.alloc())?;
+    let again = zero.clone(rt.alloc())?;
+    assert!(rt; shows(&rt, &again, "0")?);
+    assert!(rt; packs(&rt, &again, &[0x80])?);
+    Ok(())
+}
+
+#[test]
+fn failing_writers_are_told(rt: HostRuntime) -> Result<(), Fail> {
+    let mut broken = Broken { failures: 0 };
+    let zero = Decimal::default(rt.alloc())?;
+    assert!(rt; zero.write_bin(&mut broken) == Err(Fault::Reader));
+    assert!(rt; broken.failures == 1);
+    if let Ok(one) = Decimal::from_str(rt.alloc(), "1.0") {
+        let mut bytes = Vec::<u8>::new(rt.alloc());
+        let mut sink = Counted::new(bytes.limit(1));
+        assert!(rt; one.write_bin(&mut sink) == Err(Fault::Reader));
+        assert!(rt; sink.failures() == 1);
+    }
+    Ok(())
+}
+
+#[test]
+fn long_decimals_are_read(rt: HostRuntime) -> Result<(), Fail> {
+    let mut nines = String::new(rt.alloc());
+    for _ in 0..5000 {
+        nines.push('9')?;
+    }
+    match Decimal::from_str(rt.alloc(), nines.as_str()) {
+        Ok(decimal) => assert!(rt; shows(&rt, &decimal, nines.as_str())?),
+        Err(_) => assert!(rt; false),
+    }
+    Ok(())
+}
+
+#[test]
+fn constants(rt: HostRuntime) {
+    let most: Digit = 1_000_000_000;
+    assert!(rt; DIG_PER_DEC == 9 && DIG_BASE == 1_000_000_000);
+    assert!(rt; DIG_TO_BYTES[9] == 4 && POWERS_10[9] == most);
+}

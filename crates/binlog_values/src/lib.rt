@@ -1,0 +1,7 @@
+//! The values of MySQL's binary log that are more than bytes: server times and decimals, and their text.
+#![tactic(auto)]
+
+pub mod decimal;
+#[cfg(test)]
+mod tests;
+pub mod time;

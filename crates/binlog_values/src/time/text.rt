@@ -1,0 +1,255 @@
+ghost use Rattle.std.specs.Prelude.{◌≡◌, Some};
+ghost use Rattle.std.specs.List.{flat_map};
+ghost use Rattle.std.specs.Fmt.{decimal};
+ghost use Rattle.binlog_values.specs.TimeText.{two_digits, hours_text, signed_hours_text, date_text, minutes_text, fraction_text, zone_text, datetime_text, text_of};
+
+use super::{MysqlTime, MysqlTimestampType};
+use std::fmt;
+
+// Two digits; 00 for 100 or more.
+#[derive(Drop)]
+struct TwoDigits(u32);
+
+impl fmt::Display for TwoDigits {
+    ghost output = { λ d. Some (two_digits d.0) };
+
+    fn fmt<W: fmt::Write>(&self, f: &mut fmt::Formatter<W>) -> fmt::Result {
+        let number = self.0;
+        if number < 100 {
+            let tens = number / 10;
+            let ones = number % 10;
+            write!(f, "{tens}{ones}")
+        } else {
+            write!(f, "00")
+        }
+    }
+}
+
+// Two digits at least.
+#[derive(Drop)]
+struct Hours(u32);
+
+impl fmt::Display for Hours {
+    ghost output = { λ h. Some (hours_text h.0) };
+
+    fn fmt<W: fmt::Write>(&self, f: &mut fmt::Formatter<W>) -> fmt::Result {
+        let number = self.0;
+        if number < 10 {
+            write!(f, "0{number}")
+        } else {
+            write!(f, "{number}")
+        }
+    }
+}
+
+// Two digits at least, where a minus counts as one.
+#[derive(Drop)]
+struct SignedHours(i32);
+
+impl fmt::Display for SignedHours {
+    ghost output = { λ h. Some (signed_hours_text h.0) };
+
+    fn fmt<W: fmt::Write>(&self, f: &mut fmt::Formatter<W>) -> fmt::Result {
+        let size = self.0.unsigned_abs();
+        if self.0 < 0 {
+            write!(f, "-{size}")
+        } else {
+            let hours = Hours(size);
+            write!(f, "{hours}")
+        }
+    }
+}
+
+// Year, month and day.
+#[derive(Drop)]
+struct Date {
+    year: u32,
+    month: u32,
+    day: u32,
+}
+
+impl fmt::Display for Date {
+    ghost output = { λ d. Some (date_text d.year d.month d.day) };
+
+    fn fmt<W: fmt::Write>(&self, f: &mut fmt::Formatter<W>) -> fmt::Result {
+        let century = TwoDigits(self.year / 100);
+        let year = TwoDigits(self.year % 100);
+        let month = TwoDigits(self.month);
+        let day = TwoDigits(self.day);
+        write!(f, "{century}{year}-{month}-{day}")
+    }
+}
+
+fn date_of(time: &MysqlTime) -> Date
+    ensures year { result.year ≡ time.now.year }
+    ensures month { result.month ≡ time.now.month }
+    ensures day { result.day ≡ time.now.day }
+{
+    Date {
+        year: time.year,
+        month: time.month,
+        day: time.day,
+    }
+}
+
+// What stands behind the hour.
+#[derive(Drop)]
+struct Minutes {
+    minute: u32,
+    second: u32,
+}
+
+impl fmt::Display for Minutes {
+    ghost output = { λ m. Some (minutes_text m.minute m.second) };
+
+    fn fmt<W: fmt::Write>(&self, f: &mut fmt::Formatter<W>) -> fmt::Result {
+        let minute = TwoDigits(self.minute);
+        let second = TwoDigits(self.second);
+        write!(f, ":{minute}:{second}")
+    }
+}
+
+fn minutes_of(time: &MysqlTime) -> Minutes
+    ensures minute { result.minute ≡ time.now.minute }
+    ensures second { result.second ≡ time.now.second }
+{
+    Minutes {
+        minute: time.minute,
+        second: time.second,
+    }
+}
+
+// Numbers below 10, one after the other.
+#[derive(Drop)]
+struct Digits<'a>(&'a [u32]);
+
+impl fmt::Display for Digits<'_> {
+    ghost output = { λ d. Some (flat_map decimal d.0.now) };
+
+    fn fmt<W: fmt::Write>(&self, f: &mut fmt::Formatter<W>) -> fmt::Result {
+        for digit in self.0 {
+            write!(f, "{digit}")?;
+        }
+        Ok(())
+    }
+}
+
+// A point and the first digits of the microseconds, at most six.
+#[derive(Drop)]
+struct Fraction {
+    decimals: usize,
+    microseconds: u32,
+}
+
+impl fmt::Display for Fraction {
+    ghost output = { λ p. Some (fraction_text p.decimals p.microseconds) };
+
+    fn fmt<W: fmt::Write>(&self, f: &mut fmt::Formatter<W>) -> fmt::Result {
+        if self.decimals == 0 {
+            return Ok(());
+        }
+        let u = self.microseconds % 1_000_000;
+        let six = [
+            u / 100_000,
+            u / 10_000 % 10,
+            u / 1000 % 10,
+            u / 100 % 10,
+            u / 10 % 10,
+            u % 10,
+        ];
+        let digits = Digits(&six[..self.decimals.min(6)]);
+        write!(f, ".{digits}")
+    }
+}
+
+fn fraction_of(time: &MysqlTime, decimals: usize) -> Fraction
+    ensures decimals { result.decimals ≡ decimals }
+    ensures microseconds { result.microseconds ≡ time.now.second_part }
+{
+    Fraction {
+        decimals,
+        microseconds: time.second_part,
+    }
+}
+
+// The displacement of a zone, in seconds.
+#[derive(Drop)]
+struct Zone(i32);
+
+impl fmt::Display for Zone {
+    ghost output = { λ z. Some (zone_text z.0) };
+
+    fn fmt<W: fmt::Write>(&self, f: &mut fmt::Formatter<W>) -> fmt::Result {
+        let hours = SignedHours(self.0 / 3600);
+        let minutes = TwoDigits(self.0.unsigned_abs() / 60 % 60);
+        write!(f, "+{hours}:{minutes}")
+    }
+}
+
+// Date and time of day, with as many digits of the fraction as are asked for.
+#[derive(Drop)]
+struct DateTime<'a> {
+    time: &'a MysqlTime,
+    decimals: usize,
+}
+
+impl fmt::Display for DateTime<'_> {
+    ghost output = { λ t. Some (datetime_text t.decimals t.time.now) };
+
+    fn fmt<W: fmt::Write>(&self, f: &mut fmt::Formatter<W>) -> fmt::Result {
+        let date = date_of(self.time);
+        let hour = TwoDigits(self.time.hour);
+        let minutes = minutes_of(self.time);
+        let fraction = fraction_of(self.time, self.decimals);
+        write!(f, "{date} {hour}{minutes}{fraction}")
+    }
+}
+
+// A time with as many digits of its fraction as are asked for.
+#[derive(Drop)]
+pub(super) struct TimeText<'a> {
+    pub(super) time: &'a MysqlTime,
+    pub(super) decimals: usize,
+}
+
+impl fmt::Display for TimeText<'_> {
+    ghost output = { λ t. Some (text_of t.decimals t.time.now) };
+
+    fn fmt<W: fmt::Write>(&self, f: &mut fmt::Formatter<W>) -> fmt::Result {
+        let time = self.time;
+        let decimals = self.decimals;
+        let datetime = DateTime { time, decimals };
+        match time.time_type {
+            MysqlTimestampType::MYSQL_TIMESTAMP_NONE | MysqlTimestampType::MYSQL_TIMESTAMP_ERROR =>
+                Ok(()),
+            MysqlTimestampType::MYSQL_TIMESTAMP_DATE => {
+                let date = date_of(time);
+                write!(f, "{date}")
+            }
+            MysqlTimestampType::MYSQL_TIMESTAMP_DATETIME => write!(f, "{datetime}"),
+            MysqlTimestampType::MYSQL_TIMESTAMP_DATETIME_TZ => {
+                let zone = Zone(time.time_zone_displacement);
+                write!(f, "{datetime}{zone}")
+            }
+            MysqlTimestampType::MYSQL_TIMESTAMP_TIME => {
+                let sign = if time.neg { "-" } else { "" };
+                let hour = Hours(time.hour);
+                let minutes = minutes_of(time);
+                let fraction = fraction_of(time, decimals);
+                write!(f, "{sign}{hour}{minutes}{fraction}")
+            }
+        }
+    }
+}
+
+impl fmt::Display for MysqlTime {
+    ghost output = { λ t. Some (text_of 0 t) };
+
+    fn fmt<W: fmt::Write>(&self, f: &mut fmt::Formatter<W>) -> fmt::Result {
+        let text = TimeText {
+            time: self,
+            decimals: 0,
+        };
+        write!(f, "{text}")
+    }
+}

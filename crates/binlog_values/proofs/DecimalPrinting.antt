@@ -1,33 +1,33 @@
 -- What is read of a printed decimal.
-use Rattle.std.proofs.Common.{◌≡◌, ◌≢◌, ℕ, zero, suc, ◌+◌, ◌-◌, ◌*◌, ◌%◌, ◌<◌, ◌≤◌, min, Bool, true, false, cond, not, List, [], ◌∷◌, ◌++◌, length, take, drop, map, Option, Some, None, refl, sym, ap, subst, ◌∙◌, append_assoc, append-nil, arith, inl, inr, ◌⊎◌}
+use Rattle.std.proofs.Common.{◌≡◌, ◌≢◌, ℕ, zero, suc, ◌+◌, ◌-◌, ◌%◌, ◌<◌, ◌≤◌, min, Bool, true, false, cond, not, List, [], ◌∷◌, ◌++◌, length, take, drop, map, Some, None, refl, sym, ap, subst, ◌∙◌, append_assoc, arith, inl, inr, ◌⊎◌}
 use Rattle.std.specs.Prelude.{◌&&◌, ◌||◌, ◌==◌, nat_le, nat_lt}
 use Rattle.std.specs.List.{list_all, flat_map, prefix_len, take_while, before_first, after_first}
-use Rattle.std.specs.Fmt.{decimal, sign_text}
-use Rattle.std.specs.Int.Digits.{AllBelowBase, number_from_digits, number_from_digits_after}
+use Rattle.std.specs.Fmt.{decimal}
+use Rattle.std.specs.Int.Digits.{AllBelowBase, number_from_digits}
 use Rattle.std.proofs.Math.Dec.{eqb-suc-zero}
-use Rattle.std.proofs.lemmas.Bool.{ltb-true, lt-ltb, le-leb, leb-true}
+use Rattle.std.proofs.lemmas.Bool.{lt-ltb, le-leb, leb-true}
 use Rattle.std.proofs.lemmas.Bool.Decides.{Decides-eqb, Decides-like, same_from_decides}
 use Rattle.std.proofs.lemmas.Fmt.{decimal_digit}
-use Rattle.std.proofs.lemmas.List.{length-append, length-map, length-drop, length-take-le, map-append, take_at, drop_at, drop_all, drop-append-le, drop-map}
+use Rattle.std.proofs.lemmas.List.{length-append, length-map, length-drop, map-append, take_at, drop_at, drop_all, drop-append-le, drop-map}
 use Rattle.std.proofs.lemmas.List.Folds.{length-prefix_len}
 use Rattle.std.proofs.lemmas.List.Sums.{prefix_len-le-length}
 use Rattle.binlog_values.specs.Decimals.{DecimalView}
-use Rattle.binlog_values.specs.DecimalText.{is_digit, is_zero, is_point, digits_of, are_digits, decimal_with, signed_decimal, decimal_of_text, without_leading_zeros, has_minus, unsigned, shown_digits, integer_text, fraction_digits_text, decimal_text}
+use Rattle.binlog_values.specs.DecimalText.{is_digit, is_zero, is_point, digits_of, are_digits, decimal_with, signed_decimal, decimal_of_text, without_leading_zeros, has_minus, unsigned, integer_text, fraction_digits_text, decimal_text}
 use Rattle.binlog_values.specs.DecimalCuts.{below-append}
 use Rattle.binlog_values.specs.DecimalLaws.{IsSameNumber}
-use Rattle.binlog_values.specs.PackedDecimalsExact.{view_of, same_view}
+use Rattle.binlog_values.specs.PackedDecimalsExact.{view_of}
 use Rattle.binlog_values.proofs.DecimalSteps.{below-drop}
 use Rattle.binlog_values.proofs.DecimalTexts.{both_true, all_front, all_back, below-digits_of}
 
 -- ---- digits as text
 
-abbrev chars : List ℕ → List ℕ
+abbrev pub chars : List ℕ → List ℕ
 chars ds = map (λ d. 48 + d) ds
 
-abbrev all_zeros : List ℕ → Bool
+abbrev pub all_zeros : List ℕ → Bool
 all_zeros ds = list_all (λ d. d == 0) ds
 
-glyphs : (ds : List ℕ) → AllBelowBase 10 ds → flat_map decimal ds ≡ chars ds
+pub glyphs : (ds : List ℕ) → AllBelowBase 10 ds → flat_map decimal ds ≡ chars ds
 glyphs [] h = refl
 glyphs (d ∷ ds) h = ap (λ (l : List ℕ). l ++ flat_map decimal ds) (decimal_digit d h.0) ∙ ap (λ (l : List ℕ). (48 + d) ∷ l) (glyphs ds h.1)
 
@@ -47,7 +47,7 @@ alike : (a b c d : ℕ) → (a ≡ b → c ≡ d) → (c ≡ d → a ≡ b) → 
 alike a b c d f g = same_from_decides (a == b) (c == d) (Decides-like (a == b) f g (Decides-eqb a b)) (Decides-eqb c d)
 
 -- a test of two numbers that are not the same
-apart : (a b : ℕ) → a ≢ b → (a == b) ≡ false
+pub apart : (a b : ℕ) → a ≢ b → (a == b) ≡ false
 apart a b h = alike a b 1 0 (λ e. absurd (h e)) (λ e. absurd (omega (arith, e)))
 
 zero_glyph : (d : ℕ) → (48 + d == 48) ≡ (d == 0)
@@ -72,7 +72,7 @@ front_passes p (x ∷ xs) ys h =
     rw b.0 (omega (arith, rest))
 
 -- what stands before the first point of digits, and behind it
-abbrev Behind : List ℕ → List ℕ → Type 0
+abbrev pub Behind : List ℕ → List ℕ → Type 0
 Behind text digits = (text ≡ []) × (digits ≡ []) ⊎ (text ≡ 46 ∷ digits)
 
 none_before : (text digits : List ℕ) → Behind text digits → prefix_len (λ c. not (is_point c)) text ≡ 0
@@ -86,14 +86,14 @@ no_zero_behind text digits (inr h) = ap (prefix_len is_zero) h
 point_at : (ds text digits : List ℕ) → AllBelowBase 10 ds → Behind text digits → prefix_len (λ c. not (is_point c)) (chars ds ++ text) ≡ length (chars ds)
 point_at ds text digits h b = omega (arith, front_passes (λ c. not (is_point c)) (chars ds) text (no_points ds h), none_before text digits b)
 
-before_point : (ds text digits : List ℕ) → AllBelowBase 10 ds → Behind text digits → before_first is_point (chars ds ++ text) ≡ chars ds
+pub before_point : (ds text digits : List ℕ) → AllBelowBase 10 ds → Behind text digits → before_first is_point (chars ds ++ text) ≡ chars ds
 before_point ds text digits h b = ap (λ (n : ℕ). take n (chars ds ++ text)) (point_at ds text digits h b) ∙ take_at (chars ds) text (length (chars ds)) refl
 
 drop_one : (xs ys : List ℕ) (y n : ℕ) → length xs ≡ n → drop (n + 1) (xs ++ y ∷ ys) ≡ ys
 drop_one xs ys y n long =
     ap (drop (n + 1)) (sym (append_assoc xs (y ∷ []) ys)) ∙ drop_at (xs ++ y ∷ []) ys (n + 1) (omega (arith, length-append xs (y ∷ []), long))
 
-behind_point : (ds text digits : List ℕ) → AllBelowBase 10 ds → Behind text digits → after_first is_point (chars ds ++ text) ≡ digits
+pub behind_point : (ds text digits : List ℕ) → AllBelowBase 10 ds → Behind text digits → after_first is_point (chars ds ++ text) ≡ digits
 behind_point ds text digits h b = ap (λ (n : ℕ). drop (n + 1) (chars ds ++ text)) (point_at ds text digits h b) ∙ dropped b
   where
     dropped : Behind text digits → drop (length (chars ds) + 1) (chars ds ++ text) ≡ digits
@@ -102,11 +102,11 @@ behind_point ds text digits h b = ap (λ (n : ℕ). drop (n + 1) (chars ds ++ te
 
 -- ---- digits that are read
 
-read_digits : (minus : Bool) (js fs : List ℕ) → AllBelowBase 10 js → AllBelowBase 10 fs → 0 < length js → decimal_with minus (chars js) (chars fs) ≡ Some (view_of (minus && not (all_zeros (js ++ fs))) js fs)
+pub read_digits : (minus : Bool) (js fs : List ℕ) → AllBelowBase 10 js → AllBelowBase 10 fs → 0 < length js + length fs → decimal_with minus (chars js) (chars fs) ≡ Some (view_of (minus && not (all_zeros (js ++ fs))) js fs)
 read_digits minus js fs h k some =
     let both : chars js ++ chars fs ≡ chars (js ++ fs) = sym (map-append (λ (d : ℕ). 48 + d) js fs) in
     let digits : list_all is_digit (chars js ++ chars fs) ≡ true = ap (list_all is_digit) both ∙ are_glyphs (js ++ fs) (below-append 10 js fs h k) in
-    let long : nat_lt 0 (length (chars js ++ chars fs)) ≡ true = lt-ltb 0 (length (chars js ++ chars fs)) (omega (arith, length-append (chars js) (chars fs), length-map js (λ (d : ℕ). 48 + d))) in
+    let long : nat_lt 0 (length (chars js ++ chars fs)) ≡ true = lt-ltb 0 (length (chars js ++ chars fs)) (omega (arith, length-append (chars js) (chars fs), length-map js (λ (d : ℕ). 48 + d), length-map fs (λ (d : ℕ). 48 + d))) in
     let zeros : list_all is_zero (chars js ++ chars fs) ≡ all_zeros (js ++ fs) = ap (list_all is_zero) both ∙ zero_glyphs (js ++ fs) in
     rw (digits, long, zeros, digits_of-chars js, digits_of-chars fs) refl
 
@@ -115,7 +115,7 @@ read_minus : (js text fs : List ℕ) → AllBelowBase 10 js → AllBelowBase 10 
 read_minus js text fs h k some b =
     ap (λ (l : List ℕ). decimal_with true l (after_first is_point (chars js ++ text))) (before_point js text (chars fs) h b)
     ∙ ap (decimal_with true (chars js)) (behind_point js text (chars fs) h b)
-    ∙ read_digits true js fs h k some
+    ∙ read_digits true js fs h k (omega arith)
 
 -- without a sign
 read_plain : (js text fs : List ℕ) → AllBelowBase 10 js → AllBelowBase 10 fs → 0 < length js → Behind text (chars fs) → signed_decimal (chars js ++ text) ≡ Some (view_of false js fs)
@@ -129,7 +129,7 @@ read_plain (j ∷ js) text fs h k some b =
     ∙ ap (λ (l : List ℕ). decimal_with false (before_first is_point l) (after_first is_point l)) bare
     ∙ ap (λ (l : List ℕ). decimal_with false l (after_first is_point all)) (before_point (j ∷ js) text (chars fs) h b)
     ∙ ap (decimal_with false (chars (j ∷ js))) (behind_point (j ∷ js) text (chars fs) h b)
-    ∙ read_digits false (j ∷ js) fs h k some
+    ∙ read_digits false (j ∷ js) fs h k (omega arith)
 
 -- ---- leading zeros
 
@@ -236,7 +236,7 @@ printed false integer fraction h k signed =
 zero_of : (x : ℕ) → 48 ≤ x → (x == 48) ≡ (x - 48 == 0)
 zero_of x low = alike x 48 (x - 48) 0 (λ e. omega (arith, e)) (λ e. omega (arith, e, low))
 
-zeros_of : (xs ys : List ℕ) → list_all is_digit xs ≡ true → list_all is_digit ys ≡ true → list_all is_zero (xs ++ ys) ≡ all_zeros (digits_of xs ++ digits_of ys)
+pub zeros_of : (xs ys : List ℕ) → list_all is_digit xs ≡ true → list_all is_digit ys ≡ true → list_all is_zero (xs ++ ys) ≡ all_zeros (digits_of xs ++ digits_of ys)
 zeros_of [] [] h k = refl
 zeros_of [] (y ∷ ys) h k =
     let b = both_true (is_digit y) (list_all is_digit ys) k in
@@ -250,7 +250,7 @@ twice true true = refl
 twice true false = refl
 twice false b = refl
 
-guarded : (b : Bool) (v d : DecimalView) → cond b (Some v) None ≡ Some d → (b ≡ true) × (v ≡ d)
+pub guarded : (b : Bool) (v d : DecimalView) → cond b (Some v) None ≡ Some d → (b ≡ true) × (v ≡ d)
 guarded true v d h = (refl, cc)
 guarded false v d h = absurd cc
 

@@ -1,10 +1,10 @@
 -- Bytes are a packed decimal where each group is a number of its digits.
-use Rattle.std.proofs.Common.{◌≡◌, ℕ, zero, suc, ◌+◌, ◌-◌, ◌*◌, ◌^◌, ◌<◌, ◌≤◌, List, [], ◌∷◌, ◌++◌, length, take, drop, refl, sym, ap, subst, ◌∙◌, arith, inl, inr}
+use Rattle.std.proofs.Common.{◌≡◌, ℕ, ◌+◌, ◌^◌, ◌<◌, List, [], ◌∷◌, ◌++◌, length, take, drop, refl, sym, subst, ◌∙◌, arith, inl, inr}
 use Rattle.std.specs.Int.Digits.{AllBelowBase, number_from_digits}
 use Rattle.std.proofs.lemmas.Bool.{cases_lt}
-use Rattle.std.proofs.lemmas.List.{length-append, length-take-le, length-drop, take-append-drop}
-use Rattle.binlog_values.specs.Decimals.{DecimalView, IsPacked, packed_size, digits_size, group_width, integer_groups, fraction_groups, inverted, flipped}
-use Rattle.binlog_values.specs.DecimalCuts.{IsCut, places, ungrouped, digits_in, bytes_in, bytes_in-integer, bytes_in-fraction, below-places, length-places, cut-nil, cut-group, cut-append, cut-parts, below-append}
+use Rattle.std.proofs.lemmas.List.{length-take-le, length-drop, take-append-drop}
+use Rattle.binlog_values.specs.Decimals.{DecimalView, IsPacked, packed_size, digits_size, group_width, integer_groups, fraction_groups, flipped}
+use Rattle.binlog_values.specs.DecimalCuts.{IsCut, places, ungrouped, digits_in, bytes_in, bytes_in-integer, below-places, length-places, cut-nil, cut-group, cut-append, cut-parts}
 use Rattle.binlog_values.specs.DecimalMasks.{unmasked, is_minus, below-flipped, below-inverted, length-inverted, length-flipped}
 use Rattle.binlog_values.specs.PackedDecimalsExact.{groups_of, groups_of-small, bytes_in-groups_of}
 use Rattle.binlog_values.specs.DecimalLaws.{AreInRange}

@@ -3,3 +3,5 @@ pub mod DecimalTelling
 pub mod DecimalTexts
 pub mod DecimalPrinting
 pub mod DecimalRanges
+pub mod DecimalKnown
+pub mod DecimalGrammar

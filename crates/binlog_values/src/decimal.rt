@@ -1,6 +1,6 @@
 //! Decimals of MySQL: their packed bytes and their text.
 
-ghost use Rattle.std.specs.Prelude.{◌≡◌, ◌≤◌, ◌<◌, ◌+◌, ◌-◌, ◌^◌, ℕ, [], ◌∷◌, length, OnOk, IfOk};
+ghost use Rattle.std.specs.Prelude.{◌≡◌, ◌≤◌, ◌+◌, ◌-◌, length, IfOk};
 ghost use Rattle.binlog_values.specs.Decimals.{DecimalView, IsDecimal, packed_size, zero_decimal};
 
 mod group;
@@ -47,7 +47,7 @@ pub const POWERS_10: [Digit; 10] = [
 ];
 
 /// A decimal: a sign, and digits before and behind the point, at least one of them. Zeros at either end are part of it.
-#[derive(Drop)]
+#[derive(Debug, Drop)]
 pub struct Decimal {
     negative: bool,
     integer: Vec<u8>,

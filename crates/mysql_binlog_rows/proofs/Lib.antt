@@ -4,3 +4,4 @@ pub mod Plans
 pub mod Pairs
 pub mod Runs
 pub mod Equality
+pub mod Places

@@ -1,17 +1,29 @@
 //! One cell of a row.
 
+mod bytes;
+mod decimals;
+mod numbers;
+#[cfg(test)]
+mod tests;
+mod times;
+
 ghost use Rattle.std.specs.Prelude.{◌≡◌, true, false};
 ghost use Rattle.binlog_base.specs.Format.{Parses};
-ghost use Rattle.mysql_binlog_rows.specs.Cells.{Cell, PlainCell, cell_of, cell, long_cell, text, length_width, varchar_cell};
+ghost use Rattle.mysql_binlog_rows.specs.Cells.{Cell, PlainCell, cell_of, element, array_cell, cell};
 ghost use Rattle.mysql_binlog_rows.specs.CellsExact.{exact_cell};
 ghost use Rattle.mysql_binlog_rows.specs.Equality.{same_cell, same_cell_is_equivalence};
 ghost use Rattle.binlog_base.specs.Values.{plain_of};
 ghost use Rattle.std.specs.Ordering.{on};
 ghost use Rattle.std.specs.Cmp.{on_per, partial_equiv_from_equiv};
 
-use binlog_base::below::{
-    ColumnType, IntRepr, LeI32, LeU16, LeU32, MyDeserialize, ParseBuf, U8, Value,
+use self::bytes::{read_bit, read_blob, read_set, read_string, read_varchar};
+use self::decimals::read_decimal;
+use self::numbers::{read_double, read_enum, read_float, read_integer, read_long_integer};
+use self::times::{
+    read_date, read_datetime, read_datetime2, read_time, read_time2, read_timestamp,
+    read_timestamp2, read_year,
 };
+use binlog_base::below::{ColumnType, MyDeserialize, ParseBuf, Value};
 use binlog_base::fault::Fault;
 use std::alloc::Global;
 
@@ -51,54 +63,70 @@ pub enum BinlogValueToValueError {
     JsonDiff,
 }
 
-// The width of the length of a VARCHAR cell.
-fn length_width(m0: u8, m1: u8) -> usize
-    ensures { result ≡ length_width m0 m1 }
+// Reads the cell of a column that is no array.
+#[tactic(auto, unfolding(crate::specs::Cells::element))]
+fn read_element(
+    alloc: Global,
+    column_type: ColumnType,
+    metadata: &[u8],
+    unsigned: bool,
+    partial: bool,
+    buf: &mut ParseBuf<'_>,
+) -> Result<BinlogValue, Fault>
+    ensures { Parses true cell_of result buf.new.0.now (element column_type metadata.now unsigned partial) buf.old.0.now }
 {
-    if u32::from(m0) + 256 * u32::from(m1) < 256 {
-        1
-    } else {
-        2
+    let _partial = partial;
+    match column_type {
+        ColumnType::MYSQL_TYPE_TINY => read_integer(1, unsigned, buf),
+        ColumnType::MYSQL_TYPE_SHORT => read_integer(2, unsigned, buf),
+        ColumnType::MYSQL_TYPE_INT24 => read_integer(3, unsigned, buf),
+        ColumnType::MYSQL_TYPE_LONG => read_integer(4, unsigned, buf),
+        ColumnType::MYSQL_TYPE_LONGLONG => read_long_integer(unsigned, buf),
+        ColumnType::MYSQL_TYPE_FLOAT => read_float(buf),
+        ColumnType::MYSQL_TYPE_DOUBLE => read_double(buf),
+        ColumnType::MYSQL_TYPE_TIMESTAMP => read_timestamp(buf),
+        ColumnType::MYSQL_TYPE_TIME => read_time(buf),
+        ColumnType::MYSQL_TYPE_DATETIME => read_datetime(buf),
+        ColumnType::MYSQL_TYPE_YEAR => read_year(alloc, buf),
+        ColumnType::MYSQL_TYPE_NEWDATE => read_date(buf),
+        ColumnType::MYSQL_TYPE_BIT => read_bit(alloc, metadata, buf),
+        ColumnType::MYSQL_TYPE_SET => read_set(alloc, metadata, buf),
+        ColumnType::MYSQL_TYPE_ENUM => read_enum(metadata, buf),
+        ColumnType::MYSQL_TYPE_TINY_BLOB
+        | ColumnType::MYSQL_TYPE_MEDIUM_BLOB
+        | ColumnType::MYSQL_TYPE_LONG_BLOB
+        | ColumnType::MYSQL_TYPE_BLOB
+        | ColumnType::MYSQL_TYPE_GEOMETRY
+        | ColumnType::MYSQL_TYPE_VECTOR => read_blob(alloc, metadata, buf),
+        ColumnType::MYSQL_TYPE_VARCHAR | ColumnType::MYSQL_TYPE_VAR_STRING => read_varchar(
+            alloc, metadata, buf,
+        ),
+        ColumnType::MYSQL_TYPE_STRING => read_string(alloc, metadata, buf),
+        ColumnType::MYSQL_TYPE_NEWDECIMAL => read_decimal(alloc, metadata, buf),
+        ColumnType::MYSQL_TYPE_TIMESTAMP2 => read_timestamp2(alloc, metadata, buf),
+        ColumnType::MYSQL_TYPE_DATETIME2 => read_datetime2(metadata, buf),
+        ColumnType::MYSQL_TYPE_TIME2 => read_time2(metadata, buf),
+        _ => Err(Fault::Unhandled),
     }
 }
 
-// Bytes behind their length.
-#[tactic(auto, unfolding(crate::specs::Cells::text))]
-fn read_text<'a>(m0: u8, m1: u8, buf: &mut ParseBuf<'a>) -> Result<&'a [u8], Fault>
-    ensures { Parses false (λ x. x.now) result buf.new.0.now (text (length_width m0 m1)) buf.old.0.now }
-{
-    let len = if length_width(m0, m1) == 1 {
-        usize::from(U8::deserialize(buf)?)
-    } else {
-        usize::from(LeU16::deserialize(buf)?)
-    };
-    buf.checked_eat(len)
-}
-
-#[tactic(auto, unfolding(crate::specs::Cells::long_cell))]
-fn read_long(unsigned: bool, buf: &mut ParseBuf<'_>) -> Result<BinlogValue, Fault>
-    ensures { Parses true cell_of result buf.new.0.now (long_cell unsigned) buf.old.0.now }
-{
-    let number = if unsigned {
-        i64::from(LeU32::deserialize(buf)?)
-    } else {
-        i64::from(LeI32::deserialize(buf)?)
-    };
-    Ok(BinlogValue::Value(Value::Int(number)))
-}
-
-fn read_varchar(
+// Reads the cell of an array of values of one type: that of a column of this type, with all of the metadata.
+fn read_typed(
     alloc: Global,
     metadata: &[u8],
+    unsigned: bool,
+    partial: bool,
     buf: &mut ParseBuf<'_>,
 ) -> Result<BinlogValue, Fault>
-    ensures { Parses true cell_of result buf.new.0.now (varchar_cell metadata.now) buf.old.0.now }
+    ensures { Parses true cell_of result buf.new.0.now (array_cell metadata.now unsigned partial) buf.old.0.now }
 {
-    let [m0, m1, ..] = metadata else {
+    let [m0, ..] = metadata else {
         return Err(Fault::MissingMetadata);
     };
-    let bytes = read_text(*m0, *m1, buf)?;
-    Ok(BinlogValue::Value(Value::Bytes(Vec::from_slice(alloc, bytes)?)))
+    match ColumnType::try_from(*m0) {
+        Ok(inner) => read_element(alloc, inner, metadata, unsigned, partial, buf),
+        Err(_) => Err(Fault::Unhandled),
+    }
 }
 
 /// Reads the cell of a column of this type and metadata, unsigned or not, whole or partial.
@@ -113,11 +141,9 @@ pub(crate) fn read_cell(
 ) -> Result<BinlogValue, Fault>
     ensures { Parses true cell_of result buf.new.0.now (cell column_type metadata.now unsigned partial) buf.old.0.now }
 {
-    let _partial = partial;
     match column_type {
-        ColumnType::MYSQL_TYPE_LONG => read_long(unsigned, buf),
-        ColumnType::MYSQL_TYPE_VARCHAR => read_varchar(alloc, metadata, buf),
-        _ => Err(Fault::Unhandled),
+        ColumnType::MYSQL_TYPE_TYPED_ARRAY => read_typed(alloc, metadata, unsigned, partial, buf),
+        _ => read_element(alloc, column_type, metadata, unsigned, partial, buf),
     }
 }
 

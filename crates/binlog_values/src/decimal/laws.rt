@@ -3,7 +3,7 @@
 ghost use Rattle.std.specs.Prelude.{ℕ, Bool};
 ghost use Rattle.binlog_base.specs.Format.{IsExact};
 ghost use Rattle.binlog_values.specs.PackedDecimals.{packed_decimal, counted_decimal};
-ghost use Rattle.binlog_values.specs.DecimalLaws.{PackedReadsBack, PackedHasSize, EqualWherePackedAlike, PrintedReadsBack, PackedWhereInRange};
+ghost use Rattle.binlog_values.specs.DecimalLaws.{PackedReadsBack, PackedHasSize, EqualWherePackedAlike, PrintedReadsBack, PackedWhereInRange, TextsAreNumerals};
 
 /// The bytes of packed decimals are read as they are spelled, and refused where no front of them is a spelling, by one fault.
 pub fn packed_decimals_are_exact()
@@ -30,4 +30,9 @@ pub fn printed_decimals_read_back()
 /// Bytes of the right count are a packed decimal exactly where each group is a number of its digits.
 pub fn decimals_are_packed_in_range()
     ensures { PackedWhereInRange }
+{}
+
+/// A text is read exactly where, without all but one of its leading zeros, it is a sign, digits, a point and digits.
+pub fn texts_are_numerals()
+    ensures { TextsAreNumerals }
 {}

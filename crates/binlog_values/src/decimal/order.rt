@@ -1,10 +1,8 @@
 //! The order of decimals: that of their packed bytes.
 
-ghost use Rattle.std.specs.Prelude.{◌≡◌, ℕ, Some, List, ◌<◌, length, IfOk};
+ghost use Rattle.std.specs.Prelude.{◌≡◌, Some, IfOk};
 ghost use Rattle.std.specs.Ordering.{nat_cmp};
 ghost use Rattle.std.specs.Cmp.Lexicographic.{slice_cmp};
-ghost use Rattle.std.specs.Io.{WritesAtMost};
-ghost use Rattle.std.specs.Io.KnownBytes.{WriteAppends};
 ghost use Rattle.binlog_values.specs.Decimals.{packed};
 
 use super::Decimal;

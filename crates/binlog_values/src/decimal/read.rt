@@ -3,7 +3,7 @@
 ghost use Rattle.binlog_base.specs.declared.fault.Fault.TheVariants.{DecimalScale};
 ghost use Rattle.std.specs.Prelude.{Err, ◌≡◌, ◌≢◌, ◌≤◌, ◌<◌, ◌+◌, ◌^◌, ◌==◌, length, IfOk};
 ghost use Rattle.std.specs.List.{list_all};
-ghost use Rattle.binlog_base.specs.Failures.{Blames, Tells, same};
+ghost use Rattle.binlog_base.specs.Failures.{Blames, ParsesKnown, Tells, is_unfailed, same};
 ghost use Rattle.binlog_values.specs.Decimals.{integer_groups, without_zero_groups, trimmed, kept};
 ghost use Rattle.binlog_values.specs.PackedDecimals.{packed_digits, packed_decimal, counted_decimal};
 ghost use Rattle.binlog_values.specs.DecimalReads.{OrMemory};
@@ -82,11 +82,8 @@ impl Decimal {
         })
     }
 
-    /// Reads a packed decimal of `precision` digits, `scale` of them behind the point. `DecimalScale` where the scale is above the
-    /// precision, before any byte; `UnexpectedEof` where the source ends before, `Reader` where it failed; then `DecimalGroup` where a
-    /// group isn't a number of its digits. Without `keep_prec` the groups before the point that are all zeros are dropped from the front,
-    /// and positive zero of one digit is given where no digit is left. Where no digit is asked for it reads nothing and gives that zero.
-    pub fn read_bin<S: Source>(
+    // What `read_bin` does.
+    fn read_by_scale<S: Source>(
         alloc: Global,
         reader: &mut S,
         precision: usize,
@@ -110,6 +107,29 @@ impl Decimal {
         } else {
             Ok(decimal.trim(alloc)?)
         }
+    }
+
+    /// Reads a packed decimal of `precision` digits, `scale` of them behind the point. `DecimalScale` where the scale is above the
+    /// precision, before any byte; `UnexpectedEof` where the source ends before, `Reader` where it failed; then `DecimalGroup` where a
+    /// group isn't a number of its digits. Without `keep_prec` the groups before the point that are all zeros are dropped from the front,
+    /// and positive zero of one digit is given where no digit is left. Where no digit is asked for it reads nothing and gives that zero.
+    #[tactic(auto, using(crate::proofs::DecimalKnown::decimal_parses))]
+    pub fn read_bin<S: Source>(
+        alloc: Global,
+        reader: &mut S,
+        precision: usize,
+        scale: usize,
+        keep_prec: bool,
+    ) -> Result<Decimal, Fault>
+        ensures tells { OrMemory result (Tells same result (S.remaining reader.old) (S.remaining reader.new) (packed_decimal precision scale keep_prec)) }
+        ensures blames { Blames result (S.failures reader.old) (S.failures reader.new) }
+        ensures scale_first { precision < scale → (result ≡ Err DecimalScale) × (reader.new ≡ reader.old) }
+        ensures nothing_read { precision ≡ 0 → reader.new ≡ reader.old }
+        // Where the source's bytes are known.
+        ensures parses { let unfailed = is_unfailed (S.failures reader.old) (S.failures reader.new) in
+            OrMemory result (ParsesKnown same result unfailed (S.remaining reader.old) (S.remaining reader.new) (packed_decimal precision scale keep_prec)) }
+    {
+        Decimal::read_by_scale(alloc, reader, precision, scale, keep_prec)
     }
 
     /// Reads a byte of precision, a byte of scale, and a packed decimal by them, as `read_bin` does.

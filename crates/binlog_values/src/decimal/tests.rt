@@ -2,7 +2,7 @@ use super::{
     DIG_BASE, DIG_PER_DEC, DIG_TO_BYTES, Decimal, Digit, POWERS_10, ParseDecimalError,
     decimal_bin_size,
 };
-use binlog_base::below::{Counted, Failed, Sink};
+use binlog_base::below::{Counted, Failed, Sink, Source};
 use binlog_base::fault::Fault;
 use binlog_base::misc::LimitWrite;
 use std::alloc::Global;
@@ -28,6 +28,37 @@ impl Sink for Broken {
         self.failures = self.failures.saturating_add(1);
         Err(Failed)
     }
+}
+
+// A source that gives one byte a call, and fails once it was called often enough.
+#[derive(Drop)]
+struct Dripping {
+    calls: u64,
+    failures: u64,
+}
+
+impl Source for Dripping {
+    ghost failures = { λ d. d.failures };
+
+    fn read_some(&mut self, buf: &mut [u8]) -> Result<usize, Failed> {
+        if self.calls == 0 {
+            self.failures = self.failures.saturating_add(1);
+            return Err(Failed);
+        }
+        self.calls -= 1;
+        if buf.is_empty() {
+            return Ok(0);
+        }
+        buf[0] = 2;
+        Ok(1)
+    }
+}
+
+// What such a source makes of a decimal of two digits, both behind the point, and its failures.
+fn dripped(alloc: Global, calls: u64) -> (Result<Decimal, Fault>, u64) {
+    let mut source = Dripping { calls, failures: 0 };
+    let answer = Decimal::read_packed(alloc, &mut source, true);
+    (answer, source.failures)
 }
 
 fn shows(rt: &HostRuntime, decimal: &Decimal, wanted: &str) -> Result<bool, Fail> {
@@ -216,6 +247,20 @@ fn failing_writers_are_told(rt: HostRuntime) -> Result<(), Fail> {
         assert!(rt; sink.failures() == 1);
     }
     Ok(())
+}
+
+#[test]
+fn failing_sources_are_told(rt: HostRuntime) {
+    let (answer, failures) = dripped(rt.alloc(), 2);
+    assert!(rt; matches!(answer, Err(Fault::Reader)) && failures == 1);
+    let (answer, failures) = dripped(rt.alloc(), 3);
+    assert!(rt; matches!(answer, Err(Fault::DecimalGroup)) && failures == 0);
+    let mut source = Dripping {
+        calls: 0,
+        failures: 0,
+    };
+    let answer = Decimal::read_bin(rt.alloc(), &mut source, 2, 4, true);
+    assert!(rt; matches!(answer, Err(Fault::DecimalScale)) && source.failures == 0);
 }
 
 #[test]

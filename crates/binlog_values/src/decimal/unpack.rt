@@ -1,6 +1,6 @@
 //! Reading the groups of packed decimals.
 
-ghost use Rattle.std.specs.Prelude.{◌≡◌, ◌≤◌, ◌<◌, ◌+◌, ◌*◌, ◌/◌, [], ◌∷◌, length, replicate, IfOk};
+ghost use Rattle.std.specs.Prelude.{◌≡◌, ◌≤◌, ◌<◌, ◌+◌, ◌*◌, ◌/◌, [], ◌∷◌, length, replicate};
 ghost use Rattle.binlog_values.specs.Decimals.{group_width, digits_size, packed_size, integer_groups, fraction_groups};
 ghost use Rattle.binlog_values.specs.DecimalReads.{Unpacks, Decodes};
 

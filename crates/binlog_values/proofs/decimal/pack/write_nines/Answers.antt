@@ -1,8 +1,10 @@
-use Rattle.std.proofs.Common.{ℕ, List, length, subst, sym, ap, ◌∙◌, arith}
+use Rattle.std.proofs.Common.{◌/◌, false, replicate, ℕ, List, length, subst, sym, ap, ◌∙◌, arith}
 use Rattle.std.proofs.lemmas.List.{length-drop}
 use Rattle.std.specs.Int.Digits.{AllBelowBase}
 use Rattle.std.specs.Io.KnownBytes.{Appends}
 use Rattle.std.proofs.KnownBytes.{Appends-trans, Appends-nil}
+use Rattle.binlog_values.specs.Decimals.{group_bytes, grouped}
+use Rattle.binlog_values.specs.DecimalMasks.{masked}
 use Rattle.binlog_values.proofs.DecimalSteps.{nines-masked, nines-none, some_left, none_left, below-drop}
 use Rattle.binlog_values.proofs.decimal.pack.write_nines.Goals as goal
 
@@ -20,7 +22,8 @@ loop-left-preserved g c =
       rest = λ new k.
           c.loop-left.invariant.rest new
           (subst (λ (x : List ℕ). Appends (g.S.Sink.contents c.loop-left.sink) new x) (sym masks)
-          (Appends-trans (g.S.Sink.contents c.loop-left.sink) (g.S.Sink.contents c.write_group.new.sink) new _ _ c.in_ok-write_group.ensures.bytes k));
+          (Appends-trans (g.S.Sink.contents c.loop-left.sink) (g.S.Sink.contents c.write_group.new.sink) new
+          (masked c.args.negative c.loop-left.front (group_bytes c.split_at.result.0.now)) (masked c.args.negative false (grouped (replicate (length rest / 9) 9) rest)) c.in_ok-write_group.ensures.bytes k));
     }
 
 pub returns-clause-bytes : goal.returns-clause-bytes

@@ -2,7 +2,7 @@ use Rattle.std.proofs.Common.{Bool, sym, ap, ◌∙◌, arith}
 use Rattle.std.proofs.lemmas.Result.{err_from_is_err_and}
 use Rattle.binlog_values.specs.Decimals.{kept}
 use Rattle.binlog_values.proofs.DecimalTelling.{scale-above, no_digit-told, digits-refused, digits-kept}
-use Rattle.binlog_values.proofs.decimal.Decimal.read_bin.Goals as goal
+use Rattle.binlog_values.proofs.decimal.Decimal.read_by_scale.Goals as goal
 
 pub returns-then-scale-precision-clause-tells : goal.returns-then-scale-precision-clause-tells
 returns-then-scale-precision-clause-tells g c =

@@ -1,0 +1,225 @@
+//! Cells of dates and times.
+
+ghost use Rattle.std.specs.Prelude.{◌≡◌, ◌<◌, ◌*◌, ◌/◌, ◌%◌, ◌^◌, true, false, IfOk, Some};
+ghost use Rattle.binlog_base.specs.Format.{Parses};
+ghost use Rattle.mysql_binlog_rows.specs.Cells.{Cell, cell_of, timestamp_cell, time_of_digits, time_cell, date_of_digits, datetime_cell, year_text, year_cell, date_of_bits, date_cell, bytes_cell, six_places, timestamp_text, timestamp2_cell, datetime2_cell, time2_cell, with_byte};
+
+use super::BinlogValue;
+use binlog_base::below::{IntRepr, LeU24, LeU32, LeU64, ParseBuf, U8, Value};
+use binlog_base::fault::Fault;
+use binlog_base::misc::{
+    datetime_from_packed, my_datetime_packed_from_binary, my_time_packed_from_binary,
+    my_timestamp_from_binary, time_from_packed,
+};
+use std::alloc::{AllocError, Global};
+use std::fmt;
+
+// TIMESTAMP.
+#[tactic(auto, unfolding(crate::specs::Cells::timestamp_cell))]
+pub(super) fn read_timestamp(buf: &mut ParseBuf<'_>) -> Result<BinlogValue, Fault>
+    ensures { Parses false cell_of result buf.new.0.now timestamp_cell buf.old.0.now }
+{
+    let seconds = LeU32::deserialize(buf)?;
+    Ok(BinlogValue::Value(Value::Int(i64::from(seconds))))
+}
+
+// The time whose digits HHMMSS are those of the number.
+fn time_of_digits(number: u32) -> BinlogValue
+    ensures { cell_of result ≡ time_of_digits number }
+{
+    let hours = number / 10_000;
+    let minutes = (number / 100 % 100) as u8;
+    let seconds = (number % 100) as u8;
+    let time = Value::Time(false, hours / 24, (hours % 24) as u8, minutes, seconds, 0);
+    BinlogValue::Value(time)
+}
+
+// TIME.
+#[tactic(auto, unfolding(crate::specs::Cells::time_cell))]
+pub(super) fn read_time(buf: &mut ParseBuf<'_>) -> Result<BinlogValue, Fault>
+    ensures { Parses false cell_of result buf.new.0.now time_cell buf.old.0.now }
+{
+    let number = LeU24::deserialize(buf)?;
+    Ok(time_of_digits(number))
+}
+
+// Two digits of the number, above so many units.
+fn two_digits(number: u64, unit: u64) -> u8
+    requires { 0 < unit }
+    ensures { result ≡ number / unit % 100 }
+{
+    (number / unit % 100) as u8
+}
+
+// The date and time of the year whose digits MMDDHHMMSS are the last of the number.
+fn date_of_digits(year: u16, number: u64) -> BinlogValue
+    ensures { cell_of result ≡ date_of_digits year number }
+{
+    let month = two_digits(number, 100_000_000);
+    let day = two_digits(number, 1_000_000);
+    let hour = two_digits(number, 10_000);
+    let minute = two_digits(number, 100);
+    let second = two_digits(number, 1);
+    BinlogValue::Value(Value::Date(year, month, day, hour, minute, second, 0))
+}
+
+// DATETIME.
+#[tactic(auto, unfolding(crate::specs::Cells::datetime_cell))]
+pub(super) fn read_datetime(buf: &mut ParseBuf<'_>) -> Result<BinlogValue, Fault>
+    ensures { Parses false cell_of result buf.new.0.now datetime_cell buf.old.0.now }
+{
+    let number = LeU64::deserialize(buf)?;
+    match u16::try_from(number / 10_000_000_000) {
+        Ok(year) => Ok(date_of_digits(year, number)),
+        Err(_) => Err(Fault::YearRange),
+    }
+}
+
+// The text of a year, by the years since 1900.
+fn year_of(alloc: Global, years: u8) -> Result<BinlogValue, AllocError>
+    ensures { IfOk result (λ value. cell_of value ≡ year_text years) }
+{
+    let year = 1900 + u16::from(years);
+    let text = format!(in alloc; "{year}")?;
+    Ok(BinlogValue::Value(Value::Bytes(text.into_bytes())))
+}
+
+// YEAR.
+#[tactic(auto, unfolding(crate::specs::Cells::year_cell))]
+pub(super) fn read_year(alloc: Global, buf: &mut ParseBuf<'_>) -> Result<BinlogValue, Fault>
+    ensures { Parses true cell_of result buf.new.0.now year_cell buf.old.0.now }
+{
+    let years = U8::deserialize(buf)?;
+    Ok(year_of(alloc, years)?)
+}
+
+// The date whose bits are those of the number.
+fn date_of_bits(number: u32) -> BinlogValue
+    requires { number < 256 ^ 3 }
+    ensures { cell_of result ≡ date_of_bits number }
+{
+    let year = (number / 512) as u16;
+    let month = (number / 32 % 16) as u8;
+    let day = (number % 32) as u8;
+    BinlogValue::Value(Value::Date(year, month, day, 0, 0, 0, 0))
+}
+
+// NEWDATE.
+#[tactic(auto, unfolding(crate::specs::Cells::date_cell))]
+pub(super) fn read_date(buf: &mut ParseBuf<'_>) -> Result<BinlogValue, Fault>
+    ensures { Parses false cell_of result buf.new.0.now date_cell buf.old.0.now }
+{
+    let number = LeU24::deserialize(buf)?;
+    Ok(date_of_bits(number))
+}
+
+// A number in six places at least, with zeros at its front, where a minus takes one.
+#[derive(Drop)]
+struct SixPlaces(i32);
+
+impl fmt::Display for SixPlaces {
+    ghost output = { λ n. Some (six_places n.0) };
+
+    #[tactic(auto, using(crate::proofs::Places::six_places_written))]
+    fn fmt<W: fmt::Write>(&self, f: &mut fmt::Formatter<W>) -> fmt::Result {
+        let number = self.0;
+        write!(f, "{number:06}")
+    }
+}
+
+// Seconds since 1970, and a point and the microseconds where there are any.
+#[derive(Drop)]
+struct TimestampText {
+    seconds: i32,
+    microseconds: i32,
+}
+
+impl fmt::Display for TimestampText {
+    ghost output = { λ t. Some (timestamp_text (t.seconds, t.microseconds)) };
+
+    fn fmt<W: fmt::Write>(&self, f: &mut fmt::Formatter<W>) -> fmt::Result {
+        let seconds = self.seconds;
+        if self.microseconds == 0 {
+            write!(f, "{seconds}")
+        } else {
+            let places = SixPlaces(self.microseconds);
+            write!(f, "{seconds}.{places}")
+        }
+    }
+}
+
+fn timestamp_of(alloc: Global, seconds: i32, microseconds: i32) -> Result<BinlogValue, AllocError>
+    ensures { IfOk result (λ value. cell_of value ≡ bytes_cell (timestamp_text (seconds, microseconds))) }
+{
+    let text = TimestampText {
+        seconds,
+        microseconds,
+    };
+    let text = format!(in alloc; "{text}")?;
+    Ok(BinlogValue::Value(Value::Bytes(text.into_bytes())))
+}
+
+// TIMESTAMP2, by its decimals.
+#[tactic(auto, unfolding(crate::specs::Cells::timestamp2_cell))]
+fn read_timestamp2_of(
+    alloc: Global,
+    decimals: u8,
+    buf: &mut ParseBuf<'_>,
+) -> Result<BinlogValue, Fault>
+    ensures { Parses true cell_of result buf.new.0.now (timestamp2_cell decimals) buf.old.0.now }
+{
+    let (seconds, microseconds) = my_timestamp_from_binary(buf, decimals)?;
+    Ok(timestamp_of(alloc, seconds, microseconds)?)
+}
+
+// TIMESTAMP2.
+pub(super) fn read_timestamp2(
+    alloc: Global,
+    metadata: &[u8],
+    buf: &mut ParseBuf<'_>,
+) -> Result<BinlogValue, Fault>
+    ensures { Parses true cell_of result buf.new.0.now (with_byte metadata.now timestamp2_cell) buf.old.0.now }
+{
+    let [m0, ..] = metadata else {
+        return Err(Fault::MissingMetadata);
+    };
+    read_timestamp2_of(alloc, *m0, buf)
+}
+
+// DATETIME2, by its decimals.
+#[tactic(auto, unfolding(crate::specs::Cells::datetime2_cell))]
+fn read_datetime2_of(decimals: u8, buf: &mut ParseBuf<'_>) -> Result<BinlogValue, Fault>
+    ensures { Parses false cell_of result buf.new.0.now (datetime2_cell decimals) buf.old.0.now }
+{
+    let packed = my_datetime_packed_from_binary(buf, u32::from(decimals))?;
+    Ok(BinlogValue::Value(datetime_from_packed(packed)))
+}
+
+// DATETIME2.
+pub(super) fn read_datetime2(metadata: &[u8], buf: &mut ParseBuf<'_>) -> Result<BinlogValue, Fault>
+    ensures { Parses false cell_of result buf.new.0.now (with_byte metadata.now datetime2_cell) buf.old.0.now }
+{
+    let [m0, ..] = metadata else {
+        return Err(Fault::MissingMetadata);
+    };
+    read_datetime2_of(*m0, buf)
+}
+
+// TIME2, by its decimals.
+#[tactic(auto, unfolding(crate::specs::Cells::time2_cell))]
+fn read_time2_of(decimals: u8, buf: &mut ParseBuf<'_>) -> Result<BinlogValue, Fault>
+    ensures { Parses false cell_of result buf.new.0.now (time2_cell decimals) buf.old.0.now }
+{
+    let packed = my_time_packed_from_binary(buf, u32::from(decimals))?;
+    Ok(BinlogValue::Value(time_from_packed(packed)))
+}
+
+// TIME2.
+pub(super) fn read_time2(metadata: &[u8], buf: &mut ParseBuf<'_>) -> Result<BinlogValue, Fault>
+    ensures { Parses false cell_of result buf.new.0.now (with_byte metadata.now time2_cell) buf.old.0.now }
+{
+    let [m0, ..] = metadata else {
+        return Err(Fault::MissingMetadata);
+    };
+    read_time2_of(*m0, buf)
+}

@@ -1,6 +1,7 @@
 -- Numbers of a fixed width in either order of bytes, signed ones in two's complement; length-encoded numbers; VarLen.
 use Rattle.std.specs.Prelude.{ℕ, zero, suc, ℤ, ◌+◌, ◌-◌, ◌*◌, ◌/◌, ◌^◌, ◌%◌, ◌==◌, nat_lt, if◌then◌else◌, List, [], ◌∷◌}
-use Rattle.byteorder.specs.Endian.{little_number, big_number, little_bytes, twos_complement}
+use Rattle.byteorder.specs.Endian.{little_number, big_number, little_bytes}
+pub use Rattle.byteorder.specs.Endian.{twos_complement}
 use Rattle.binlog_base.specs.declared.fault.Fault.TheVariants.{BadLenEnc, BadVarLen}
 use Rattle.binlog_base.specs.Format.{Format, bytes, done, fault, both, as_value, choice}
 

@@ -40,6 +40,6 @@ pub record RowParts : Type 0 where
   pub columns : List ColumnParts
   pub values : List (Option Plain)
 
--- the value of a place; none behind the last, or where it was taken
-abbrev pub value_at : List (Option Plain) → ℕ → Option Plain
+-- the value or cell of a place; none behind the last, or where there is none
+abbrev pub value_at : {V : Type 0} → List (Option V) → ℕ → Option V
 value_at values i = option_and_then (λ value. value) (slice_get values i)

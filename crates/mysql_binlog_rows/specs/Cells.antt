@@ -55,15 +55,15 @@ unfoldable pub timestamp_cell : Format Cell
 timestamp_cell = as_value (little 4) int_cell
 
 -- TIME: the decimal digits HHMMSS of a number of three bytes; hours above 23 are days
-abbrev pub time_of_digits : ℕ → Cell
-time_of_digits n = PlainCell (Time false (n / 10000 / 24) (n / 10000 % 24) (n / 100 % 100) (n % 100) 0)
+abbrev pub time_of_digits : Bool → ℕ → Plain
+time_of_digits is_negative n = Time is_negative (n / 10000 / 24) (n / 10000 % 24) (n / 100 % 100) (n % 100) 0
 
 unfoldable pub time_cell : Format Cell
-time_cell = as_value (little 3) time_of_digits
+time_cell = as_value (little 3) (λ n. PlainCell (time_of_digits false n))
 
 -- DATETIME: the decimal digits YYYYMMDDHHMMSS of a number of eight bytes; the year has 16 bits
 abbrev pub date_of_digits : ℕ → ℕ → Cell
-date_of_digits year n = PlainCell (Date year (n / 100000000 % 100) (n / 1000000 % 100) (n / 10000 % 100) (n / 100 % 100) (n / 1 % 100) 0)
+date_of_digits year n = PlainCell (Date year (n / 100000000 % 100) (n / 1000000 % 100) (n / 10000 % 100) (n / 100 % 100) (n % 100) 0)
 
 abbrev pub date_of_number : ℕ → Format Cell
 date_of_number n = choice (nat_lt (n / 10000000000) 65536) (done (date_of_digits (n / 10000000000) n)) (fault YearRange)

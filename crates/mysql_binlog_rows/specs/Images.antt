@@ -1,5 +1,5 @@
 -- The images of a rows event, and the pairs of images.
-use Rattle.std.specs.Prelude.{ℕ, suc, Bool, true, false, List, [], ◌∷◌, ◌++◌, map, count_by, Option, Some, None, Result, Ok, Err, drop, slice_index_or, slice_get, option_and_then, unwrap_or, codes, ◌&&◌}
+use Rattle.std.specs.Prelude.{ℕ, suc, Bool, true, false, List, [], ◌∷◌, ◌++◌, map, count_by, Option, Some, None, Result, Ok, Err, drop, slice_index_or, unwrap_or, codes, ◌&&◌}
 use Rattle.std.specs.List.{filter}
 use Rattle.std.specs.Fmt.{decimal}
 use Rattle.std.specs.Option.{option_map}
@@ -82,10 +82,6 @@ image_of t present =
 pub record BinlogRow : Type 0 where
   pub columns : List ColumnParts
   pub values : List (Option Cell)
-
--- the value of a place; none behind the last, or where it is NULL
-abbrev pub value_at : List (Option Cell) → ℕ → Option Cell
-value_at values i = option_and_then (λ value. value) (slice_get values i)
 
 -- the fault of a column without a type comes when its turn comes
 abbrev pub ends : Option Fault → Format (List (Option Cell))

@@ -2,6 +2,7 @@ pub mod RowsEvent
 pub mod RowsEventExact
 pub mod Cells
 pub mod CellsExact
+pub mod OldTimes
 pub mod Images
 pub mod ImagesExact
 pub mod Cover

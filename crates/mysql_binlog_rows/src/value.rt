@@ -19,6 +19,7 @@ ghost use Rattle.std.specs.Cmp.{on_per, partial_equiv_from_equiv};
 use self::bytes::{read_bit, read_blob, read_set, read_string, read_varchar};
 use self::decimals::read_decimal;
 use self::numbers::{read_double, read_enum, read_float, read_integer, read_long_integer};
+pub use self::times::negative_time;
 use self::times::{
     read_date, read_datetime, read_datetime2, read_time, read_time2, read_timestamp,
     read_timestamp2, read_year,

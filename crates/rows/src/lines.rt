@@ -4,13 +4,13 @@ ghost use Rattle.std.specs.Prelude.{◌≡◌, Some, length};
 ghost use Rattle.std.specs.Option.{option_map};
 ghost use Rattle.binlog_base.specs.Values.{plain_of};
 ghost use Rattle.mysql_binlog_rows.specs.Cells.{cell_of};
-ghost use Rattle.rows.specs.Lines.{hex_byte, hex_text, plain_text, cell_text, name_text, field_text, fields_text, image_text, lines_text};
+ghost use Rattle.rows.specs.Lines.{hex_byte, hex_text, plain_text, negative_of, cell_text, name_text, field_text, fields_text, image_text, lines_text};
 
 use binlog_base::below::{Column, Value};
 use bstr::BStr;
 use mysql_binlog_rows::row::BinlogRow;
 use mysql_binlog_rows::rows_event::RowPair;
-use mysql_binlog_rows::value::BinlogValue;
+use mysql_binlog_rows::value::{BinlogValue, negative_time};
 use std::fmt;
 
 // A byte as two lower-case hexadecimal digits.
@@ -81,18 +81,29 @@ impl fmt::Display for Plain<'_> {
     }
 }
 
-// A cell, none for NULL.
+// The negative TIME that a value of this column stands for, where it was read without its sign.
+fn negative_of(column: Option<&Column>, value: &Value) -> Option<Value>
+    ensures { option_map plain_of result ≡ negative_of (option_map (λ c. c.now) column.entry) (plain_of value.now) }
+{
+    negative_time(column?.column_type(), value)
+}
+
+// A cell of a column, none for NULL.
 #[derive(Drop)]
-struct Cell<'a>(Option<&'a BinlogValue>);
+struct Cell<'a> {
+    column: Option<&'a Column>,
+    value: Option<&'a BinlogValue>,
+}
 
 impl fmt::Display for Cell<'_> {
-    ghost output = { λ c. Some (cell_text (option_map (λ v. cell_of v.now) c.0)) };
+    ghost output = { λ c. Some (cell_text (option_map (λ d. d.now) c.column) (option_map (λ v. cell_of v.now) c.value)) };
 
     fn fmt<W: fmt::Write>(&self, f: &mut fmt::Formatter<W>) -> fmt::Result {
-        match self.0 {
+        match self.value {
             None => write!(f, "NULL"),
             Some(BinlogValue::Value(value)) => {
-                let plain = Plain(value);
+                let negative = negative_of(self.column, value);
+                let plain = Plain(negative.as_ref().unwrap_or(value));
                 write!(f, "{plain}")
             }
         }
@@ -129,8 +140,12 @@ impl fmt::Display for Field<'_> {
 
     fn fmt<W: fmt::Write>(&self, f: &mut fmt::Formatter<W>) -> fmt::Result {
         let comma = if self.index == 0 { "" } else { ", " };
-        let name = Name(self.row.columns_ref().get(self.index));
-        let cell = Cell(self.row.as_ref(self.index));
+        let column = self.row.columns_ref().get(self.index);
+        let name = Name(column);
+        let cell = Cell {
+            column,
+            value: self.row.as_ref(self.index),
+        };
         write!(f, "{comma}{name}={cell}")
     }
 }
@@ -174,7 +189,8 @@ impl fmt::Display for Image<'_> {
 /// name as lossy text), joined by `, `, and `}`.
 ///
 /// A cell is `NULL`, a whole number, `x` and lower-case hexadecimal for bytes, `f32:` or `f64:` and the bits of a float,
-/// `date(year,month,day,hour,minute,second,microseconds)`, or `time(negative,days,hours,minutes,seconds,microseconds)`.
+/// `date(year,month,day,hour,minute,second,microseconds)`, or `time(negative,days,hours,minutes,seconds,microseconds)`. A negative TIME
+/// of the format before fractional seconds, whose value comes without its sign, is written with it.
 #[derive(Drop)]
 pub struct Lines<'a>(pub &'a [RowPair]);
 

@@ -2,7 +2,7 @@ ghost use Rattle.std.specs.Prelude.{◌≡◌, length, map, IsTrue, ◌↔◌, I
 ghost use Rattle.std.specs.Option.{option_map};
 ghost use Rattle.std.specs.Rc.{rc_slice_items};
 ghost use Rattle.mysql_binlog_rows.specs.Cells.{cell_of};
-ghost use Rattle.mysql_binlog_rows.specs.Images.{value_at};
+ghost use Rattle.binlog_base.specs.Values.{value_at};
 ghost use Rattle.mysql_binlog_rows.specs.Equality.{same_cell, same_cell_is_equivalence};
 ghost use Rattle.std.specs.Option.{option_eq};
 ghost use Rattle.std.specs.Ordering.{on, eq_of_both};

@@ -1,6 +1,7 @@
 //! Cells, one by one.
 
-use super::BinlogValue;
+use super::{BinlogValue, negative_time};
+use crate::laws::old_times_have_signs;
 use binlog_base::below::{ColumnType, ParseBuf, Value};
 use binlog_base::fault::Fault;
 use std::test::Fail;
@@ -110,6 +111,31 @@ fn bits_of_floats(rt: HostRuntime) {
             Value::Double(0x3ff0_0000_0000_0000)
         )
     );
+}
+
+/// Values of TIME and the negative times that they stand for.
+#[test]
+fn negative_old_times(rt: HostRuntime) {
+    old_times_have_signs();
+    let time = ColumnType::MYSQL_TYPE_TIME;
+    // The bytes FF FF FF, 59 0A 80 and 00 00 80; the greatest number without a minus, and the first that three bytes don't hold.
+    let cases = [
+        ((69, 21, 72, 15), Some((0, 0, 0, 1))),
+        ((34, 23, 12, 57), Some((34, 22, 59, 59))),
+        ((34, 22, 86, 8), Some((34, 22, 86, 8))),
+        ((34, 22, 86, 7), None),
+        ((69, 21, 72, 16), None),
+    ];
+    for ((d, h, i, s), negative) in cases {
+        let value = Value::Time(false, d, h, i, s, 0);
+        let negative = negative.map(|(d, h, i, s)| Value::Time(true, d, h, i, s, 0));
+        assert!(rt; negative_time(time, &value) == negative);
+    }
+    let value = Value::Time(false, 69, 21, 72, 15, 0);
+    assert!(rt; negative_time(ColumnType::MYSQL_TYPE_TIME2, &value).is_none());
+    let value = Value::Time(true, 69, 21, 72, 15, 0);
+    assert!(rt; negative_time(time, &value).is_none());
+    assert!(rt; negative_time(time, &Value::Int(0xff_ffff)).is_none());
 }
 
 #[test]

@@ -1,11 +1,14 @@
 //! Cells of dates and times.
 
 ghost use Rattle.std.specs.Prelude.{◌≡◌, ◌<◌, ◌*◌, ◌/◌, ◌%◌, ◌^◌, true, false, IfOk, Some};
+ghost use Rattle.std.specs.Option.{option_map};
 ghost use Rattle.binlog_base.specs.Format.{Parses};
+ghost use Rattle.binlog_base.specs.Values.{plain_of};
+ghost use Rattle.mysql_binlog_rows.specs.OldTimes.{digits_of_time, negative_time};
 ghost use Rattle.mysql_binlog_rows.specs.Cells.{Cell, cell_of, timestamp_cell, time_of_digits, time_cell, date_of_digits, datetime_cell, year_text, year_cell, date_of_bits, date_cell, bytes_cell, six_places, timestamp_text, timestamp2_cell, datetime2_cell, time2_cell, with_byte};
 
 use super::BinlogValue;
-use binlog_base::below::{IntRepr, LeU24, LeU32, LeU64, ParseBuf, U8, Value};
+use binlog_base::below::{ColumnType, IntRepr, LeU24, LeU32, LeU64, ParseBuf, U8, Value};
 use binlog_base::fault::Fault;
 use binlog_base::misc::{
     datetime_from_packed, my_datetime_packed_from_binary, my_time_packed_from_binary,
@@ -24,14 +27,20 @@ pub(super) fn read_timestamp(buf: &mut ParseBuf<'_>) -> Result<BinlogValue, Faul
 }
 
 // The time whose digits HHMMSS are those of the number.
-fn time_of_digits(number: u32) -> BinlogValue
-    ensures { cell_of result ≡ time_of_digits number }
+fn time_of_digits(is_negative: bool, number: u32) -> Value
+    ensures { plain_of result ≡ time_of_digits is_negative number }
 {
     let hours = number / 10_000;
     let minutes = (number / 100 % 100) as u8;
     let seconds = (number % 100) as u8;
-    let time = Value::Time(false, hours / 24, (hours % 24) as u8, minutes, seconds, 0);
-    BinlogValue::Value(time)
+    Value::Time(
+        is_negative,
+        hours / 24,
+        (hours % 24) as u8,
+        minutes,
+        seconds,
+        0,
+    )
 }
 
 // TIME.
@@ -40,7 +49,36 @@ pub(super) fn read_time(buf: &mut ParseBuf<'_>) -> Result<BinlogValue, Fault>
     ensures { Parses false cell_of result buf.new.0.now time_cell buf.old.0.now }
 {
     let number = LeU24::deserialize(buf)?;
-    Ok(time_of_digits(number))
+    Ok(BinlogValue::Value(time_of_digits(false, number)))
+}
+
+// The number whose digits HHMMSS are those of a time.
+fn digits_of_time(days: u32, hours: u8, minutes: u8, seconds: u8) -> u64
+    ensures { result ≡ digits_of_time days hours minutes seconds }
+{
+    let hours = u64::from(days) * 24 + u64::from(hours);
+    hours * 10_000 + u64::from(minutes) * 100 + u64::from(seconds)
+}
+
+/// The negative time that the value of a TIME column stands for, where the column has the format before fractional seconds.
+///
+/// The server writes the digits HHMMSS, with a sign, as three bytes in two's complement. `BinlogValue` reads them without a sign, as
+/// the Rust crate does, so that a negative time comes as one of 838 hours, 86 minutes and 8 seconds or more, which no TIME is: the
+/// longest are 838:59:59. For such a value of a column of the type MYSQL_TYPE_TIME this answers the negative time; None for all other
+/// values, which stand for themselves. `FF FF FF` is read as 69 days, 21:72:15, and stands for -00:00:01.
+pub fn negative_time(column_type: ColumnType, value: &Value) -> Option<Value>
+    ensures { option_map plain_of result ≡ negative_time column_type (plain_of value.now) }
+{
+    match (column_type, value) {
+        (ColumnType::MYSQL_TYPE_TIME, Value::Time(false, days, hours, minutes, seconds, 0)) => {
+            let number = digits_of_time(*days, *hours, *minutes, *seconds);
+            match number {
+                0x80_0000..0x100_0000 => Some(time_of_digits(true, (0x100_0000 - number) as u32)),
+                _ => None,
+            }
+        }
+        _ => None,
+    }
 }
 
 // Two digits of the number, above so many units.
@@ -59,7 +97,7 @@ fn date_of_digits(year: u16, number: u64) -> BinlogValue
     let day = two_digits(number, 1_000_000);
     let hour = two_digits(number, 10_000);
     let minute = two_digits(number, 100);
-    let second = two_digits(number, 1);
+    let second = (number % 100) as u8;
     BinlogValue::Value(Value::Date(year, month, day, hour, minute, second, 0))
 }
 

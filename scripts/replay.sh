@@ -4,8 +4,9 @@
 # usage: scripts/replay.sh FILE
 #
 # Each object has the program's six words as "mlen", "type", "plen", "wlen", "map_hex" and "rows_hex", the lines that must be printed as
-# the list "expected", and a name, "id". The status must be 0. Events that the program says are `Unhandled` are counted apart. The status
-# of this script is 1 where an event differs, and 2 where there is no program or no file. Build the program with `rt run` in crates/rows.
+# the list "expected", and a name, "id". The status must be 0. An event that the program says is `Unhandled` is a line `unhandled: ID`; one
+# that differs is `differs: ID`, with what was expected and what was printed; the last line counts. The status of this script is 1 where an
+# event differs, and 2 where there is no program or no file. Build the program with `rt run` in crates/rows.
 set -u
 here=$(cd "$(dirname "$0")/.." && pwd)
 program=$here/crates/rows/out/rows
@@ -34,6 +35,7 @@ with open(path, encoding="utf-8") as lines:
             agree += 1
         elif run.returncode == 1 and run.stdout == b"fault Unhandled\n":
             unhandled += 1
+            print(f"unhandled: {event['id']}")
         else:
             differ.append(event["id"])
             print(f"differs: {event['id']}: status {run.returncode}")

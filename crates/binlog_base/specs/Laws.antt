@@ -17,6 +17,17 @@ RefusesForOneReason {A} f =
     × ((x : List ℕ) (d e : Fault) → f.refuses x d → f.refuses x e → d ≡ e)
     × ((x : List ℕ) (e : Fault) → f.refuses x e → IsOfBytes e)
 
+-- the same bytes spell one value
+abbrev pub SpellsOneValue : {A : Type 0} → Format A → Type 0
+SpellsOneValue {A} f = (x : List ℕ) (a b : A) → f.spells x a → f.spells x b → a ≡ b
+
+-- refused bytes spell no value, and the fault is one
+abbrev pub RefusesWholesForOneReason : {A : Type 0} → Format A → Type 0
+RefusesWholesForOneReason {A} f =
+    ((x : List ℕ) (a : A) (e : Fault) → f.refuses x e → f.spells x a → ⊥)
+    × ((x : List ℕ) (d e : Fault) → f.refuses x d → f.refuses x e → d ≡ e)
+    × ((x : List ℕ) (e : Fault) → f.refuses x e → IsOfBytes e)
+
 -- bytes read back as the value, whatever follows them
 abbrev pub ReadsBack : {A : Type 0} → Format A → List ℕ → A → Type 0
 ReadsBack f x a = (left : List ℕ) → f.at (x ++ left) ≡ Ok (a, left)

@@ -1,5 +1,5 @@
 use crate::below::{
-    BareBytes, BeI16, BeU24, Column, ColumnFlags, ColumnType, Const, EofBytes, Failed,
+    BareBytes, BeI16, BeU24, BytesRepr, Column, ColumnFlags, ColumnType, Const, EofBytes, Failed,
     GeometryType, I8, IntRepr, LeI24, LeU16, LeU48, LenEnc, MyDeserialize, MySerialize, ParseBuf,
     RawBytes, RawFlags, RawInt, Skip, Source, U8, U8Bytes, UnknownColumnType, UnknownGeometryType,
     Value, VarLen, new_row_raw,
@@ -303,6 +303,9 @@ fn strings_are_written(rt: HostRuntime) -> Result<(), Fail> {
     assert_eq!(rt; written(&rt, &whole)?.len(), 1 + 3 + 300);
     let groups = RawBytes::<VarLen>::new(CowSlice::Borrowed(&long));
     assert_eq!(rt; written(&rt, &groups)?.len(), 1 + 2 + 300);
+    let mut buf = vec![in rt.alloc(); 7u8]?;
+    <U8Bytes as BytesRepr>::serialize(&long, &mut buf)?;
+    assert_eq!(rt; buf.len(), 1 + 1 + 255);
     let bare = RawBytes::<BareBytes<4>>::new(CowSlice::Borrowed(&long));
     assert_eq!(rt; written(&rt, &bare)?.as_slice(), [7, 5, 5, 5, 5].as_slice());
     let rest = RawBytes::<EofBytes>::new(CowSlice::Borrowed(b"xy"));
@@ -358,6 +361,9 @@ fn bits_in_both_orders(rt: HostRuntime) -> Result<(), Fail> {
         (Some(true), Some(true), None)
     );
     assert_eq!(rt; (high.get(1), high.get(8)), (Some(false), Some(false)));
+    // A bit past the bytes isn't there.
+    let all = BitView::new(&bytes, 17, BitOrder::LeastSignificantFirst);
+    assert_eq!(rt; (all.len(), all.get(16)), (16, None));
     assert_eq!(rt; low.iter().take(3).filter(|bit| *bit).count(), 2);
     assert_eq!(rt; (bitmap_len(0), bitmap_len(8), bitmap_len(9)), (0, 1, 2));
     assert!(rt;
@@ -415,7 +421,7 @@ fn laws_are_calls(rt: HostRuntime) {
     laws::numbers_read_back::<LeI24>();
     laws::numbers_are_shortest();
     laws::strings_are_spelled::<U8Bytes>();
-    laws::readings_are_unambiguous::<Skip<1>>();
+    laws::readings_are_unambiguous::<RawBytes<EofBytes>>();
     laws::refusals_have_one_reason::<Skip<1>>();
     assert!(rt; Fault::from(UnknownColumnType(4)) == Fault::UnknownColumnType(4));
 }

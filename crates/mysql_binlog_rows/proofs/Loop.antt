@@ -4,7 +4,7 @@ use Rattle.std.proofs.lemmas.List.{get_or-drop, drop-drop, drop_all, append-nil}
 use Rattle.binlog_base.specs.declared.fault.Fault.{Fault}
 use Rattle.binlog_base.specs.Format.{◌>>=◌}
 use Rattle.mysql_binlog_rows.specs.Cells.{Cell}
-use Rattle.mysql_binlog_rows.specs.Images.{Slot, ends, maybe_cell, cells}
+use Rattle.mysql_binlog_rows.specs.Images.{Slot, ends, nullable_cell, cells}
 
 abbrev pub Read : Type 0
 Read = Result (List (Option Cell) × List ℕ) Fault
@@ -21,16 +21,16 @@ absent_next : (s : Slot) (ss : List Slot) (end : Option Fault) (nulls : List Boo
 unfolding cells
 absent_next s ss end nulls x h = rw h refl
 
-value_next : (s : Slot) (ss : List Slot) (end : Option Fault) (nulls : List Bool) (x y : List ℕ) (v : Option Cell) → s.present ≡ true
-    → (maybe_cell (get_or nulls 0 false) s).at x ≡ Ok (v, y)
-    → (cells (s ∷ ss) end nulls).at x ≡ with_front (v ∷ []) ((cells ss end (drop 1 nulls)).at y)
-unfolding cells maybe_cell
+value_next : (s : Slot) (ss : List Slot) (end : Option Fault) (nulls : List Bool) (x y : List ℕ) (v : Cell) → s.present ≡ true
+    → (nullable_cell (get_or nulls 0 false) s).at x ≡ Ok (v, y)
+    → (cells (s ∷ ss) end nulls).at x ≡ with_front (Some v ∷ []) ((cells ss end (drop 1 nulls)).at y)
+unfolding cells nullable_cell
 value_next s ss end nulls x y v h e = rw (h, e) refl
 
 fault_next : (s : Slot) (ss : List Slot) (end : Option Fault) (nulls : List Bool) (x : List ℕ) (e : Fault) → s.present ≡ true
-    → (maybe_cell (get_or nulls 0 false) s).at x ≡ Err e
+    → (nullable_cell (get_or nulls 0 false) s).at x ≡ Err e
     → (cells (s ∷ ss) end nulls).at x ≡ Err e
-unfolding cells maybe_cell
+unfolding cells nullable_cell
 fault_next s ss end nulls x e h f = rw (h, f) refl
 
 -- the slot at i is the first of what is left
@@ -50,23 +50,23 @@ pub goes_absent : (front : List (Option Cell)) (ss : List Slot) (end : Option Fa
 goes_absent front ss end nulls i k x s total lt is p so_far =
     ap (with_front front) (sym (ap (λ (ts : List Slot). (cells ts end (drop k nulls)).at x) (slot_here ss i s lt is) ∙ absent_next s (drop (i + 1) ss) end (drop k nulls) x p)) ∙ so_far
 
-pub goes_on : (front : List (Option Cell)) (ss : List Slot) (end : Option Fault) (nulls : List Bool) (i k : ℕ) (x y : List ℕ) (s : Slot) (v : Option Cell) (total : Read)
-    → i < length ss → s ≡ get_or ss i s → s.present ≡ true → (maybe_cell (get_or nulls k false) s).at x ≡ Ok (v, y)
+pub goes_on : (front : List (Option Cell)) (ss : List Slot) (end : Option Fault) (nulls : List Bool) (i k : ℕ) (x y : List ℕ) (s : Slot) (v : Cell) (total : Read)
+    → i < length ss → s ≡ get_or ss i s → s.present ≡ true → (nullable_cell (get_or nulls k false) s).at x ≡ Ok (v, y)
     → with_front front ((cells (drop i ss) end (drop k nulls)).at x) ≡ total
-    → with_front (front ++ v ∷ []) ((cells (drop (i + 1) ss) end (drop (k + 1) nulls)).at y) ≡ total
+    → with_front (front ++ Some v ∷ []) ((cells (drop (i + 1) ss) end (drop (k + 1) nulls)).at y) ≡ total
 goes_on front ss end nulls i k x y s v total lt is p e so_far =
     let here = ap (λ (ts : List Slot). (cells ts end (drop k nulls)).at x) (slot_here ss i s lt is) in
-    let one = value_next s (drop (i + 1) ss) end (drop k nulls) x y v p (ap (λ (b : Bool). (maybe_cell b s).at x) (null_here nulls k) ∙ e) in
-    let later = ap (λ (ns : List Bool). with_front (v ∷ []) ((cells (drop (i + 1) ss) end ns).at y)) (null_more nulls k) in
-    sym (with_front-twice front (v ∷ []) ((cells (drop (i + 1) ss) end (drop (k + 1) nulls)).at y)) ∙ ap (with_front front) (sym (here ∙ one ∙ later)) ∙ so_far
+    let one = value_next s (drop (i + 1) ss) end (drop k nulls) x y v p (ap (λ (b : Bool). (nullable_cell b s).at x) (null_here nulls k) ∙ e) in
+    let later = ap (λ (ns : List Bool). with_front (Some v ∷ []) ((cells (drop (i + 1) ss) end ns).at y)) (null_more nulls k) in
+    sym (with_front-twice front (Some v ∷ []) ((cells (drop (i + 1) ss) end (drop (k + 1) nulls)).at y)) ∙ ap (with_front front) (sym (here ∙ one ∙ later)) ∙ so_far
 
 pub stops : (front : List (Option Cell)) (ss : List Slot) (end : Option Fault) (nulls : List Bool) (i k : ℕ) (x : List ℕ) (s : Slot) (e : Fault) (total : Read)
-    → i < length ss → s ≡ get_or ss i s → s.present ≡ true → (maybe_cell (get_or nulls k false) s).at x ≡ Err e
+    → i < length ss → s ≡ get_or ss i s → s.present ≡ true → (nullable_cell (get_or nulls k false) s).at x ≡ Err e
     → with_front front ((cells (drop i ss) end (drop k nulls)).at x) ≡ total
     → total ≡ Err e
 stops front ss end nulls i k x s e total lt is p f so_far =
     let here = ap (λ (ts : List Slot). (cells ts end (drop k nulls)).at x) (slot_here ss i s lt is) in
-    let one = fault_next s (drop (i + 1) ss) end (drop k nulls) x e p (ap (λ (b : Bool). (maybe_cell b s).at x) (null_here nulls k) ∙ f) in
+    let one = fault_next s (drop (i + 1) ss) end (drop k nulls) x e p (ap (λ (b : Bool). (nullable_cell b s).at x) (null_here nulls k) ∙ f) in
     sym so_far ∙ ap (with_front front) (here ∙ one)
 
 pub all_read : (front : List (Option Cell)) (ss : List Slot) (end : Option Fault) (nulls : List Bool) (i : ℕ) (x : List ℕ) (total : Read)

@@ -1,17 +1,17 @@
 -- The whole run: the events are one, and so are their pairs.
-use Rattle.std.proofs.Common.{◌≡◌, ℕ, List, [], Option, None, Result, Ok, Err, sym, ap, subst, refl, ◌∙◌}
+use Rattle.std.proofs.Common.{◌≡◌, ℕ, List, [], Option, None, Result, Ok, Err, sym, ap, subst, refl, ◌∙◌, inl, inr}
 use Rattle.std.specs.Prelude.{IfOk, IfErr}
 use Rattle.std.proofs.lemmas.List.{append-nil}
 use Rattle.binlog_base.specs.declared.fault.Fault.{Fault}
-use Rattle.binlog_base.specs.Exact.{ok_is}
-use Rattle.binlog_table.specs.TableMap.{TableMap}
+use Rattle.binlog_base.specs.Exact.{ok_is, err_is, ok_or_err}
+use Rattle.binlog_table.specs.TableMap.{TableMap, table_map}
 use Rattle.binlog_table.specs.TableMapExact.{exact_table_map}
-use Rattle.mysql_binlog_rows.specs.RowsEvent.{RowsEvent}
+use Rattle.mysql_binlog_rows.specs.RowsEvent.{RowsEvent, rows_event}
 use Rattle.mysql_binlog_rows.specs.RowsEventExact.{exact_rows_event}
 use Rattle.mysql_binlog_rows.specs.Images.{Pair, grammar_of}
 use Rattle.mysql_binlog_rows.specs.ImagesExact.{grammar_sound}
 use Rattle.mysql_binlog_rows.specs.Cover.{Covers, concat}
-use Rattle.mysql_binlog_rows.specs.Decodes.{Input, IsTable, IsEvent, Decodes, IsAllPairs}
+use Rattle.mysql_binlog_rows.specs.Decodes.{Input, IsTable, IsEvent, Decodes, IsAllPairs, IsRefused}
 use Rattle.mysql_binlog_rows.proofs.Covers.{covers_one}
 
 pub if_ok : {A : Type 0} (r : Result A Fault) (P Q : A → Type 0) → ((a : A) → P a → Q a) → IfOk r P → IfOk r Q
@@ -49,3 +49,40 @@ all_decode i parts ps h = record {
   is_event = h.is_event;
   covers = record { parts = parts; rest = []; whole = h.whole ∙ sym (append-nil (concat parts)); each = h.each; ending = refl };
 }
+
+-- ---- a refused event isn't read, and its fault is one
+
+abbrev table_at : Input → Result (TableMap × List ℕ) Fault
+table_at i = (table_map i.table_post_header_len).at i.table
+
+abbrev event_at : Input → Result (RowsEvent × List ℕ) Fault
+event_at i = (rows_event i.ctx.event_type i.ctx.post_header_len i.ctx.write_rows_post_header_len).at i.rows
+
+abbrev refusal : {A : Type 0} → Fault → Result A Fault
+refusal e = Err e
+
+pub table_refused : {A : Type 0} (i : Input) (d e : Fault) → table_at i ≡ Err d → IsRefused i e → refusal {A = A} d ≡ refusal e
+table_refused {A} i d e h r =
+    let ef = exact_table_map i.table_post_header_len in
+    elim r [
+      | inl l ↦ ap (refusal {A = A}) (err_is d e (sym h ∙ ef.only i.table e l))
+      | inr o ↦ absurd (ok_or_err (table_at i) (o.0, []) d (ef.again i.table o.0 o.1) h)
+    ]
+
+pub event_refused : {A : Type 0} (i : Input) (t : TableMap) (d e : Fault) → IsTable i t → event_at i ≡ Err d → IsRefused i e → refusal {A = A} d ≡ refusal e
+event_refused {A} i t d e is h r =
+    let tf = exact_table_map i.table_post_header_len in
+    let ef = exact_rows_event i.ctx.event_type i.ctx.post_header_len i.ctx.write_rows_post_header_len in
+    elim r [
+      | inl l ↦ absurd (ok_or_err (table_at i) (t, []) e (tf.again i.table t is) (tf.only i.table e l))
+      | inr o ↦ ap (refusal {A = A}) (err_is d e (sym h ∙ ef.only i.rows e o.2))
+    ]
+
+pub none_refused : (i : Input) (t : TableMap) (v : RowsEvent) (e : Fault) → IsTable i t → IsEvent i v → IsRefused i e → ⊥
+none_refused i t v e is_table is_event r =
+    let tf = exact_table_map i.table_post_header_len in
+    let ef = exact_rows_event i.ctx.event_type i.ctx.post_header_len i.ctx.write_rows_post_header_len in
+    elim r [
+      | inl l ↦ ok_or_err (table_at i) (t, []) e (tf.again i.table t is_table) (tf.only i.table e l)
+      | inr o ↦ ok_or_err (event_at i) (v, []) e (ef.again i.rows v is_event) (ef.only i.rows e o.2)
+    ]

@@ -14,6 +14,9 @@ pub record Input : Type 0 where
   pub rows : List ℕ
   pub ctx : RowsEventCtx
 
+abbrev pub input : List ℕ → ℕ → List ℕ → RowsEventCtx → Input
+input table table_post_header_len rows ctx = record { table = table; table_post_header_len = table_post_header_len; rows = rows; ctx = ctx }
+
 abbrev pub IsTable : Input → TableMap → Type 0
 IsTable i t = (table_map i.table_post_header_len).spells i.table t
 

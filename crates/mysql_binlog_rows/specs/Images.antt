@@ -17,7 +17,8 @@ use Rattle.binlog_table.specs.TableMap.{TableMap}
 use Rattle.binlog_table.specs.Chunks.{chunk_at}
 use Rattle.binlog_table.specs.ColumnTypes.{column_type_at, fault_of}
 use Rattle.mysql_binlog_rows.specs.RowsEvent.{RowsEvent, image_columns}
-use Rattle.mysql_binlog_rows.specs.Cells.{Cell, cell}
+use Rattle.binlog_base.specs.Values.{Null}
+use Rattle.mysql_binlog_rows.specs.Cells.{Cell, PlainCell, cell}
 
 -- ---- the columns of an event
 
@@ -78,7 +79,7 @@ image_of t present =
     let slots = slots_from t 0 present in
     record { slots = slots; count = count_by same_flag present; columns = columns_of t slots.typed }
 
--- a row without where it lies in memory
+-- a row without where it lies in memory: a value for each column, none where it was taken
 pub record BinlogRow : Type 0 where
   pub columns : List ColumnParts
   pub values : List (Option Cell)
@@ -88,19 +89,19 @@ abbrev pub ends : Option Fault → Format (List (Option Cell))
 ends None = done []
 ends (Some e) = fault e
 
--- a cell, or nothing where its null bit is set
-unfoldable pub maybe_cell : Bool → Slot → Format (Option Cell)
-maybe_cell is_null s = choice is_null (done None) (as_value (cell s.column_type s.metadata false false) Some)
+-- NULL where the null bit is set, else the cell
+unfoldable pub nullable_cell : Bool → Slot → Format Cell
+nullable_cell is_null s = choice is_null (done (PlainCell Null)) (cell s.column_type s.metadata false false)
 
--- the cells of the columns, in order; nulls has one bit for each column in the image that is still to come
+-- A value for each column in the image, in order; nulls has one bit for each of them that is still to come.
 unfoldable pub cells : List Slot → Option Fault → List Bool → Format (List (Option Cell))
 cells [] end nulls = ends end
 cells (s ∷ slots) end nulls =
     choice s.present
-    (both (maybe_cell (slice_index_or nulls 0 false) s) (λ v. as_value (cells slots end (drop 1 nulls)) (λ vs. v ∷ vs)))
+    (both (nullable_cell (slice_index_or nulls 0 false) s) (λ v. as_value (cells slots end (drop 1 nulls)) (λ vs. Some v ∷ vs)))
     (cells slots end nulls)
 
--- null bits, one for each column in the image, then the cells of those that aren't null
+-- Null bits, one for each column in the image, then the cells of those that aren't null. The row has a value for each column in it.
 unfoldable pub image : Image → Format BinlogRow
 image i = both (bit_list LeastSignificantFirst i.count) (λ nulls.
     as_value (cells i.slots.typed i.slots.fault nulls) (λ values. record { columns = i.columns; values = values }))

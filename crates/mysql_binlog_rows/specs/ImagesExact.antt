@@ -17,7 +17,7 @@ use Rattle.binlog_table.specs.ColumnTypes.{column_type_at, fault_of}
 use Rattle.binlog_table.specs.Chunks.{chunk_at}
 use Rattle.mysql_binlog_rows.specs.RowsEvent.{RowsEvent, image_columns}
 use Rattle.mysql_binlog_rows.specs.CellsExact.{exact_cell}
-use Rattle.mysql_binlog_rows.specs.Images.{Slot, Slots, typed_slot, slot_at, slot_then, slots_from, Image, image_of, Grammar, grammar_of, ends, maybe_cell, cells, image, maybe_image, pair}
+use Rattle.mysql_binlog_rows.specs.Images.{Slot, Slots, typed_slot, slot_at, slot_then, slots_from, Image, image_of, Grammar, grammar_of, ends, nullable_cell, cells, image, maybe_image, pair}
 
 -- the fault of a column without a type is one that bytes can have
 abbrev pub EndsSoundly : Option Fault → Type 0
@@ -36,16 +36,16 @@ exact_ends : (end : Option Fault) → EndsSoundly end → IsExact (ends end)
 exact_ends None sound = exact_done []
 exact_ends (Some e) sound = exact_fault e sound
 
-exact_maybe_cell : (is_null : Bool) (s : Slot) → IsExact (maybe_cell is_null s)
-unfolding maybe_cell
-exact_maybe_cell is_null s = exact_choice is_null _ _ (exact_done None) (exact_as _ _ (exact_cell s.column_type s.metadata false false))
+exact_nullable_cell : (is_null : Bool) (s : Slot) → IsExact (nullable_cell is_null s)
+unfolding nullable_cell
+exact_nullable_cell is_null s = exact_choice is_null _ _ (exact_done _) (exact_cell s.column_type s.metadata false false)
 
 exact_cells : (slots : List Slot) (end : Option Fault) (nulls : List Bool) → EndsSoundly end → IsExact (cells slots end nulls)
 unfolding cells
 exact_cells [] end nulls sound = exact_ends end sound
 exact_cells (s ∷ slots) end nulls sound =
     exact_choice s.present _ _
-    (exact_both _ _ (exact_maybe_cell (slice_index_or nulls 0 false) s) (λ v. exact_as _ _ (exact_cells slots end (drop 1 nulls) sound)))
+    (exact_both _ _ (exact_nullable_cell (slice_index_or nulls 0 false) s) (λ v. exact_as _ _ (exact_cells slots end (drop 1 nulls) sound)))
     (exact_cells slots end nulls sound)
 
 pub exact_image : (i : Image) → EndsSoundly i.slots.fault → IsExact (image i)

@@ -6,6 +6,7 @@ use binlog_base::below::{Column, ColumnType, ParseBuf, Value};
 use binlog_base::fault::Fault;
 use binlog_consts::consts::{BinlogVersion, EventType, RowsEventFlags};
 use binlog_table::table_map::TableMapEvent;
+use std::alloc::Global;
 use std::rc::RcSlice;
 use std::test::Fail;
 
@@ -193,21 +194,21 @@ fn inserted(rt: &HostRuntime, table: &[u8], rows: &[u8]) -> Result<Decoded, Faul
     decode(rt, table, rows, EventType::WRITE_ROWS_EVENT, 10)
 }
 
-/// Whether the value of a place is this number; none for NULL.
+/// Whether the value of a place is this number; none stands for NULL.
 fn is_number(row: &BinlogRow, index: usize, number: Option<i64>) -> bool {
     match row.as_ref(index) {
         Some(BinlogValue::Value(Value::Int(other))) => number == Some(*other),
-        Some(_) => false,
-        None => number.is_none(),
+        Some(BinlogValue::Value(Value::NULL)) => number.is_none(),
+        _ => false,
     }
 }
 
-/// Whether the value of a place is this text; none for NULL.
+/// Whether the value of a place is this text; none stands for NULL.
 fn is_text(row: &BinlogRow, index: usize, text: Option<&[u8]>) -> bool {
     match row.as_ref(index) {
         Some(BinlogValue::Value(Value::Bytes(other))) => text == Some(other.as_slice()),
-        Some(_) => false,
-        None => text.is_none(),
+        Some(BinlogValue::Value(Value::NULL)) => text.is_none(),
+        _ => false,
     }
 }
 
@@ -270,10 +271,10 @@ fn two_inserted_rows(rt: HostRuntime) -> Result<(), Fail> {
 }
 
 /// Whether the columns of an inserted row are those of d.t, also where they are shared.
-fn has_columns(pair: &RowPair) -> Result<bool, Fault> {
+fn has_columns(alloc: Global, pair: &RowPair) -> Result<bool, Fault> {
     match pair {
         (None, Some(row)) => {
-            let shared = row.columns()?;
+            let shared = row.columns(alloc)?;
             Ok(!row.is_empty() && are_columns(row.columns_ref()) && are_columns(shared.as_slice()))
         }
         _ => Ok(false),
@@ -306,7 +307,7 @@ fn equal_rows(rt: HostRuntime) -> Result<(), Fail> {
 fn columns_of_rows(rt: HostRuntime) -> Result<(), Fail> {
     let decoded = inserted(&rt, &two_columns(), &two_rows())?;
     for pair in &decoded.pairs {
-        assert!(rt; has_columns(pair)?);
+        assert!(rt; has_columns(rt.alloc(), pair)?);
     }
     let none: RcSlice<Column> = RcSlice::from_vec(Vec::new(rt.alloc()))?;
     assert!(rt; BinlogRow::new(Vec::new(rt.alloc()), none).is_empty());
@@ -321,47 +322,68 @@ fn ends_of_rows_data(rt: HostRuntime) -> Result<(), Fail> {
     assert!(rt; ends(&cut, 1, Some(Fault::UnexpectedEof)));
     let none = inserted(&rt, &two_columns(), &rows[..12]);
     assert!(rt; ends(&none, 0, None));
-    // The event has no columns, so a pair has no bytes.
-    let empty = inserted(&rt, &two_columns(), &[1, 0, 0, 0, 0, 0, 1, 0, 2, 0, 0, 7]);
-    assert!(rt; ends(&empty, 0, Some(Fault::EmptyPair)));
     Ok(())
 }
 
+/// A row of one column with this value.
+fn row_of(alloc: Global, value: Option<Value>) -> Result<BinlogRow, Fault> {
+    let column = Column::new(ColumnType::MYSQL_TYPE_LONG);
+    let columns = RcSlice::from_vec(vec![in alloc; column]?)?;
+    let values = vec![in alloc; value.map(BinlogValue::Value)]?;
+    Ok(BinlogRow::new(values, columns))
+}
+
 #[test]
-fn faults_of_columns(rt: HostRuntime) {
-    let rows = two_rows();
-    // The table has one column, the event two.
-    let one = [1, 0, 0, 0, 0, 0, 1, 0, 1, 0x64, 0, 1, 0x74, 0, 1, 3, 0, 0];
-    assert!(rt; ends(&inserted(&rt, &one, &rows), 0, Some(Fault::NoColumnType)));
+fn nulls_are_values(rt: HostRuntime) -> Result<(), Fail> {
+    let null = row_of(rt.alloc(), Some(Value::NULL))?;
+    let taken = row_of(rt.alloc(), None)?;
+    assert!(rt; matches!(null.as_ref(0), Some(BinlogValue::Value(Value::NULL))));
+    assert!(rt; taken.as_ref(0).is_none());
+    assert!(rt; null.as_ref(1).is_none());
+    assert!(rt; null == row_of(rt.alloc(), Some(Value::NULL))?);
+    assert!(rt; null != taken);
+    let null_text = format!(in rt.alloc(); "{null:?}")?;
+    let taken_text = format!(in rt.alloc(); "{taken:?}")?;
+    assert!(rt; null_text.as_str() != taken_text.as_str());
+    Ok(())
+}
+
+/// Whether the only item of a WRITE_ROWS_EVENT is this fault, and a further `next` gives nothing.
+fn is_faulty(rt: &HostRuntime, table: &[u8], rows: &[u8], fault: Fault) -> Result<bool, Fault> {
+    let decoded = inserted(rt, table, rows);
+    let table: TableMapEvent<'_> = ParseBuf(table).parse(8)?;
+    let event = read(rows, EventType::WRITE_ROWS_EVENT, 10)?;
+    let mut items = event.rows(rt.alloc(), &table);
+    let is_first = matches!(items.next(), Some(Err(other)) if other == fault);
+    Ok(is_first && items.next().is_none() && ends(&decoded, 0, Some(fault)))
+}
+
+#[test]
+fn faults_of_pairs(rt: HostRuntime) -> Result<(), Fail> {
+    let table = two_columns();
+    // No column is in the image, so a pair has no bytes.
+    let empty = [1, 0, 0, 0, 0, 0, 1, 0, 2, 0, 2, 0, 5];
+    assert!(rt; is_faulty(&rt, &table, &empty, Fault::EmptyPair)?);
+    // The event has three columns.
+    let three = [1, 0, 0, 0, 0, 0, 1, 0, 2, 0, 3, 7, 7];
+    assert!(rt; is_faulty(&rt, &table, &three, Fault::NoColumnType)?);
     // VARCHAR without metadata.
     let bare = [
-        1, 0, 0, 0, 0, 0, 1, 0, 1, 0x64, 0, 1, 0x74, 0, 2, 3, 0x0f, 0, 0,
+        1, 0, 0, 0, 0, 0, 1, 0, 1, 0x64, 0, 1, 0x74, 0, 1, 0x0f, 0, 1,
     ];
-    assert!(rt;
-        ends(
-            &inserted(&rt, &bare, &rows),
-            0,
-            Some(Fault::MissingMetadata)
-        )
-    );
-    // LONG and an unknown type: the cell of the first is cut, or whole.
+    let text = [1, 0, 0, 0, 0, 0, 1, 0, 2, 0, 1, 1, 0, 2, 0x61, 0x62];
+    assert!(rt; is_faulty(&rt, &bare, &text, Fault::MissingMetadata)?);
+    // LONG, LONG, LONG and an unknown type: the cell of the second is cut, or all three are whole.
     let unknown = [
-        1, 0, 0, 0, 0, 0, 1, 0, 1, 0x64, 0, 1, 0x74, 0, 2, 3, 244, 0, 0,
+        1, 0, 0, 0, 0, 0, 1, 0, 1, 0x64, 0, 1, 0x74, 0, 4, 3, 3, 3, 244, 0, 0,
     ];
-    assert!(rt;
-        ends(
-            &inserted(&rt, &unknown, &rows[..16]),
-            0,
-            Some(Fault::UnexpectedEof)
-        )
-    );
-    assert!(rt;
-        ends(
-            &inserted(&rt, &unknown, &rows),
-            0,
-            Some(Fault::UnknownColumnType(244))
-        )
-    );
+    let cut = [1, 0, 0, 0, 0, 0, 1, 0, 2, 0, 4, 15, 0, 1, 0, 0, 0, 2];
+    assert!(rt; is_faulty(&rt, &unknown, &cut, Fault::UnexpectedEof)?);
+    let whole = [
+        1, 0, 0, 0, 0, 0, 1, 0, 2, 0, 4, 15, 0, 1, 0, 0, 0, 2, 0, 0, 0, 3, 0, 0, 0,
+    ];
+    assert!(rt; is_faulty(&rt, &unknown, &whole, Fault::UnknownColumnType(244))?);
+    Ok(())
 }
 
 #[test]

@@ -30,7 +30,7 @@ impl<T: Flags, U: IntRepr<Primitive = T::Bits>> Model for RawFlags<T, U> {
 
 impl<T: Flags, U: IntRepr<Primitive = T::Bits>> RawFlags<T, U> {
     /// The flags as they stand in the bytes.
-    pub fn new(bits: T::Bits) -> Self
+    pub(crate) fn new(bits: T::Bits) -> Self
         requires { U.IsInRange bits }
         ensures { result ≡ bits }
     {

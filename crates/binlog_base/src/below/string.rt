@@ -42,10 +42,9 @@ pub trait BytesRepr {
     fn deserialize<'de>(ctx: Self::Ctx, buf: &mut ParseBuf<'de>) -> Result<&'de [u8], Fault>
         ensures { Parses false (λ x. x.now) result buf.new.0.now (format ctx) buf.old.0.now };
 
-    /// Writes a string at the end of the buffer.
+    /// Writes a string at the end of the buffer, at most its first `MAX_LEN` bytes.
     fn serialize(text: &[u8], buf: &mut Vec<u8>) -> Result<(), AllocError>
-        requires { length text.now ≤ MAX_LEN }
-        ensures { Appends result buf.old.items buf.new.items (spelling text.now) };
+        ensures { Appends result buf.old.items buf.new.items (spelling (take MAX_LEN text.now)) };
 
     ghost exact: { (ctx : Self.Ctx) → Exact to_end (format ctx) };
 
@@ -67,7 +66,7 @@ impl<'a, T: BytesRepr> Model for RawBytes<'a, T> {
 }
 
 // At most the first n bytes.
-fn front(text: &[u8], n: usize) -> &[u8]
+fn prefix(text: &[u8], n: usize) -> &[u8]
     ensures items { result.now ≡ take n text.now }
     ensures len { length result.now ≤ n }
 {
@@ -170,7 +169,7 @@ impl<'a, T: BytesRepr> MySerialize for RawBytes<'a, T> {
     ghost written = { λ text. T.spelling (take T.MAX_LEN text) };
 
     fn serialize(&self, buf: &mut Vec<u8>) -> Result<(), AllocError> {
-        T::serialize(front(self.as_bytes(), T::MAX_LEN), buf)
+        T::serialize(self.as_bytes(), buf)
     }
 }
 
@@ -200,6 +199,7 @@ impl BytesRepr for U8Bytes {
 
     #[tactic(auto, using(crate::proofs::Appending::appending), unfolding(crate::specs::Strings::u8_string_bytes))]
     fn serialize(text: &[u8], buf: &mut Vec<u8>) -> Result<(), AllocError> {
+        let text = prefix(text, Self::MAX_LEN);
         put_byte(text.len() as u8, buf)?;
         buf.extend_from_slice(text)
     }
@@ -228,6 +228,7 @@ impl BytesRepr for LenEnc {
 
     #[tactic(auto, using(crate::proofs::Appending::appending), unfolding(crate::specs::Strings::lenenc_string_bytes))]
     fn serialize(text: &[u8], buf: &mut Vec<u8>) -> Result<(), AllocError> {
+        let text = prefix(text, <LenEnc as BytesRepr>::MAX_LEN);
         <LenEnc as IntRepr>::serialize(text.len() as u64, buf)?;
         buf.extend_from_slice(text)
     }
@@ -256,6 +257,7 @@ impl BytesRepr for VarLen {
 
     #[tactic(auto, using(crate::proofs::Appending::appending), unfolding(crate::specs::Strings::varlen_string_bytes))]
     fn serialize(text: &[u8], buf: &mut Vec<u8>) -> Result<(), AllocError> {
+        let text = prefix(text, <VarLen as BytesRepr>::MAX_LEN);
         <VarLen as IntRepr>::serialize(text.len() as u32, buf)?;
         buf.extend_from_slice(text)
     }
@@ -284,7 +286,7 @@ impl<const MAX: usize> BytesRepr for BareBytes<MAX> {
     }
 
     fn serialize(text: &[u8], buf: &mut Vec<u8>) -> Result<(), AllocError> {
-        buf.extend_from_slice(text)
+        buf.extend_from_slice(prefix(text, Self::MAX_LEN))
     }
 }
 
@@ -313,6 +315,6 @@ impl BytesRepr for EofBytes {
     }
 
     fn serialize(text: &[u8], buf: &mut Vec<u8>) -> Result<(), AllocError> {
-        buf.extend_from_slice(text)
+        buf.extend_from_slice(prefix(text, Self::MAX_LEN))
     }
 }

@@ -1,4 +1,4 @@
-ghost use Rattle.std.specs.Prelude.{◌≡◌, ℕ, ◌*◌, ◌≤◌, ◌<◌, Bool, List, length, slice_get, count_by, false, IsTrue, ◌↔◌};
+ghost use Rattle.std.specs.Prelude.{◌≡◌, ℕ, min, ◌*◌, ◌≤◌, ◌<◌, Bool, List, length, slice_get, count_by, false, IsTrue, ◌↔◌};
 ghost use Rattle.std.specs.Iterator.{YieldsFirst, item_count};
 ghost use Rattle.binlog_base.specs.Bits.{bits_of, bit_at, bits_from, same_bit, bit_list, bitmap_len};
 ghost use Rattle.binlog_base.specs.BitsExact.{exact_bit_list};
@@ -42,11 +42,11 @@ fn bit(bytes: &[u8], order: BitOrder, i: usize) -> bool
 }
 
 impl<'a> BitView<'a> {
-    /// The first `len` bits of the bytes.
+    /// The first `len` bits of the bytes; all of them where the bytes have fewer.
     pub fn new(bytes: &'a [u8], len: usize, order: BitOrder) -> Self
-        requires { len ≤ 8 * length bytes.now }
-        ensures { result ≡ bits_of order len bytes.now }
+        ensures { result ≡ bits_of order (min len (8 * length bytes.now)) bytes.now }
     {
+        let len = len.min(bytes.len().saturating_mul(8));
         BitView { bytes, len, order }
     }
 
@@ -163,7 +163,7 @@ impl<'de> MyDeserialize<'de> for BitView<'de> {
 
     type Ctx = (BitOrder, usize);
 
-    #[tactic(auto, unfolding(crate::specs::Bits::bit_list))]
+    #[tactic(auto, using(crate::specs::BitsExact::all_there), unfolding(crate::specs::Bits::bit_list))]
     fn deserialize(ctx: (BitOrder, usize), buf: &mut ParseBuf<'de>) -> Result<Self, Fault> {
         let (order, len) = ctx;
         let bytes = buf.checked_eat(bitmap_len(len))?;

@@ -12,7 +12,7 @@ ghost use Rattle.std.specs.Cmp.Lexicographic.{pointwise, lists_per, options_equi
 
 use crate::value::BinlogValue;
 use binlog_base::below::Column;
-use std::alloc::AllocError;
+use std::alloc::{AllocError, Global};
 use std::marker::Model;
 use std::rc::RcSlice;
 
@@ -24,7 +24,8 @@ fn same_values(values: &[Option<BinlogValue>], others: &[Option<BinlogValue>]) -
     values == others
 }
 
-/// A row of an event: a value for each of its columns, none for NULL. Rows of one event share their columns.
+/// A row of an event: a value for each of its columns, `Value::NULL` for NULL, and none where the value was taken. Rows of one event
+/// share their columns.
 #[derive(Debug, Drop)]
 pub struct BinlogRow {
     values: Vec<Option<BinlogValue>>,
@@ -85,13 +86,13 @@ impl BinlogRow {
     }
 
     /// The columns, shared with this row.
-    pub fn columns(&self) -> Result<RcSlice<Column>, AllocError>
+    pub fn columns(&self, _alloc: Global) -> Result<RcSlice<Column>, AllocError>
         ensures { IfOk result (λ columns. rc_slice_items columns ≡ self.now.columns) }
     {
         self.columns.clone()
     }
 
-    /// The value of place `index`; none behind the last, or where it is NULL.
+    /// The value of place `index`; `None` past the last place, or where the value was taken.
     pub fn as_ref(&self, index: usize) -> Option<&BinlogValue>
         ensures { option_map (λ v. cell_of v.now) result ≡ value_at self.now.values index }
     {

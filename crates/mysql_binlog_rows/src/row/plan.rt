@@ -5,11 +5,11 @@ ghost use Rattle.binlog_base.specs.declared.fault.Fault.TheVariants as Fault;
 ghost use Rattle.binlog_base.specs.Format.{Parses};
 ghost use Rattle.binlog_table.specs.ColumnTypes.{raw_type_of, real_type_of};
 ghost use Rattle.mysql_binlog_rows.specs.Cells.{cell_of};
-ghost use Rattle.mysql_binlog_rows.specs.Images.{image, image_of, slot_at, typed_slot, column_of, maybe_cell, cells};
+ghost use Rattle.mysql_binlog_rows.specs.Images.{image, image_of, slot_at, typed_slot, column_of, nullable_cell, cells};
 
 use super::binlog_row::BinlogRow;
 use crate::value::{BinlogValue, read_cell};
-use binlog_base::below::{Column, ColumnType, MyDeserialize, ParseBuf};
+use binlog_base::below::{Column, ColumnType, MyDeserialize, ParseBuf, Value};
 use binlog_base::bits::{BitOrder, BitView};
 use binlog_base::fault::Fault;
 use binlog_table::table_map::TableMapEvent;
@@ -135,7 +135,7 @@ impl<'a> Plan<'a> {
     }
 }
 
-// The cells of the columns that are in the image, up to the fault of the first column without a type.
+// A value for each column in the image, up to the fault of the first column without a type.
 fn read_cells(
     alloc: Global,
     slots: &[Slot<'_>],
@@ -145,12 +145,12 @@ fn read_cells(
 ) -> Result<Vec<Option<BinlogValue>>, Fault>
     ensures { Parses true (λ v. map (option_map cell_of) v.items) result buf.new.0.now (cells slots.now end nulls.now) buf.old.0.now }
 {
-    let mut values = Vec::new(alloc);
+    let mut values = Vec::with_capacity(alloc, nulls.len())?;
     let mut place = 0;
     for slot in slots {
         if slot.present {
-            let value = read_maybe_cell(alloc, slot, is_set(nulls, place), buf)?;
-            values.push(value)?;
+            let value = read_nullable_cell(alloc, slot, is_set(nulls, place), buf)?;
+            values.push(Some(value))?;
             place += 1;
         }
     }
@@ -167,19 +167,18 @@ fn is_set(bits: &BitView<'_>, place: usize) -> bool
     bits.get(place).unwrap_or(false)
 }
 
-// A cell, or nothing where its null bit is set.
-#[tactic(auto, unfolding(crate::specs::Images::maybe_cell))]
-fn read_maybe_cell(
+// NULL where the null bit is set, else the cell.
+#[tactic(auto, unfolding(crate::specs::Images::nullable_cell))]
+fn read_nullable_cell(
     alloc: Global,
     slot: &Slot<'_>,
     is_null: bool,
     buf: &mut ParseBuf<'_>,
-) -> Result<Option<BinlogValue>, Fault>
-    ensures { Parses true (option_map cell_of) result buf.new.0.now (maybe_cell is_null slot.now) buf.old.0.now }
+) -> Result<BinlogValue, Fault>
+    ensures { Parses true cell_of result buf.new.0.now (nullable_cell is_null slot.now) buf.old.0.now }
 {
     if is_null {
-        return Ok(None);
+        return Ok(BinlogValue::Value(Value::NULL));
     }
-    let cell = read_cell(alloc, slot.column_type, slot.metadata, false, false, buf)?;
-    Ok(Some(cell))
+    read_cell(alloc, slot.column_type, slot.metadata, false, false, buf)
 }

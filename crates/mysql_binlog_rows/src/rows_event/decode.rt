@@ -1,8 +1,8 @@
-ghost use Rattle.std.specs.Prelude.{◌≡◌, ◌≢◌, IfOk, IfErr, List, ℕ, Option, None};
+ghost use Rattle.std.specs.Prelude.{◌≡◌, ◌≢◌, IfOk, IfErr, List, ℕ, Option, None, Err};
 ghost use Rattle.binlog_base.specs.declared.fault.Fault.TheVariants as Fault;
 ghost use Rattle.mysql_binlog_rows.specs.Images.{grammar_of, Pair};
 ghost use Rattle.mysql_binlog_rows.specs.Cover.{Covers};
-ghost use Rattle.mysql_binlog_rows.specs.Decodes.{Decodes, IsAllPairs, IsRefused};
+ghost use Rattle.mysql_binlog_rows.specs.Decodes.{input, Decodes, IsAllPairs, IsRefused};
 
 use super::event::{RowsEvent, RowsEventCtx};
 use super::rows::RowPair;
@@ -57,13 +57,20 @@ pub fn decode_pairs(
     ctx: RowsEventCtx,
 ) -> Result<Decoded, Fault>
     // The pairs cover the rows data, gap-free up to the first place where no pair of at least one byte stands, with its fault.
-    ensures covers { IfOk result (λ d. Decodes (record { table = table_bytes.now; table_post_header_len = table_post_header_len; rows = rows_bytes.now; ctx = ctx }) d.pairs.items d.fault) }
+    ensures covers { let i = input table_bytes.now table_post_header_len rows_bytes.now ctx in
+        IfOk result (λ d. Decodes i d.pairs.items d.fault) }
     // No others do.
-    ensures only { IfOk result (λ d. (pairs : List Pair) (end : Option Fault) → Decodes (record { table = table_bytes.now; table_post_header_len = table_post_header_len; rows = rows_bytes.now; ctx = ctx }) pairs end → (pairs ≡ d.pairs.items) × (end ≡ d.fault)) }
+    ensures only { let i = input table_bytes.now table_post_header_len rows_bytes.now ctx in
+        IfOk result (λ d. (pairs : List Pair) (end : Option Fault) → Decodes i pairs end → (pairs ≡ d.pairs.items) × (end ≡ d.fault)) }
     // Every list of pairs that are together the rows data is this one, without a fault.
-    ensures every { IfOk result (λ d. (parts : List (List ℕ)) (pairs : List Pair) → IsAllPairs (record { table = table_bytes.now; table_post_header_len = table_post_header_len; rows = rows_bytes.now; ctx = ctx }) parts pairs → (pairs ≡ d.pairs.items) × (d.fault ≡ None)) }
+    ensures every { let i = input table_bytes.now table_post_header_len rows_bytes.now ctx in
+        IfOk result (λ d. (parts : List (List ℕ)) (pairs : List Pair) → IsAllPairs i parts pairs → (pairs ≡ d.pairs.items) × (d.fault ≡ None)) }
     // An error is the fault of the event that is refused, or Memory.
-    ensures refused { IfErr result (λ e. e ≢ Fault.Memory → IsRefused (record { table = table_bytes.now; table_post_header_len = table_post_header_len; rows = rows_bytes.now; ctx = ctx }) e) }
+    ensures err { let i = input table_bytes.now table_post_header_len rows_bytes.now ctx in
+        IfErr result (λ e. e ≢ Fault.Memory → IsRefused i e) }
+    // Where an event is refused, its fault is the answer, and not Memory: reading the events takes no memory.
+    ensures refused { let i = input table_bytes.now table_post_header_len rows_bytes.now ctx in
+        (e : Fault) → IsRefused i e → result ≡ Err e }
 {
     let table: TableMapEvent<'_> = ParseBuf(table_bytes).parse(table_post_header_len)?;
     let event: RowsEvent<'_> = ParseBuf(rows_bytes).parse(ctx)?;

@@ -1,1 +1,2 @@
 pub mod SixWords
+pub mod Digits

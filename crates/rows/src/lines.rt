@@ -1,43 +1,52 @@
 //! The lines that the program prints.
 
-ghost use Rattle.std.specs.Prelude.{◌≡◌, Some, length};
+ghost use Rattle.std.specs.Prelude.{◌≤◌, Some, length};
+ghost use Rattle.std.specs.Fmt.{WritesOnOk};
+ghost use Rattle.hex.specs.Hex.{encode_lower};
 ghost use Rattle.std.specs.Option.{option_map};
 ghost use Rattle.binlog_base.specs.Values.{plain_of};
 ghost use Rattle.mysql_binlog_rows.specs.Cells.{cell_of};
-ghost use Rattle.rows.specs.Lines.{hex_byte, hex_text, plain_text, negative_of, cell_text, name_text, field_text, fields_text, image_text, lines_text};
+ghost use Rattle.rows.specs.Lines.{plain_text, cell_text, name_text, field_text, fields_text, image_text, lines_text};
 
 use binlog_base::below::{Column, Value};
 use bstr::BStr;
 use mysql_binlog_rows::row::BinlogRow;
 use mysql_binlog_rows::rows_event::RowPair;
-use mysql_binlog_rows::value::{BinlogValue, negative_time};
+use mysql_binlog_rows::value::BinlogValue;
 use std::fmt;
 
-// A byte as two lower-case hexadecimal digits.
-#[derive(Drop)]
-struct HexByte(u8);
+// How many bytes are made digits at a time.
+const CHUNK: usize = 32;
 
-impl fmt::Display for HexByte {
-    ghost output = { λ b. Some (hex_byte b.0) };
-
-    fn fmt<W: fmt::Write>(&self, f: &mut fmt::Formatter<W>) -> fmt::Result {
-        let high = self.0 / 16;
-        let low = self.0 % 16;
-        write!(f, "{high:x}{low:x}")
-    }
+// Writes at most `CHUNK` bytes as hexadecimal digits.
+fn write_digits<W: fmt::Write>(bytes: &[u8], f: &mut fmt::Formatter<W>) -> fmt::Result
+    requires { length bytes.now ≤ 32 }
+    ensures { WritesOnOk W.write_str_gives f.old result (encode_lower bytes.now) f.new }
+{
+    let mut digits = [0; 2 * CHUNK];
+    let digits = &mut digits[..2 * bytes.len()];
+    let Ok(()) = hex::encode_to_slice(bytes, digits) else {
+        return Err(fmt::Error);
+    };
+    let Ok(text) = str::from_utf8(digits) else {
+        return Err(fmt::Error);
+    };
+    f.write_str(text)
 }
 
-// Bytes as lower-case hexadecimal digits.
+// Bytes as lower-case hexadecimal digits, two a byte.
 #[derive(Drop)]
 struct Hex<'a>(&'a [u8]);
 
 impl fmt::Display for Hex<'_> {
-    ghost output = { λ h. Some (hex_text h.0.now) };
+    ghost output = { λ h. Some (encode_lower h.0.now) };
 
     fn fmt<W: fmt::Write>(&self, f: &mut fmt::Formatter<W>) -> fmt::Result {
-        for byte in self.0 {
-            let digits = HexByte(*byte);
-            write!(f, "{digits}")?;
+        let mut left = self.0;
+        while !left.is_empty() {
+            let (chunk, rest) = left.split_at(left.len().min(CHUNK));
+            write_digits(chunk, f)?;
+            left = rest;
         }
         Ok(())
     }
@@ -81,29 +90,18 @@ impl fmt::Display for Plain<'_> {
     }
 }
 
-// The negative TIME that a value of this column stands for, where it was read without its sign.
-fn negative_of(column: Option<&Column>, value: &Value) -> Option<Value>
-    ensures { option_map plain_of result ≡ negative_of (option_map (λ c. c.now) column.entry) (plain_of value.now) }
-{
-    negative_time(column?.column_type(), value)
-}
-
-// A cell of a column, none for NULL.
+// A cell; nothing where the value was taken.
 #[derive(Drop)]
-struct Cell<'a> {
-    column: Option<&'a Column>,
-    value: Option<&'a BinlogValue>,
-}
+struct Cell<'a>(Option<&'a BinlogValue>);
 
 impl fmt::Display for Cell<'_> {
-    ghost output = { λ c. Some (cell_text (option_map (λ d. d.now) c.column) (option_map (λ v. cell_of v.now) c.value)) };
+    ghost output = { λ c. Some (cell_text (option_map (λ v. cell_of v.now) c.0)) };
 
     fn fmt<W: fmt::Write>(&self, f: &mut fmt::Formatter<W>) -> fmt::Result {
-        match self.value {
-            None => write!(f, "NULL"),
+        match self.0 {
+            None => Ok(()),
             Some(BinlogValue::Value(value)) => {
-                let negative = negative_of(self.column, value);
-                let plain = Plain(negative.as_ref().unwrap_or(value));
+                let plain = Plain(value);
                 write!(f, "{plain}")
             }
         }
@@ -140,12 +138,8 @@ impl fmt::Display for Field<'_> {
 
     fn fmt<W: fmt::Write>(&self, f: &mut fmt::Formatter<W>) -> fmt::Result {
         let comma = if self.index == 0 { "" } else { ", " };
-        let column = self.row.columns_ref().get(self.index);
-        let name = Name(column);
-        let cell = Cell {
-            column,
-            value: self.row.as_ref(self.index),
-        };
+        let name = Name(self.row.columns_ref().get(self.index));
+        let cell = Cell(self.row.as_ref(self.index));
         write!(f, "{comma}{name}={cell}")
     }
 }
@@ -189,8 +183,8 @@ impl fmt::Display for Image<'_> {
 /// name as lossy text), joined by `, `, and `}`.
 ///
 /// A cell is `NULL`, a whole number, `x` and lower-case hexadecimal for bytes, `f32:` or `f64:` and the bits of a float,
-/// `date(year,month,day,hour,minute,second,microseconds)`, or `time(negative,days,hours,minutes,seconds,microseconds)`. A negative TIME
-/// of the format before fractional seconds, whose value comes without its sign, is written with it.
+/// `date(year,month,day,hour,minute,second,microseconds)`, or `time(negative,days,hours,minutes,seconds,microseconds)`. Of a value that
+/// was taken nothing is written.
 #[derive(Drop)]
 pub struct Lines<'a>(pub &'a [RowPair]);
 

@@ -7,19 +7,30 @@ pub mod run;
 mod tests;
 pub mod words;
 
+use binlog_base::fault::Fault;
+use run::{fail, run};
+use std::io::{BufWriter, ErrorKind};
 use std::process::ExitCode;
 use std::{env, io};
 
 fn main(rt: HostRuntime) -> ExitCode {
-    // Words that can't be had are no words.
-    let words = match arguments(&rt) {
-        Ok(words) => words,
-        Err(_) => Vec::new(rt.alloc()),
-    };
-    ExitCode::from(run::run(rt.alloc(), &words, &mut rt.stdout(), &mut rt.stderr()))
+    match BufWriter::new(rt.alloc(), rt.stdout()) {
+        Ok(mut out) => ExitCode::from(print(&rt, &mut out)),
+        Err(_) => ExitCode::from(fail(&mut rt.stdout(), Fault::Memory)),
+    }
 }
 
-// The words behind the program's name.
+// Runs on the arguments, and answers the status.
+fn print<O: io::Write>(rt: &HostRuntime, out: &mut O) -> u8 {
+    match arguments(rt) {
+        Ok(words) => run(rt.alloc(), &words, out, &mut rt.stderr()),
+        Err(error) if error.kind() == ErrorKind::OutOfMemory => fail(out, Fault::Memory),
+        // An argument that isn't UTF-8: no words, so the usage is printed.
+        Err(_) => run(rt.alloc(), &[], out, &mut rt.stderr()),
+    }
+}
+
+// The words after the program's name.
 fn arguments(rt: &HostRuntime) -> io::Result<Vec<String>> {
     let mut words = Vec::new(rt.alloc());
     for word in env::args(rt)?.skip(1) {

@@ -35,11 +35,11 @@ pub fn run<O: Write, E: Write>(alloc: Global, words: &[String], out: &mut O, err
 {
     let words = match Words::read(alloc, words) {
         Ok(words) => words,
-        Err(WordsError::Usage) => {
-            let _ = writeln!(err, "usage: rows MLEN TYPE PLEN WLEN MAPHEX ROWSHEX");
+        Err(error @ WordsError::Usage) => {
+            let _ = writeln!(err, "{error}");
             return 2;
         }
-        Err(WordsError::Memory) => return failed(out, Fault::Memory),
+        Err(WordsError::Memory) => return fail(out, Fault::Memory),
     };
     let len = words.table_post_header_len;
     match decode_pairs(alloc, &words.table, len, &words.rows, words.ctx) {
@@ -47,12 +47,12 @@ pub fn run<O: Write, E: Write>(alloc: Global, words: &[String], out: &mut O, err
             Ok(()) if decoded.fault.is_none() => 0,
             _ => 1,
         },
-        Err(fault) => failed(out, fault),
+        Err(fault) => fail(out, fault),
     }
 }
 
-// The line of a fault, and the status that goes with it, whether or not the line was written.
-fn failed<O: Write>(out: &mut O, fault: Fault) -> u8
+/// Writes the line of a fault and answers the status that goes with it, 1, whether or not the line was written.
+pub fn fail<O: Write>(out: &mut O, fault: Fault) -> u8
     ensures { result ≡ 1 }
 {
     let _ = print_fault(out, fault);

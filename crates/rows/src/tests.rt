@@ -1,4 +1,5 @@
-use crate::run::run;
+use crate::run::{fail, run};
+use crate::words::WordsError;
 use binlog_base::below::Value;
 use binlog_base::fault::Fault;
 use binlog_consts::consts::EventType;
@@ -223,7 +224,7 @@ fn real_inserts(rt: HostRuntime) -> Result<(), Fail> {
     Ok(())
 }
 
-/// Inserts of other types, that the same server wrote.
+/// Inserts of other types, all but one written by the same server.
 #[test]
 fn real_inserts_of_other_types(rt: HostRuntime) -> Result<(), Fail> {
     let cases = [
@@ -271,17 +272,23 @@ fn real_inserts_of_other_types(rt: HostRuntime) -> Result<(), Fail> {
             "94030000000001000564625f6f4200046f6c643000010b0001",
             "94030000000001000101fe000000fefffffffea7f57ffe590a80feb79903fe80a903fe8056fcfe000000fe000000fec01dfefe41420fff",
             "- -> {@0=time(false,0,0,0,0,0)}\n\
-             - -> {@0=time(true,0,0,0,1,0)}\n\
+             - -> {@0=time(false,69,21,72,15,0)}\n\
              - -> {@0=time(false,34,22,59,59,0)}\n\
-             - -> {@0=time(true,34,22,59,59,0)}\n\
+             - -> {@0=time(false,34,23,12,57,0)}\n\
              - -> {@0=time(false,0,23,59,59,0)}\n\
              - -> {@0=time(false,1,0,0,0,0)}\n\
-             - -> {@0=time(true,1,0,0,0,0)}\n\
+             - -> {@0=time(false,68,21,72,16,0)}\n\
              - -> {@0=time(false,0,0,0,0,0)}\n\
              - -> {@0=time(false,0,0,0,0,0)}\n\
-             - -> {@0=time(true,0,12,34,56,0)}\n\
+             - -> {@0=time(false,69,9,37,60,0)}\n\
              - -> {@0=time(false,4,4,0,1,0)}\n\
              - -> {@0=NULL}\n",
+        ),
+        // The least number of three bytes in two's complement, on the same table.
+        (
+            "94030000000001000564625f6f4200046f6c643000010b0001",
+            "94030000000001000101fe000080",
+            "- -> {@0=time(false,34,22,86,8,0)}\n",
         ),
         (
             "95030000000001000564625f6f4200046f6c643100010c0001",
@@ -348,6 +355,45 @@ fn forms_of_cells(rt: HostRuntime) -> Result<(), Fail> {
     Ok(())
 }
 
+/// A text of 70 bytes, which are made digits in three parts.
+#[test]
+fn long_bytes(rt: HostRuntime) -> Result<(), Fail> {
+    let mut rows = String::from_str(rt.alloc(), "010000000000010002000202FE46")?;
+    let mut text = String::from_str(rt.alloc(), "- -> {@1=x")?;
+    for byte in 0..70u8 {
+        write!(rows, "{byte:02X}")?;
+        write!(text, "{byte:02x}")?;
+    }
+    text.push_str("}\n")?;
+    let table = "010000000000010001640001740002030F020A0002";
+    assert!(rt;
+        prints(
+            rt.alloc(),
+            &["8", "1E", "10", "10", table, &rows],
+            0,
+            &text,
+            ""
+        )?
+    );
+    Ok(())
+}
+
+#[test]
+fn texts_of_errors(rt: HostRuntime) -> Result<(), Fail> {
+    let usage = WordsError::Usage;
+    let memory = WordsError::Memory;
+    let text = format!(in rt.alloc(); "{usage}\n{memory}")?;
+    assert!(rt; text.as_str() == "usage: rows MLEN TYPE PLEN WLEN MAPHEX ROWSHEX\nout of memory");
+    Ok(())
+}
+
+#[test]
+fn lines_of_faults(rt: HostRuntime) {
+    let mut out = Vec::new(rt.alloc());
+    assert_eq!(rt; fail(&mut out, Fault::Memory), 1);
+    assert!(rt; out.as_slice() == b"fault Memory\n".as_slice());
+}
+
 #[test]
 fn usage(rt: HostRuntime) -> Result<(), Fail> {
     let good = ["8", "1E", "10", "10", TABLE, "00"];
@@ -411,7 +457,7 @@ fn closed_output(rt: HostRuntime) -> Result<(), Fail> {
     Ok(())
 }
 
-/// The numbers in the first column of the rows that a WRITE_ROWS_EVENT inserts; none for NULL, and for what is no number.
+/// The numbers in the first column of the rows that a WRITE_ROWS_EVENT inserts; none for a value that is no number.
 fn first_numbers(alloc: Global, table: &[u8], rows: &[u8]) -> Result<Vec<Option<i64>>, Fault> {
     let ctx = RowsEventCtx {
         event_type: EventType::WRITE_ROWS_EVENT,

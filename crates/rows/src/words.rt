@@ -10,13 +10,16 @@ use binlog_consts::consts::EventType;
 use hex::FromHexError;
 use mysql_binlog_rows::rows_event::RowsEventCtx;
 use std::alloc::Global;
+use thiserror::Error;
 
-/// Why words say no events.
-#[derive(Clone, Copy, Debug, PartialEq, Eq)]
+/// Why the words are refused.
+#[derive(Clone, Copy, Debug, PartialEq, Eq, Error)]
 pub enum WordsError {
     /// They are not six, or one is out of its form.
+    #[error("usage: rows MLEN TYPE PLEN WLEN MAPHEX ROWSHEX")]
     Usage,
     /// Memory was refused.
+    #[error("out of memory")]
     Memory,
 }
 

@@ -1,8 +1,11 @@
-use Rattle.std.proofs.Common.{take}
+use Rattle.std.proofs.Common.{◌≡◌, ℕ, List, ◌++◌, length}
 use Rattle.std.specs.Fmt.{HasWritten, IsPlainFormatter}
-use Rattle.rows.specs.Lines.{hex_text}
+use Rattle.hex.specs.Hex.{encode_lower}
 use Rattle.rows.proofs.lines.HexDisplay.fmt.Given as goal
 
-abbrev pub invariant-loop-byte : goal.invariant-loop-byte
-invariant-loop-byte g l =
-    IsPlainFormatter l.initial.f → HasWritten g.W.Write.write_str_gives l.initial.f (hex_text (take l.byte-index l.self.0.now)) l.f
+abbrev pub invariant-loop-left : goal.invariant-loop-left
+invariant-loop-left g l =
+    IsPlainFormatter l.initial.f → (done : List ℕ) × HasWritten g.W.Write.write_str_gives l.initial.f done l.f × (done ++ encode_lower l.left ≡ encode_lower l.self.0.now)
+
+abbrev pub decreases-loop-left : goal.decreases-loop-left
+decreases-loop-left g l = length l.left

@@ -1,0 +1,89 @@
+#!/usr/bin/env python3
+"""Prints the program's six words, one a line, for a WRITE_ROWS_EVENT of COUNT rows.
+
+usage: scripts/make_rows.py COLUMNS COUNT
+
+COLUMNS are letters, one a column: b LONGLONG, i LONG, v VARCHAR(80), t DATETIME2(0), n NEWDECIMAL(12,2), y TINY, d DOUBLE, x BLOB with a
+length in two bytes, e ENUM in one byte. `all` stands for bivvtnydxe. The values are the same for each run; about one in ten is NULL.
+"""
+import sys
+
+
+def numbers():
+    """Numbers of 32 bits that look random, always the same."""
+    state = 1
+    while True:
+        state = (state * 6364136223846793005 + 1442695040888963407) % 2**64
+        yield state >> 32
+
+
+def decimal(cents):
+    """A number of cents as the packed form of NEWDECIMAL(12,2): groups of 1, 9 and 2 digits."""
+    whole, part = divmod(abs(cents), 100)
+    packed = bytearray(bytes([whole // 10**9]) + (whole % 10**9).to_bytes(4, "big") + bytes([part]))
+    if cents < 0:
+        packed = bytearray(255 - byte for byte in packed)
+    packed[0] ^= 0x80
+    return bytes(packed)
+
+
+def datetime(random):
+    """A DATETIME2(0)."""
+    day = (next(random) % 9000 + 1000) * 13 + next(random) % 12 + 1
+    packed = (day << 5 | next(random) % 28 + 1) << 17 | next(random) % 24 << 12 | next(random) % 60 << 6 | next(random) % 60
+    return (packed + 0x8000000000).to_bytes(5, "big")
+
+
+def text(random, most):
+    """Up to so many bytes."""
+    return bytes(next(random) % 256 for _ in range(next(random) % (most + 1)))
+
+
+def short_text(random):
+    value = text(random, 40)
+    return bytes([len(value)]) + value
+
+
+def long_text(random):
+    value = text(random, 60)
+    return len(value).to_bytes(2, "little") + value
+
+
+# For each letter: the type's number, its metadata, and how a cell is made.
+COLUMNS = {
+    "b": (8, b"", lambda r: (next(r) << 32 | next(r)).to_bytes(8, "little")),
+    "i": (3, b"", lambda r: next(r).to_bytes(4, "little")),
+    "v": (15, b"\x50\x00", short_text),
+    "t": (18, b"\x00", datetime),
+    "n": (246, b"\x0c\x02", lambda r: decimal(next(r) * 251 - 2**39)),
+    "y": (1, b"", lambda r: bytes([next(r) % 256])),
+    "d": (5, b"\x08", lambda r: (next(r) << 32 | next(r)).to_bytes(8, "little")),
+    "x": (252, b"\x02", long_text),
+    "e": (254, b"\xf7\x01", lambda r: bytes([next(r) % 9 + 1])),
+}
+
+
+def main():
+    if len(sys.argv) != 3:
+        sys.exit(__doc__)
+    letters = "bivvtnydxe" if sys.argv[1] == "all" else sys.argv[1]
+    columns = [COLUMNS[letter] for letter in letters]
+    bitmap_len = (len(columns) + 7) // 8
+    ones = ((1 << len(columns)) - 1).to_bytes(bitmap_len, "little")
+    metadata = b"".join(column[1] for column in columns)
+    types = bytes(column[0] for column in columns)
+    table = bytes(6) + b"\1\0" + b"\1d\0" + b"\1t\0" + bytes([len(columns)]) + types + bytes([len(metadata)]) + metadata + ones
+    rows = bytearray(bytes(6) + b"\1\0" + b"\2\0" + bytes([len(columns)]) + ones)
+    random = numbers()
+    for _ in range(int(sys.argv[2])):
+        nulls, cells = 0, b""
+        for place, column in enumerate(columns):
+            if next(random) % 10 == 0:
+                nulls |= 1 << place
+            else:
+                cells += column[2](random)
+        rows += nulls.to_bytes(bitmap_len, "little") + cells
+    print("8", "1E", "10", "10", table.hex(), rows.hex(), sep="\n")
+
+
+main()

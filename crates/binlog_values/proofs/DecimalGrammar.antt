@@ -10,7 +10,8 @@ use Rattle.binlog_values.specs.DecimalText.{is_digit, is_zero, is_point, digits_
 use Rattle.binlog_values.specs.DecimalLaws.{IsSign, IsPoint, IsNumeral}
 use Rattle.binlog_values.specs.PackedDecimalsExact.{view_of, same_view}
 use Rattle.binlog_values.proofs.DecimalTexts.{both_true, all_front, all_back, below-digits_of, digits-decimal}
-use Rattle.binlog_values.proofs.DecimalPrinting.{chars, all_zeros, glyphs, apart, Behind, before_point, behind_point, read_digits, zeros_of, guarded}
+use Rattle.binlog_values.proofs.DecimalPrinting.{all_zeros, apart, Behind, before_point, behind_point, read_digits, zeros_of, guarded}
+use Rattle.binlog_values.proofs.DigitCharacters.{chars, glyphs}
 
 -- ---- each text of the grammar is read
 

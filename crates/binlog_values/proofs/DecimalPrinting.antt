@@ -1,13 +1,11 @@
 -- What is read of a printed decimal.
-use Rattle.std.proofs.Common.{◌≡◌, ◌≢◌, ℕ, zero, suc, ◌+◌, ◌-◌, ◌%◌, ◌<◌, ◌≤◌, min, Bool, true, false, cond, not, List, [], ◌∷◌, ◌++◌, length, take, drop, map, Some, None, refl, sym, ap, subst, ◌∙◌, append_assoc, arith, inl, inr, ◌⊎◌}
+use Rattle.std.proofs.Common.{◌≡◌, ◌≢◌, ℕ, zero, suc, ◌+◌, ◌-◌, ◌%◌, ◌<◌, ◌≤◌, min, Bool, true, false, cond, not, List, [], ◌∷◌, ◌++◌, length, take, drop, Some, None, refl, sym, ap, subst, ◌∙◌, append_assoc, arith, inl, inr, ◌⊎◌}
 use Rattle.std.specs.Prelude.{◌&&◌, ◌||◌, ◌==◌, nat_le, nat_lt}
-use Rattle.std.specs.List.{list_all, flat_map, prefix_len, take_while, before_first, after_first}
-use Rattle.std.specs.Fmt.{decimal}
+use Rattle.std.specs.List.{list_all, prefix_len, take_while, before_first, after_first}
 use Rattle.std.specs.Int.Digits.{AllBelowBase, number_from_digits}
 use Rattle.std.proofs.Math.Dec.{eqb-suc-zero}
 use Rattle.std.proofs.lemmas.Bool.{lt-ltb, le-leb, leb-true}
 use Rattle.std.proofs.lemmas.Bool.Decides.{Decides-eqb, Decides-like, same_from_decides}
-use Rattle.std.proofs.lemmas.Fmt.{decimal_digit}
 use Rattle.std.proofs.lemmas.List.{length-append, length-map, length-drop, map-append, take_at, drop_at, drop_all, drop-append-le, drop-map}
 use Rattle.std.proofs.lemmas.List.Folds.{length-prefix_len}
 use Rattle.std.proofs.lemmas.List.Sums.{prefix_len-le-length}
@@ -17,19 +15,13 @@ use Rattle.binlog_values.specs.DecimalCuts.{below-append}
 use Rattle.binlog_values.specs.DecimalLaws.{IsSameNumber}
 use Rattle.binlog_values.specs.PackedDecimalsExact.{view_of}
 use Rattle.binlog_values.proofs.DecimalSteps.{below-drop}
+use Rattle.binlog_values.proofs.DigitCharacters.{chars, glyphs}
 use Rattle.binlog_values.proofs.DecimalTexts.{both_true, all_front, all_back, below-digits_of}
 
 -- ---- digits as text
 
-abbrev pub chars : List ℕ → List ℕ
-chars ds = map (λ d. 48 + d) ds
-
 abbrev pub all_zeros : List ℕ → Bool
 all_zeros ds = list_all (λ d. d == 0) ds
-
-pub glyphs : (ds : List ℕ) → AllBelowBase 10 ds → flat_map decimal ds ≡ chars ds
-glyphs [] h = refl
-glyphs (d ∷ ds) h = ap (λ (l : List ℕ). l ++ flat_map decimal ds) (decimal_digit d h.0) ∙ ap (λ (l : List ℕ). (48 + d) ∷ l) (glyphs ds h.1)
 
 digits_of-chars : (ds : List ℕ) → digits_of (chars ds) ≡ ds
 digits_of-chars [] = refl

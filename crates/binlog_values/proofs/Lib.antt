@@ -1,4 +1,5 @@
 pub mod DecimalSteps
+pub mod DigitCharacters
 pub mod DecimalTelling
 pub mod DecimalTexts
 pub mod DecimalPrinting

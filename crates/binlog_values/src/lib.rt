@@ -2,6 +2,7 @@
 #![tactic(auto)]
 
 pub mod decimal;
+mod digits;
 #[cfg(test)]
 mod tests;
 pub mod time;

@@ -1,27 +1,14 @@
 //! The text of decimals.
 
 ghost use Rattle.std.specs.Prelude.{◌≡◌, ◌≤◌, ◌==◌, length, Some};
-ghost use Rattle.std.specs.List.{flat_map, take_while};
-ghost use Rattle.std.specs.Fmt.{decimal};
+ghost use Rattle.std.specs.List.{take_while};
+ghost use Rattle.std.specs.Fmt.{WritesOnOk};
+ghost use Rattle.std.specs.Int.Digits.{AllBelowBase};
 ghost use Rattle.binlog_values.specs.DecimalText.{decimal_text, integer_text, fraction_digits_text, shown_digits};
 
 use super::{DIG_PER_DEC, Decimal};
+use crate::digits::write_digits;
 use std::fmt;
-
-// Digits, one after the other.
-#[derive(Drop)]
-struct Digits<'a>(&'a [u8]);
-
-impl fmt::Display for Digits<'_> {
-    ghost output = { λ d. Some (flat_map decimal d.0.now) };
-
-    fn fmt<W: fmt::Write>(&self, f: &mut fmt::Formatter<W>) -> fmt::Result {
-        for digit in self.0 {
-            write!(f, "{digit}")?;
-        }
-        Ok(())
-    }
-}
 
 // The count of zeros at the start.
 fn leading_zeros(digits: &[u8]) -> usize
@@ -39,37 +26,28 @@ fn shown_digits(digits: &[u8]) -> &[u8]
     &digits[leading_zeros(digits).min(most)..]
 }
 
-// The digits before the point.
-#[derive(Drop)]
-struct Integer<'a>(&'a [u8]);
-
-impl fmt::Display for Integer<'_> {
-    ghost output = { λ d. Some (integer_text d.0.now) };
-
-    fn fmt<W: fmt::Write>(&self, f: &mut fmt::Formatter<W>) -> fmt::Result {
-        if self.0.is_empty() {
-            write!(f, "0")
-        } else {
-            let digits = Digits(shown_digits(self.0));
-            write!(f, "{digits}")
-        }
+// Writes the digits before the point.
+fn write_integer<W: fmt::Write>(f: &mut fmt::Formatter<W>, digits: &[u8]) -> fmt::Result
+    requires { AllBelowBase 10 digits.now }
+    ensures { WritesOnOk W.write_str_gives f.old result (integer_text digits.now) f.new }
+{
+    if digits.is_empty() {
+        f.write_str("0")
+    } else {
+        write_digits(f, shown_digits(digits))
     }
 }
 
-// The point and the digits behind it, if there are any.
-#[derive(Drop)]
-struct Fraction<'a>(&'a [u8]);
-
-impl fmt::Display for Fraction<'_> {
-    ghost output = { λ d. Some (fraction_digits_text d.0.now) };
-
-    fn fmt<W: fmt::Write>(&self, f: &mut fmt::Formatter<W>) -> fmt::Result {
-        if self.0.is_empty() {
-            Ok(())
-        } else {
-            let digits = Digits(self.0);
-            write!(f, ".{digits}")
-        }
+// Writes the point and the digits after it, if there are any.
+fn write_fraction<W: fmt::Write>(f: &mut fmt::Formatter<W>, digits: &[u8]) -> fmt::Result
+    requires { AllBelowBase 10 digits.now }
+    ensures { WritesOnOk W.write_str_gives f.old result (fraction_digits_text digits.now) f.new }
+{
+    if digits.is_empty() {
+        Ok(())
+    } else {
+        f.write_str(".")?;
+        write_digits(f, digits)
     }
 }
 
@@ -80,9 +58,10 @@ impl fmt::Display for Decimal {
 
     #[tactic(auto, unfolding(crate::specs::DecimalText::decimal_text))]
     fn fmt<W: fmt::Write>(&self, f: &mut fmt::Formatter<W>) -> fmt::Result {
-        let sign = if self.negative { "-" } else { "" };
-        let integer = Integer(&self.integer);
-        let fraction = Fraction(&self.fraction);
-        write!(f, "{sign}{integer}{fraction}")
+        if self.negative {
+            f.write_str("-")?;
+        }
+        write_integer(f, &self.integer)?;
+        write_fraction(f, &self.fraction)
     }
 }

@@ -1,9 +1,9 @@
-ghost use Rattle.std.specs.Prelude.{◌≡◌, Some};
-ghost use Rattle.std.specs.List.{flat_map};
-ghost use Rattle.std.specs.Fmt.{decimal};
-ghost use Rattle.binlog_values.specs.TimeText.{two_digits, hours_text, signed_hours_text, date_text, minutes_text, fraction_text, zone_text, datetime_text, text_of};
+ghost use Rattle.std.specs.Prelude.{◌≡◌, ◌<◌, Some};
+ghost use Rattle.std.specs.Int.Digits.{AllBelowBase};
+ghost use Rattle.binlog_values.specs.TimeText.{two_digits, hours_text, signed_hours_text, date_text, minutes_text, six_digits, fraction_text, zone_text, datetime_text, text_of};
 
 use super::{MysqlTime, MysqlTimestampType};
+use crate::digits::write_digits;
 use std::fmt;
 
 // Two digits; 00 for 100 or more.
@@ -119,19 +119,20 @@ fn minutes_of(time: &MysqlTime) -> Minutes
     }
 }
 
-// Numbers below 10, one after the other.
-#[derive(Drop)]
-struct Digits<'a>(&'a [u32]);
-
-impl fmt::Display for Digits<'_> {
-    ghost output = { λ d. Some (flat_map decimal d.0.now) };
-
-    fn fmt<W: fmt::Write>(&self, f: &mut fmt::Formatter<W>) -> fmt::Result {
-        for digit in self.0 {
-            write!(f, "{digit}")?;
-        }
-        Ok(())
-    }
+// The six digits of microseconds.
+fn six_digits(microseconds: u32) -> [u8; 6]
+    requires { microseconds < 1000000 }
+    ensures digits { result ≡ six_digits microseconds }
+    ensures below { AllBelowBase 10 result }
+{
+    [
+        (microseconds / 100_000) as u8,
+        (microseconds / 10_000 % 10) as u8,
+        (microseconds / 1000 % 10) as u8,
+        (microseconds / 100 % 10) as u8,
+        (microseconds / 10 % 10) as u8,
+        (microseconds % 10) as u8,
+    ]
 }
 
 // A point and the first digits of the microseconds, at most six.
@@ -148,17 +149,9 @@ impl fmt::Display for Fraction {
         if self.decimals == 0 {
             return Ok(());
         }
-        let u = self.microseconds % 1_000_000;
-        let six = [
-            u / 100_000,
-            u / 10_000 % 10,
-            u / 1000 % 10,
-            u / 100 % 10,
-            u / 10 % 10,
-            u % 10,
-        ];
-        let digits = Digits(&six[..self.decimals.min(6)]);
-        write!(f, ".{digits}")
+        let six = six_digits(self.microseconds % 1_000_000);
+        f.write_str(".")?;
+        write_digits(f, &six[..self.decimals.min(6)])
     }
 }
 

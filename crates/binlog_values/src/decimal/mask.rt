@@ -54,11 +54,11 @@ pub(super) fn is_negative(bytes: &[u8]) -> bool
 }
 
 // Makes written bytes what they were before.
-pub(super) fn unmask(negative: bool, bytes: &mut [u8])
-    ensures { bytes.new ≡ inverted negative (flipped bytes.old) }
+pub(super) fn unmask(negative: bool, written: &mut [u8])
+    ensures { written.new ≡ inverted negative (flipped written.old) }
 {
-    flip(bytes);
+    flip(written);
     if negative {
-        invert(bytes);
+        invert(written);
     }
 }

@@ -73,9 +73,9 @@ pub(super) fn unpack(
     let negative = is_negative(bytes);
     unmask(negative, bytes);
     let (front, back) = bytes.split_at(digits_size(integer));
-    let mut before = Vec::new(alloc);
+    let mut before = Vec::with_capacity(alloc, integer)?;
     unpack_integer(front, integer, &mut before)?;
-    let mut behind = Vec::new(alloc);
+    let mut behind = Vec::with_capacity(alloc, fraction)?;
     unpack_fraction(back, fraction, &mut behind)?;
     Ok(Decimal {
         negative,

@@ -9,13 +9,16 @@ ghost use Rattle.binlog_values.specs.DecimalParses.{ReadsText};
 
 use super::Decimal;
 use std::alloc::{AllocError, Global};
+use thiserror::Error;
 
 /// Why a text is no decimal.
-#[derive(Clone, Copy, Debug)]
+#[derive(Clone, Copy, Debug, Error)]
 pub enum ParseDecimalError {
     /// It is none of the accepted texts.
+    #[error("not a decimal")]
     Invalid,
     /// Memory was refused.
+    #[error("out of memory")]
     Memory,
 }
 

@@ -203,6 +203,15 @@ fn texts_are_refused(rt: HostRuntime) {
 }
 
 #[test]
+fn parse_errors_are_told(rt: HostRuntime) -> Result<(), Fail> {
+    let invalid = ParseDecimalError::Invalid.to_string(rt.alloc())?;
+    let memory = ParseDecimalError::Memory.to_string(rt.alloc())?;
+    assert_eq!(rt; invalid.as_str(), "not a decimal");
+    assert_eq!(rt; memory.as_str(), "out of memory");
+    Ok(())
+}
+
+#[test]
 fn bytes_are_texts(rt: HostRuntime) -> Result<(), Fail> {
     match Decimal::parse_bytes(rt.alloc(), b" 5") {
         Ok(decimal) => assert!(rt; shows(&rt, &decimal, "5")?),

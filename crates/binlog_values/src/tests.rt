@@ -31,6 +31,21 @@ fn long(minute: u32) -> MysqlTime {
 }
 
 #[test]
+fn types_have_their_numbers(rt: HostRuntime) {
+    let numbered = [
+        (MysqlTimestampType::MYSQL_TIMESTAMP_NONE, -2),
+        (MysqlTimestampType::MYSQL_TIMESTAMP_ERROR, -1),
+        (MysqlTimestampType::MYSQL_TIMESTAMP_DATE, 0),
+        (MysqlTimestampType::MYSQL_TIMESTAMP_DATETIME, 1),
+        (MysqlTimestampType::MYSQL_TIMESTAMP_TIME, 2),
+        (MysqlTimestampType::MYSQL_TIMESTAMP_DATETIME_TZ, 3),
+    ];
+    for (time_type, number) in numbered {
+        assert_eq!(rt; time_type as i32, number);
+    }
+}
+
+#[test]
 fn datetimes_are_shown(rt: HostRuntime) -> Result<(), Fail> {
     let time = MysqlTime::from_int64_datetime_packed(NOON);
     assert!(rt; shows(&rt, &time, "2019-11-27 12:30:00")?);

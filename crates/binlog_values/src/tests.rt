@@ -57,6 +57,14 @@ fn datetimes_are_shown(rt: HostRuntime) -> Result<(), Fail> {
 fn zones_are_shown(rt: HostRuntime) -> Result<(), Fail> {
     assert!(rt; shows(&rt, &zoned(-5400), "2019-11-27 12:30:00+-1:30")?);
     assert!(rt; shows(&rt, &zoned(i32::MIN), "2019-11-27 12:30:00+-596523:14")?);
+    assert!(rt;
+        writes(
+            &rt,
+            &zoned(i32::MIN),
+            6,
+            "2019-11-27 12:30:00.000000+-596523:14"
+        )?
+    );
     Ok(())
 }
 

@@ -26,7 +26,11 @@ mod text;
 
 use MysqlTimestampType::{MYSQL_TIMESTAMP_DATE, MYSQL_TIMESTAMP_DATETIME, MYSQL_TIMESTAMP_TIME};
 use std::alloc::AllocError;
+use std::fmt::{InlineText, Write};
 use text::TimeText;
+
+// The bytes of the longest text: 26 of a datetime, and 11 of its zone.
+const LONGEST: usize = 37;
 
 /// A server's time by its fields.
 #[derive(Clone, Debug, PartialEq, Eq, Drop)]
@@ -106,7 +110,10 @@ impl MysqlTime {
             time: self,
             decimals,
         };
-        let new = format!(in *text.allocator(); "{shown}")?;
-        text.push_str(&new)
+        let mut new = InlineText::<LONGEST>::new();
+        match write!(new, "{shown}") {
+            Ok(()) => text.push_str(new.as_str()),
+            Err(_) => Err(AllocError),
+        }
     }
 }

@@ -13,7 +13,8 @@ use std::rc::RcSlice;
 use std::test::Fail;
 
 fn number<T: IntRepr>(bytes: &[u8]) -> Result<T::Primitive, Fault> {
-    T::deserialize(&mut ParseBuf(bytes))
+    let number: RawInt<T> = ParseBuf(bytes).parse(())?;
+    Ok(number.0)
 }
 
 #[test]

@@ -27,6 +27,7 @@ use self::times::{
 use binlog_base::below::{ColumnType, MyDeserialize, ParseBuf, Value};
 use binlog_base::fault::Fault;
 use std::alloc::Global;
+use thiserror::Error;
 
 /// The value of a cell.
 #[derive(Debug, Drop)]
@@ -56,11 +57,13 @@ impl PartialEq for BinlogValue {
 }
 
 /// Why a value of the binlog is no plain value.
-#[derive(Debug, Drop)]
+#[derive(Debug, Drop, Error)]
 pub enum BinlogValueToValueError {
     /// It is binary JSON.
+    #[error("binary JSON is not a plain value")]
     ToJson,
     /// It is a list of JSON diffs.
+    #[error("JSON diffs are not a plain value")]
     JsonDiff,
 }
 

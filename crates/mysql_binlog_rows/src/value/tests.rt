@@ -1,6 +1,6 @@
 //! Cells, one by one.
 
-use super::{BinlogValue, negative_time};
+use super::{BinlogValue, BinlogValueToValueError, negative_time};
 use crate::laws::old_times_have_signs;
 use binlog_base::below::{ColumnType, ParseBuf, Value};
 use binlog_base::fault::Fault;
@@ -341,4 +341,13 @@ fn unhandled_types(rt: HostRuntime) {
             "{column_type:?}"
         );
     }
+}
+
+#[test]
+fn texts_of_errors(rt: HostRuntime) -> Result<(), Fail> {
+    let json = BinlogValueToValueError::ToJson.to_string(rt.alloc())?;
+    let diffs = BinlogValueToValueError::JsonDiff.to_string(rt.alloc())?;
+    assert_eq!(rt; json.as_str(), "binary JSON is not a plain value");
+    assert_eq!(rt; diffs.as_str(), "JSON diffs are not a plain value");
+    Ok(())
 }

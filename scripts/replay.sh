@@ -3,6 +3,8 @@
 #
 # usage: scripts/replay.sh FILE
 #
+# corpus/mariadb.jsonl is such a file.
+#
 # Each object has the program's six words as "mlen", "type", "plen", "wlen", "map_hex" and "rows_hex", the lines that must be printed as
 # the list "expected", and a name, "id". The status must be 0. An event that the program says is `Unhandled` is a line `unhandled: ID`; one
 # that differs is `differs: ID`, with what was expected and what was printed; the last line counts. The status of this script is 1 where an

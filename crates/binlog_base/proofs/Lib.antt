@@ -4,5 +4,6 @@ pub mod Lossy
 pub mod BitLists
 pub mod Ambiguity
 pub mod Telling
-pub mod PackedTelling
+pub mod Fractions
 pub mod Known
+pub mod Filled

@@ -4,9 +4,12 @@ pub mod Format
 pub mod Exact
 pub mod Tables
 pub mod ColumnTypes
+pub mod Powers
+pub mod TwosComplement
+pub mod Coding
+pub mod Fixed
 pub mod Numbers
 pub mod NumbersExact
-pub mod TwosComplement
 pub mod NumbersWritten
 pub mod Writing
 pub mod Strings
@@ -18,3 +21,4 @@ pub mod Values
 pub mod Laws
 pub mod PackedTimes
 pub mod PackedTimesExact
+pub mod Widths

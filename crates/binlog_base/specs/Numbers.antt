@@ -3,22 +3,24 @@ use Rattle.std.specs.Prelude.{ℕ, zero, suc, ℤ, ◌+◌, ◌-◌, ◌*◌, �
 use Rattle.byteorder.specs.Endian.{little_number, big_number, little_bytes}
 pub use Rattle.byteorder.specs.Endian.{twos_complement}
 use Rattle.binlog_base.specs.declared.fault.Fault.TheVariants.{BadLenEnc, BadVarLen}
-use Rattle.binlog_base.specs.Format.{Format, bytes, done, fault, both, as_value, choice}
+use Rattle.binlog_base.specs.Coding.{plain}
+use Rattle.binlog_base.specs.Fixed.{fixed}
+use Rattle.binlog_base.specs.Format.{Format, done, fault, both, as_value, choice}
 
 -- a number of w bytes, the lowest first
-unfoldable pub little : ℕ → Format ℕ
-little w = as_value (bytes w) (little_number w)
+abbrev pub little : ℕ → Format ℕ
+little w = fixed little_number plain w
 
 -- the highest first
-unfoldable pub big : ℕ → Format ℕ
-big w = as_value (bytes w) (big_number w)
+abbrev pub big : ℕ → Format ℕ
+big w = fixed big_number plain w
 
 -- the same in two's complement
-unfoldable pub signed_little : ℕ → Format ℤ
-signed_little w = as_value (bytes w) (λ x. twos_complement w (little_number w x))
+abbrev pub signed_little : ℕ → Format ℤ
+signed_little w = fixed little_number twos_complement w
 
-unfoldable pub signed_big : ℕ → Format ℤ
-signed_big w = as_value (bytes w) (λ x. twos_complement w (big_number w x))
+abbrev pub signed_big : ℕ → Format ℤ
+signed_big w = fixed big_number twos_complement w
 
 -- A length-encoded number: a first byte up to FA is the number; FC, FD and FE stand before 2, 3 and 8 bytes of it.
 unfoldable pub lenenc_after : ℕ → Format ℕ

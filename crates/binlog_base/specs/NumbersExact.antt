@@ -1,27 +1,25 @@
 -- The formats of numbers are exact; what is written of a number is a spelling of it, and none is shorter.
 use Rattle.std.proofs.Common.{ℕ, zero, suc, ◌^◌, refl}
 use Rattle.std.specs.Prelude.{nat_lt, ◌==◌}
-use Rattle.byteorder.specs.Endian.{little_number, big_number}
+use Rattle.byteorder.specs.Endian.{little_number, big_number, twos_complement}
+use Rattle.binlog_base.specs.Coding.{plain}
+use Rattle.binlog_base.specs.Fixed.{exact_fixed}
 use Rattle.binlog_base.specs.declared.fault.Fault.TheVariants.{BadLenEnc, BadVarLen}
-use Rattle.binlog_base.specs.Format.{IsExact, bytes}
-use Rattle.binlog_base.specs.Exact.{exact_bytes, exact_done, exact_fault, exact_both, exact_as, exact_choice}
+use Rattle.binlog_base.specs.Format.{IsExact}
+use Rattle.binlog_base.specs.Exact.{exact_done, exact_fault, exact_both, exact_as, exact_choice}
 use Rattle.binlog_base.specs.Numbers.{little, big, signed_little, signed_big, lenenc_after, lenenc, groups, varlen}
 
 pub exact_little : (w : ℕ) → IsExact (little w)
-unfolding little
-exact_little w = exact_as (bytes w) (little_number w) (exact_bytes w)
+exact_little w = exact_fixed little_number plain w
 
 pub exact_big : (w : ℕ) → IsExact (big w)
-unfolding big
-exact_big w = exact_as (bytes w) (big_number w) (exact_bytes w)
+exact_big w = exact_fixed big_number plain w
 
 pub exact_signed_little : (w : ℕ) → IsExact (signed_little w)
-unfolding signed_little
-exact_signed_little w = exact_as (bytes w) _ (exact_bytes w)
+exact_signed_little w = exact_fixed little_number twos_complement w
 
 pub exact_signed_big : (w : ℕ) → IsExact (signed_big w)
-unfolding signed_big
-exact_signed_big w = exact_as (bytes w) _ (exact_bytes w)
+exact_signed_big w = exact_fixed big_number twos_complement w
 
 pub exact_lenenc_after : (first : ℕ) → IsExact (lenenc_after first)
 unfolding lenenc_after

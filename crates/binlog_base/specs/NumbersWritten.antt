@@ -1,82 +1,27 @@
 -- What is written of a number is a spelling of it, and no spelling of it is shorter.
 use Rattle.std.proofs.Common.{◌≡◌, ℕ, zero, suc, ◌+◌, ◌-◌, ◌*◌, ◌/◌, ◌%◌, ◌<◌, ◌≤◌, ◌^◌, List, [], ◌∷◌, ◌++◌, length, refl, sym, ap, subst, ◌∙◌, arith, inl, inr, append-nil}
-use Rattle.std.specs.Prelude.{ℤ, slice_index, nat_lt, ◌==◌}
-use Rattle.std.specs.Int.{w64}
+use Rattle.std.specs.Prelude.{slice_index, nat_lt, ◌==◌}
 use Rattle.std.proofs.lemmas.Bool.{cases_lt, le-ltb, lt-ltb, ltb-true, ltb-false}
 use Rattle.std.proofs.lemmas.List.{length-append}
-use Rattle.std.proofs.lemmas.Nat.{pow-add}
 use Rattle.std.proofs.Math.Nat.{pow-suc, mod-lt, mod-eq_of_lt}
-use Rattle.byteorder.specs.Endian.{little_number, big_number, little_bytes, big_bytes, twos_complement, low_bytes}
-use Rattle.byteorder.specs.Numbers.{little_number-reads_back, big_number-reads_back, length-bytes_low_first, length-bytes_high_first, little_from-lt}
+use Rattle.byteorder.specs.Endian.{little_number, little_bytes}
+use Rattle.byteorder.specs.Numbers.{little_number-reads_back, length-bytes_low_first, little_from-lt}
 use Rattle.binlog_base.specs.declared.fault.Fault.TheVariants.{BadLenEnc, BadVarLen}
 use Rattle.binlog_base.specs.Format.{Format, done, fault, as_value, choice}
 use Rattle.binlog_base.specs.Exact.{choice_cases, bytes_width}
-use Rattle.binlog_base.specs.Numbers.{little, big, signed_little, signed_big, lenenc_after, lenenc, lenenc_bytes, groups, groups_bytes, varlen, varlen_bytes}
-use Rattle.binlog_base.specs.TwosComplement.{IsSigned, twos_complement-low_bytes, low_bytes-fits}
-
--- powers of 256 and of 2
-pub pow_256 : (w : ℕ) → 256 ^ w ≡ 2 ^ (8 * w)
-pow_256 zero = refl
-pow_256 (suc w) =
-    let e : 8 * suc w ≡ 8 * w + 8 = omega arith in
-    let high = pow-suc 256 w in
-    let low = pow-add 2 (8 * w) 8 in
-    let before = pow_256 w in
-    omega (arith, ap (λ (k : ℕ). 2 ^ k) e, high, low, before)
-
-little_of : (w n : ℕ) → n < 256 ^ w → little_number w (little_bytes w n) ≡ n
-little_of w n fits = ap (little_number w) (sym (append-nil (little_bytes w n))) ∙ little_number-reads_back w n [] fits
-
-big_of : (w n : ℕ) → n < 256 ^ w → big_number w (big_bytes w n) ≡ n
-big_of w n fits = ap (big_number w) (sym (append-nil (big_bytes w n))) ∙ big_number-reads_back w n [] fits
+use Rattle.binlog_base.specs.Numbers.{little, lenenc_after, lenenc, lenenc_bytes, groups, groups_bytes, varlen, varlen_bytes}
+use Rattle.binlog_base.specs.Coding.{plain}
+use Rattle.binlog_base.specs.Fixed.{fixed, fixed_width}
 
 pub little_written : (w n : ℕ) → n < 256 ^ w → (little w).spells (little_bytes w n) n
-unfolding little
+unfolding fixed
 little_written w n fits =
     let x = little_bytes w n in
-    (x, x, [], sym (append-nil x), (refl, length-bytes_low_first 0 w n), (refl, sym (little_of w n fits)))
+    let read : little_number w x ≡ n = ap (little_number w) (sym (append-nil x)) ∙ little_number-reads_back w n [] fits in
+    (x, x, [], sym (append-nil x), (refl, length-bytes_low_first 0 w n), (refl, sym read))
 
-pub big_written : (w n : ℕ) → n < 256 ^ w → (big w).spells (big_bytes w n) n
-unfolding big
-big_written w n fits =
-    let x = big_bytes w n in
-    (x, x, [], sym (append-nil x), (refl, length-bytes_high_first w n), (refl, sym (big_of w n fits)))
-
-low_fits : (w : ℕ) (z : ℤ) → low_bytes w64 w z < 256 ^ w
-low_fits w z = omega (arith, pow_256 w, low_bytes-fits w z)
-
-pub signed_little_written : (w : ℕ) (z : ℤ) → 0 < w → w ≤ 8 → IsSigned w z → (signed_little w).spells (little_bytes w (low_bytes w64 w z)) z
-unfolding signed_little
-signed_little_written w z some most fits =
-    let n = low_bytes w64 w z in
-    let x = little_bytes w n in
-    let back : twos_complement w (little_number w x) ≡ z = ap (twos_complement w) (little_of w n (low_fits w z)) ∙ twos_complement-low_bytes w z some most fits in
-    (x, x, [], sym (append-nil x), (refl, length-bytes_low_first 0 w n), (refl, sym back))
-
-pub signed_big_written : (w : ℕ) (z : ℤ) → 0 < w → w ≤ 8 → IsSigned w z → (signed_big w).spells (big_bytes w (low_bytes w64 w z)) z
-unfolding signed_big
-signed_big_written w z some most fits =
-    let n = low_bytes w64 w z in
-    let x = big_bytes w n in
-    let back : twos_complement w (big_number w x) ≡ z = ap (twos_complement w) (big_of w n (low_fits w z)) ∙ twos_complement-low_bytes w z some most fits in
-    (x, x, [], sym (append-nil x), (refl, length-bytes_high_first w n), (refl, sym back))
-
--- a number of w bytes takes w bytes
 pub little_width : (w : ℕ) (x : List ℕ) (n : ℕ) → (little w).spells x n → length x ≡ w
-unfolding little
-little_width w = bytes_width w (little_number w)
-
-pub big_width : (w : ℕ) (x : List ℕ) (n : ℕ) → (big w).spells x n → length x ≡ w
-unfolding big
-big_width w = bytes_width w (big_number w)
-
-pub signed_little_width : (w : ℕ) (x : List ℕ) (z : ℤ) → (signed_little w).spells x z → length x ≡ w
-unfolding signed_little
-signed_little_width w = bytes_width w (λ x. twos_complement w (little_number w x))
-
-pub signed_big_width : (w : ℕ) (x : List ℕ) (z : ℤ) → (signed_big w).spells x z → length x ≡ w
-unfolding signed_big
-signed_big_width w = bytes_width w (λ x. twos_complement w (big_number w x))
+little_width w = fixed_width little_number plain w
 
 -- a byte, as a number of one
 pub byte_written : (b : ℕ) → b < 256 → (little 1).spells (b ∷ []) b
@@ -91,7 +36,7 @@ number_of_byte (a ∷ []) b one h = let e : a ≡ b = omega (arith, h) in ap (λ
 number_of_byte (a ∷ c ∷ x) b one h = absurd (omega arith)
 
 pub byte_spelled : (x : List ℕ) (b : ℕ) → (little 1).spells x b → x ≡ b ∷ []
-unfolding little
+unfolding fixed
 byte_spelled x b s =
     let whole : x ≡ s.0 = s.3 ∙ ap (λ (t : List ℕ). s.1 ++ t) s.5.0 ∙ append-nil s.1 ∙ sym s.4.0 in
     number_of_byte x b (bytes_width 1 (little_number 1) x b s) (s.5.1 ∙ ap (little_number 1) (sym whole))
@@ -154,7 +99,7 @@ bytes_before [] z all = λ i. omega arith
 bytes_before (b ∷ y) z all = elim [ zero ↦ all 0 | suc i ↦ bytes_before y z (λ k. all (suc k)) i ]
 
 pub little-lt : (w : ℕ) (x : List ℕ) (n : ℕ) → AreBytes x → (little w).spells x n → n < 256 ^ w
-unfolding little
+unfolding fixed
 little-lt w x n all s =
     let whole : x ≡ s.0 = s.3 ∙ ap (λ (t : List ℕ). s.1 ++ t) s.5.0 ∙ append-nil s.1 ∙ sym s.4.0 in
     subst (λ (m : ℕ). m < 256 ^ w) (ap (little_number w) whole ∙ sym s.5.1) (little_from-lt 0 w x all)

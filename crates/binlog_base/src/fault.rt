@@ -63,8 +63,8 @@ pub enum Fault {
     /// The length of a BLOB column's cells takes none of 1 to 4 bytes.
     #[error("unknown width of a blob's length")]
     UnknownBlob,
-    /// Cells of the column type are not read.
-    #[error("unhandled column type")]
+    /// What isn't supported: cells of the column's type, optional metadata, an image before the change, a partial update.
+    #[error("not supported")]
     Unhandled,
     /// A decimal's scale is above its precision.
     #[error("scale above precision")]

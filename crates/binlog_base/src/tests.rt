@@ -1,8 +1,9 @@
 use crate::below::{
-    BareBytes, BeI16, BeU24, BytesRepr, Column, ColumnFlags, ColumnType, Const, EofBytes, Failed,
-    GeometryType, I8, IntRepr, LeI24, LeU16, LeU48, LenEnc, MyDeserialize, MySerialize, ParseBuf,
-    RawBytes, RawFlags, RawInt, Skip, Source, U8, U8Bytes, UnknownColumnType, UnknownGeometryType,
-    Value, VarLen, new_row_raw,
+    BareBytes, BeI16, BeI24, BeI32, BeU16, BeU24, BeU32, BeU40, BeU48, BytesRepr, Column,
+    ColumnFlags, ColumnType, Const, EofBytes, Failed, GeometryType, I8, IntRepr, LeI16, LeI24,
+    LeI32, LeI48, LeI64, LeU16, LeU24, LeU32, LeU48, LeU64, LenEnc, MyDeserialize, MySerialize,
+    ParseBuf, RawBytes, RawFlags, RawInt, Skip, Source, U8, U8Bytes, UnknownColumnType,
+    UnknownGeometryType, Value, VarLen, new_row_raw,
 };
 use crate::bits::{BitOrder, BitView, bitmap_len};
 use crate::fault::{Fault, FaultKind, JsonbError};
@@ -27,6 +28,62 @@ fn numbers_of_fixed_width(rt: HostRuntime) {
     assert!(rt; matches!(number::<BeU24>(&[1, 2, 3]), Ok(0x1_0203)));
     assert!(rt; matches!(number::<BeI16>(&[0xff, 0xfe]), Ok(-2)));
     assert!(rt; matches!(number::<LeU48>(&[1, 2, 0, 0, 0]), Err(Fault::UnexpectedEof)));
+}
+
+/// Whether the bytes are read as the number, and are what is written of it.
+fn is_spelled<T: IntRepr<Primitive: PartialEq>>(
+    rt: &HostRuntime,
+    bytes: &[u8],
+    number: T::Primitive,
+) -> Result<bool, Fail> {
+    let read: RawInt<T> = ParseBuf(bytes).parse(())?;
+    let mut buf = Vec::new(rt.alloc());
+    RawInt::<T>::new(number).serialize(&mut buf)?;
+    Ok(read.0 == number && buf.as_slice() == bytes)
+}
+
+#[test]
+fn numbers_of_each_kind(rt: HostRuntime) -> Result<(), Fail> {
+    assert!(rt; is_spelled::<U8>(&rt, &[0x81], 129)?);
+    assert!(rt; is_spelled::<I8>(&rt, &[0x81], -127)?);
+    assert!(rt; is_spelled::<LeU16>(&rt, &[0x81, 0x88], 34945)?);
+    assert!(rt; is_spelled::<LeI16>(&rt, &[0x81, 0x88], -30591)?);
+    assert!(rt; is_spelled::<LeU24>(&rt, &[0x81, 0x88, 0x8f], 9406593)?);
+    assert!(rt; is_spelled::<LeI24>(&rt, &[0x81, 0x88, 0x8f], -7370623)?);
+    assert!(rt; is_spelled::<LeU32>(&rt, &[0x81, 0x88, 0x8f, 0x96], 2525988993)?);
+    assert!(rt; is_spelled::<LeI32>(&rt, &[0x81, 0x88, 0x8f, 0x96], -1768978303)?);
+    assert!(rt; is_spelled::<LeU48>(&rt, &[0x81, 0x88, 0x8f, 0x96, 0x9d, 0xa4], 180996742809729)?);
+    assert!(rt; is_spelled::<LeI48>(&rt, &[0x81, 0x88, 0x8f, 0x96, 0x9d, 0xa4], -100478233900927)?);
+    assert!(rt;
+        is_spelled::<LeU64>(
+            &rt,
+            &[0x81, 0x88, 0x8f, 0x96, 0x9d, 0xa4, 0xab, 0xb2],
+            12874564956511504513
+        )?
+    );
+    assert!(rt;
+        is_spelled::<LeI64>(
+            &rt,
+            &[0x81, 0x88, 0x8f, 0x96, 0x9d, 0xa4, 0xab, 0xb2],
+            -5572179117198047103
+        )?
+    );
+    assert!(rt; is_spelled::<BeU16>(&rt, &[0x81, 0x88], 33160)?);
+    assert!(rt; is_spelled::<BeI16>(&rt, &[0x81, 0x88], -32376)?);
+    assert!(rt; is_spelled::<BeU24>(&rt, &[0x81, 0x88, 0x8f], 8489103)?);
+    assert!(rt; is_spelled::<BeI24>(&rt, &[0x81, 0x88, 0x8f], -8288113)?);
+    assert!(rt; is_spelled::<BeU32>(&rt, &[0x81, 0x88, 0x8f, 0x96], 2173210518)?);
+    assert!(rt; is_spelled::<BeI32>(&rt, &[0x81, 0x88, 0x8f, 0x96], -2121756778)?);
+    assert!(rt; is_spelled::<BeU40>(&rt, &[0x81, 0x88, 0x8f, 0x96, 0x9d], 556341892765)?);
+    assert!(rt; is_spelled::<BeU48>(&rt, &[0x81, 0x88, 0x8f, 0x96, 0x9d, 0xa4], 142423524548004)?);
+    assert!(rt; is_spelled::<u8>(&rt, &[0x81], 129)?);
+    assert!(rt; is_spelled::<i8>(&rt, &[0x81], -127)?);
+    // Of a number that the kind can't hold the lowest bytes are written.
+    let mut buf = Vec::new(rt.alloc());
+    LeU24::serialize(0x8102_0304, &mut buf)?;
+    BeI24::serialize(-0x7efd_fcfc, &mut buf)?;
+    assert!(rt; buf.as_slice() == [4, 3, 2, 2, 3, 4].as_slice());
+    Ok(())
 }
 
 #[test]
@@ -282,7 +339,7 @@ fn strings_are_read(rt: HostRuntime) -> Result<(), Fail> {
     assert!(rt; ParseBuf(&[9]).parse::<Skip<1>>(()).is_ok());
     assert_eq!(rt; ParseBuf(&[1, 2, 3]).checked_eat(2), Ok([1, 2].as_slice()));
     assert_eq!(rt; ParseBuf(&[1, 2, 3]).eat_all(), [1, 2, 3].as_slice());
-    assert_eq!(rt; <Skip<1> as MyDeserialize>::SIZE, Some(1));
+    assert_eq!(rt; <Skip<1> as MyDeserialize>::SIZE, None);
     assert_eq!(rt; <RawInt<BeU24> as MyDeserialize>::SIZE, Some(3));
     Ok(())
 }

@@ -1,26 +1,29 @@
 -- What bytes of whole decimals are: written, read, refused.
-use Rattle.std.proofs.Common.{◌≡◌, ◌≢◌, ℕ, zero, suc, ◌+◌, ◌-◌, ◌*◌, ◌/◌, ◌%◌, ◌<◌, ◌≤◌, Bool, true, false, List, [], ◌∷◌, ◌++◌, length, take, drop, replicate, Option, Some, None, Result, Ok, Err, refl, sym, ap, subst, ◌∙◌, append-nil, arith, inl, inr}
+use Rattle.std.proofs.Common.{◌≡◌, ◌≢◌, ℕ, zero, suc, ◌+◌, ◌-◌, ◌*◌, ◌/◌, ◌%◌, ◌<◌, ◌≤◌, Bool, true, false, List, [], ◌∷◌, ◌++◌, length, take, drop, replicate, Option, Some, None, Result, Ok, Err, refl, sym, ap, subst, ◌∙◌, append-nil, arith, inr}
 use Rattle.std.specs.Prelude.{nat_lt, ◌==◌, ◌&&◌}
 use Rattle.std.specs.Result.{OnOk}
 use Rattle.std.specs.Int.Digits.{AllBelowBase}
 use Rattle.std.specs.Io.KnownBytes.{Appends, Consumes}
 use Rattle.std.proofs.KnownBytes.{Appends-trans}
 use Rattle.std.proofs.Math.Dec.{eqb-suc-zero}
-use Rattle.std.proofs.lemmas.Bool.{le-ltb, lt-ltb}
+use Rattle.std.proofs.lemmas.Bool.{le-ltb, lt-ltb, ltb-true}
 use Rattle.std.proofs.lemmas.List.{length-append, length-take-le, length-drop, take_all, take-append-drop, take_at, drop_at}
 use Rattle.binlog_base.specs.declared.fault.Fault.{Fault}
 use Rattle.binlog_base.specs.declared.fault.Fault.TheVariants as fault
 use Rattle.binlog_base.specs.declared.fault.Fault.TheVariants.{DecimalScale}
-use Rattle.binlog_base.specs.Format.{done, fault as refused_by, both, as_value, choice}
+use Rattle.binlog_base.specs.Format.{done, fault as refused_by, both}
 use Rattle.binlog_base.specs.Numbers.{big}
-use Rattle.binlog_base.proofs.Telling.{Consumes-nil, tells_first, tells_then, tells_as, tells_choice}
+use Rattle.binlog_base.specs.Format.{Parses, ◌>>=◌}
+use Rattle.binlog_base.specs.Widths.{IsOfWidth, as_is_of_width, choice_is_of_width}
+use Rattle.binlog_base.proofs.Filled.{short_tells, filled_tells}
+use Rattle.binlog_base.proofs.Telling.{Consumes-nil, tells_first, tells_then}
 use Rattle.binlog_base.specs.Failures.{Tells, IsLeft, IsShort, same}
 use Rattle.binlog_values.specs.Decimals.{DecimalView, IsPacked, packed, packed_size, group_width, group_bytes, grouped, integer_groups, fraction_groups, digits_size, inverted, flipped, zero_decimal, kept}
 use Rattle.binlog_values.specs.DecimalCuts.{IsCut, digits_in, bytes_in, digits_in-nines, bytes_in-nines, digits_in-integer, digits_in-fraction, bytes_in-integer, grouped-append, length-grouped, length-group_bytes}
 use Rattle.binlog_values.specs.DecimalMasks.{masked, is_nil, masked-append, is_minus, unmasked, masked-unmasked}
 use Rattle.binlog_values.specs.DecimalReads.{Unpacks, Decodes, OrMemory}
-use Rattle.binlog_values.specs.PackedDecimals.{packed_digits, packed_decimal, counted_decimal}
-use Rattle.binlog_values.specs.PackedDecimalsExact.{unmasked-packed, some_sum}
+use Rattle.binlog_values.specs.PackedDecimals.{held, packed_digits, packed_decimal, counted_decimal}
+use Rattle.binlog_values.specs.PackedDecimalsExact.{unmasked-packed, some_sum, exact_packed_digits, exact_packed_decimal}
 use Rattle.binlog_values.proofs.DecimalSteps.{unpacks-then, unpacks-stop}
 
 -- ---- what is written
@@ -221,32 +224,65 @@ no_integer X i f x front back old new negative e halves h = λ other. ((h other)
 pub no_fraction : (X : Type 0) (i f : ℕ) (x front back old new : List ℕ) (negative : Bool) (e : Fault) → AreHalves i x front back negative → Unpacks {X = X} (Err e) (fraction_groups f) back old new → Decodes (Err e) i f x
 no_fraction X i f x front back old new negative e halves h = λ other. ((h other).0, λ d p. (h other).1 d.fraction (packed-cuts i f x front back d p halves.before halves.behind).1)
 
+-- what was decoded is what the format has at bytes of its count
+pub packed_at : (r : Result DecimalView Fault) (i f : ℕ) (x : List ℕ) → 0 < i + f → length x ≡ packed_size i f → Decodes r i f x → Parses {X = DecimalView} true same r [] (packed_digits i f) x
+unfolding packed_digits
+packed_at (Ok d) i f x some long h = ap (packed_digits i f).at (sym (append-nil x)) ∙ (exact_packed_digits i f some).again x [] d h
+packed_at (Err e) i f x some long h =
+    λ other.
+    let all : take (packed_size i f) x ≡ x = take_all (packed_size i f) x (omega arith) in
+    let none = h other in
+    (exact_packed_digits i f some).only x e (inr (omega arith, λ d p. none.1 d (subst (λ (y : List ℕ). IsPacked i f y d) all p), none.0))
+
 -- ---- over a source
 
--- what was left before bytes were taken
-had_before : (n : ℕ) (old new : Option (List ℕ)) (bytes : List ℕ) → length bytes ≡ n → Consumes old new bytes → (had : List ℕ) × (take n had ≡ bytes) × (n ≤ length had) × IsLeft old had
-had_before n None new bytes long h = (bytes, take_all n bytes (omega arith), omega arith, tt)
-had_before n (Some xs) None bytes long h = absurd h
-had_before n (Some xs) (Some ys) bytes long h =
-    (xs, ap (take n) h ∙ take_at bytes ys n long, omega (arith, ap length h, length-append bytes ys), refl)
+abbrev paired : List ℕ → DecimalView → Result (DecimalView × List ℕ) Fault
+paired more d = Ok (d, more)
 
--- where all bytes were taken
-pub digits-told : (r : Result DecimalView Fault) (i f : ℕ) (bytes : List ℕ) (old new : Option (List ℕ)) → length bytes ≡ packed_size i f → Consumes old new bytes → Decodes r i f bytes → OrMemory r (Tells same r old new (packed_digits i f))
+abbrev leaves : List ℕ → DecimalView × List ℕ → Result (DecimalView × List ℕ) Fault
+leaves more p = Ok (p.0, more)
+
+digits_of_width : (i f : ℕ) → IsOfWidth (packed_size i f) (packed_digits i f)
 unfolding packed_digits
-digits-told (Ok d) i f bytes old new long h k = (bytes, k, h)
-digits-told (Err e) i f bytes old new long h k =
-    λ other reader.
-    let had = had_before (packed_size i f) old new bytes long h in
-    let none = k other in
-    (had.0, inr (had.2, λ d p. none.1 d (subst (λ (x : List ℕ). IsPacked i f x d) had.1 p), none.0), had.3)
+digits_of_width i f = record {
+  short = λ x l. rw (lt-ltb (length x) (packed_size i f) l) refl;
+  whole = λ x more l. far x more l ∙ same_held (held i f x) more ∙ sym (ap (λ (r : Result (DecimalView × List ℕ) Fault). r >>= leaves more) (ap (packed_digits i f).at (sym (append-nil x)) ∙ far x [] l));
+}
+  where
+    far : (x more : List ℕ) → length x ≡ packed_size i f → (packed_digits i f).at (x ++ more) ≡ (held i f x >>= paired more)
+    far x more l =
+        let enough : nat_lt (length (x ++ more)) (packed_size i f) ≡ false = le-ltb (length (x ++ more)) (packed_size i f) (omega (arith, length-append x more)) in
+        rw (enough, take_at x more (packed_size i f) l, drop_at x more (packed_size i f) l) refl
+
+    same_held : (r : Result DecimalView Fault) (more : List ℕ) → (r >>= paired more) ≡ ((r >>= paired []) >>= leaves more)
+    same_held (Ok d) more = refl
+    same_held (Err e) more = refl
+
+pub decimal_of_width : (precision scale : ℕ) (keep : Bool) → scale ≤ precision → 0 < precision → IsOfWidth (packed_size (precision - scale) scale) (packed_decimal precision scale keep)
+unfolding packed_decimal
+decimal_of_width precision scale keep within some =
+    let n = packed_size (precision - scale) scale in
+    choice_is_of_width n (nat_lt precision scale) (refused_by DecimalScale) _ (λ above. absurd (omega (arith, ltb-true precision scale above))) (λ below.
+    choice_is_of_width n (precision == 0) (done zero_decimal) _ (λ none. absurd (true_or_false none (some_sum precision some))) (λ asked.
+    as_is_of_width n (packed_digits (precision - scale) scale) (kept keep) (digits_of_width (precision - scale) scale)))
+  where
+    true_or_false : {b : Bool} → b ≡ true → b ≡ false → ⊥
+    true_or_false p q = cc
 
 -- where fewer bytes were there
-pub digits-short : (i f : ℕ) (e : Fault) (old new : Option (List ℕ)) → (e ≢ fault.Reader → (e ≡ fault.UnexpectedEof) × IsShort old (packed_size i f)) → Tells {X = DecimalView} same (Err e) old new (packed_digits i f)
-unfolding packed_digits
-digits-short i f e None new h = λ reader. let s = h reader in ([], inl (s.1, s.0), tt)
-digits-short i f e (Some xs) new h = λ reader. let s = h reader in (xs, inl (s.1, s.0), refl)
+pub decimal_short : (precision scale : ℕ) (keep : Bool) (e : Fault) (n : ℕ) (old last : Option (List ℕ)) → scale ≤ precision → 0 < precision → n ≡ packed_size (precision - scale) scale
+    → (e ≢ fault.Reader → (e ≡ fault.UnexpectedEof) × IsShort old n) → Tells {X = DecimalView} same (Err e) old last (packed_decimal precision scale keep)
+decimal_short precision scale keep e n old last within some is h =
+    short_tells same n (packed_decimal precision scale keep) (exact_packed_decimal precision scale keep) (subst (λ (m : ℕ). IsOfWidth m (packed_decimal precision scale keep)) (sym is) (decimal_of_width precision scale keep within some)) e old last h
 
--- ---- by precision and scale
+-- where all were taken
+pub decimal_told : (precision scale : ℕ) (keep : Bool) (r : Result DecimalView Fault) (old new : Option (List ℕ)) (taken : List ℕ) → scale ≤ precision → 0 < precision → length taken ≡ packed_size (precision - scale) scale
+    → Consumes old new taken → Parses {X = DecimalView} true same r [] (packed_decimal precision scale keep) taken → OrMemory r (Tells same r old new (packed_decimal precision scale keep))
+decimal_told precision scale keep r old new taken within some long c h = told r h
+  where
+    told : (r : Result DecimalView Fault) → Parses {X = DecimalView} true same r [] (packed_decimal precision scale keep) taken → OrMemory r (Tells same r old new (packed_decimal precision scale keep))
+    told (Ok d) h = filled_tells same _ (packed_decimal precision scale keep) (exact_packed_decimal precision scale keep) (decimal_of_width precision scale keep within some) (Ok d) old new taken [] long c h
+    told (Err e) h = λ other. filled_tells {X = DecimalView} same _ (packed_decimal precision scale keep) (exact_packed_decimal precision scale keep) (decimal_of_width precision scale keep within some) (Err e) old new taken [] long c (h other)
 
 what_is_left : (old : Option (List ℕ)) → (had : List ℕ) × IsLeft old had
 what_is_left None = ([], tt)
@@ -261,20 +297,6 @@ unfolding packed_decimal
 no_digit-told precision scale keep d old within none is =
     let all : (precision == 0) ≡ true = ap (λ (n : ℕ). n == 0) none in
     rw (le-ltb precision scale within, all) ([], (refl, is), Consumes-nil old)
-
-as_asked : (precision scale : ℕ) (keep : Bool) (r : Result DecimalView Fault) (old new : Option (List ℕ)) → scale ≤ precision → 0 < precision → Tells same r old new (as_value (packed_digits (precision - scale) scale) (kept keep)) → Tells same r old new (packed_decimal precision scale keep)
-unfolding packed_decimal
-as_asked precision scale keep r old new within some h =
-    tells_choice (nat_lt precision scale) (refused_by DecimalScale) (choice (precision == 0) (done zero_decimal) (as_value (packed_digits (precision - scale) scale) (kept keep))) false r old new (le-ltb precision scale within)
-    (tells_choice (precision == 0) (done zero_decimal) (as_value (packed_digits (precision - scale) scale) (kept keep)) false r old new (some_sum precision some) h)
-
-pub digits-refused : (precision scale : ℕ) (keep : Bool) (e : Fault) (old mid new : Option (List ℕ)) → scale ≤ precision → 0 < precision → OrMemory {X = DecimalView} (Err e) (Tells {X = DecimalView} same (Err e) old mid (packed_digits (precision - scale) scale)) → OrMemory {X = DecimalView} (Err e) (Tells {X = DecimalView} same (Err e) old new (packed_decimal precision scale keep))
-digits-refused precision scale keep e old mid new within some h =
-    λ other. as_asked precision scale keep (Err e) old new within some (tells_first (packed_digits (precision - scale) scale) (λ d. done (kept keep d)) same same e old mid new (h other))
-
-pub digits-kept : (precision scale : ℕ) (keep : Bool) (d k : DecimalView) (old new : Option (List ℕ)) → scale ≤ precision → 0 < precision → k ≡ kept keep d → Tells same (Ok d) old new (packed_digits (precision - scale) scale) → Tells same (Ok k) old new (packed_decimal precision scale keep)
-digits-kept precision scale keep d k old new within some is h =
-    as_asked precision scale keep (Ok k) old new within some (tells_as (packed_digits (precision - scale) scale) (kept keep) d k old new is h)
 
 -- ---- behind a precision and a scale
 

@@ -479,7 +479,7 @@ fn first_numbers(alloc: Global, table: &[u8], rows: &[u8]) -> Result<Vec<Option<
     Ok(numbers)
 }
 
-/// The example of the README.
+/// The rows of the README's first example, by the library.
 #[test]
 fn example(rt: HostRuntime) -> Result<(), Fail> {
     let table = [

@@ -2,7 +2,7 @@ ghost use Rattle.std.specs.Prelude.{⊤, [], ◌∷◌, codes};
 
 use bitflags::{Flag, Flags, bitflag_items};
 
-/// Flags of a column definition. The reader of rows sets `PRI_KEY_FLAG` and `UNSIGNED_FLAG` alone.
+/// Flags of a column definition. The reader of rows sets none of them yet.
 #[derive(Clone, Copy, Debug, PartialEq, Eq, Hash)]
 pub struct ColumnFlags(u16);
 

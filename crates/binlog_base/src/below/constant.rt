@@ -24,14 +24,11 @@ impl<T: Flags, U: IntRepr<Primitive = T::Bits>> Model for RawFlags<T, U> {
     ghost Value = { T.Bits };
 
     ghost view = { λ a. a.bits };
-
-    ghost invariant = { λ a. U.IsInRange a.bits };
 }
 
 impl<T: Flags, U: IntRepr<Primitive = T::Bits>> RawFlags<T, U> {
     /// The flags as they stand in the bytes.
-    pub(crate) fn new(bits: T::Bits) -> Self
-        requires { U.IsInRange bits }
+    pub fn new(bits: T::Bits) -> Self
         ensures { result ≡ bits }
     {
         RawFlags {

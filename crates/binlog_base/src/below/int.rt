@@ -30,9 +30,8 @@ pub trait IntRepr {
         ensures parses { Parses false (λ x. x) result buf.new.0.now format buf.old.0.now }
         ensures in_range { IfOk result IsInRange };
 
-    /// Writes a number at the end of the buffer.
+    /// Writes a number at the end of the buffer; of one that the kind can't hold, its lowest bytes.
     fn serialize(value: Self::Primitive, buf: &mut Vec<u8>) -> Result<(), AllocError>
-        requires { IsInRange value }
         ensures { Appends result buf.old.items buf.new.items (spelling value) };
 
     ghost exact: { IsExact format };
@@ -51,14 +50,11 @@ impl<T: IntRepr> Model for RawInt<T> {
     ghost Value = { T.Primitive };
 
     ghost view = { λ a. a.0 };
-
-    ghost invariant = { λ a. T.IsInRange a.0 };
 }
 
 impl<T: IntRepr> RawInt<T> {
     /// The number, as one of its kind.
     pub fn new(value: T::Primitive) -> Self
-        requires { T.IsInRange value }
         ensures { result ≡ value }
     {
         RawInt(value, PhantomData)

@@ -8,8 +8,8 @@ ghost use Rattle.binlog_base.specs.Writing.{Appends};
 ghost use Rattle.std.specs.Prelude.{false};
 
 use super::buf::ParseBuf;
+use super::fixed::{LeU16, LeU24, LeU64, U8};
 use super::int::IntRepr;
-use super::little_endian::{LeU16, LeU24, LeU64, U8};
 use crate::fault::Fault;
 use byteorder::{ByteOrder, LittleEndian};
 use std::alloc::AllocError;

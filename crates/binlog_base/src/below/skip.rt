@@ -20,7 +20,7 @@ impl<'de, const N: usize> MyDeserialize<'de> for Skip<N> {
 
     ghost exact = { λ _. exact_skipped N };
 
-    const SIZE: Option<usize> = Some(N);
+    const SIZE: Option<usize> = None;
 
     type Ctx = ();
 

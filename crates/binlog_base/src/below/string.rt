@@ -10,9 +10,9 @@ ghost use Rattle.binlog_base.specs.StringsExact.{exact_u8_string, exact_lenenc_s
 ghost use Rattle.binlog_base.specs.Writing.{Appends};
 
 use super::buf::{MyDeserialize, MySerialize, ParseBuf};
+use super::fixed::U8;
 use super::int::IntRepr;
 use super::length::{LenEnc, VarLen, put_byte};
-use super::little_endian::U8;
 use crate::fault::Fault;
 use bstr::ByteSlice;
 use std::alloc::{AllocError, Global};

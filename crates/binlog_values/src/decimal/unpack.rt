@@ -1,8 +1,11 @@
 //! Reading the groups of packed decimals.
 
-ghost use Rattle.std.specs.Prelude.{◌≡◌, ◌≤◌, ◌<◌, ◌+◌, ◌*◌, ◌/◌, [], ◌∷◌, length, replicate};
+ghost use Rattle.std.specs.Prelude.{true, ◌≡◌, ◌≤◌, ◌<◌, ◌+◌, ◌*◌, ◌/◌, [], ◌∷◌, length, replicate};
 ghost use Rattle.binlog_values.specs.Decimals.{group_width, digits_size, packed_size, integer_groups, fraction_groups};
-ghost use Rattle.binlog_values.specs.DecimalReads.{Unpacks, Decodes};
+ghost use Rattle.binlog_values.specs.DecimalReads.{Unpacks};
+ghost use Rattle.binlog_values.specs.PackedDecimals.{packed_digits};
+ghost use Rattle.binlog_base.specs.Format.{Parses};
+ghost use Rattle.binlog_base.specs.Failures.{same};
 
 use super::group::{digits_size, group_width, number_of, power_of_10, push_digits};
 use super::mask::{is_negative, unmask};
@@ -68,7 +71,7 @@ pub(super) fn unpack(
 ) -> Result<Decimal, Fault>
     requires some { 0 < integer + fraction }
     requires size { length bytes.old ≡ packed_size integer fraction }
-    ensures { Decodes result integer fraction bytes.old }
+    ensures { Parses true same result [] (packed_digits integer fraction) bytes.old }
 {
     let negative = is_negative(bytes);
     unmask(negative, bytes);

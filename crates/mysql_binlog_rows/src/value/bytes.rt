@@ -5,9 +5,9 @@ ghost use Rattle.binlog_base.specs.Format.{Parses};
 ghost use Rattle.mysql_binlog_rows.specs.Cells.{cell_of, bytes_cell, fixed_bytes, text, text_cell, length_width, varchar_length, string_length, bit_bytes, blob_cell, varchar_cell, string_cell, bit_cell, set_cell, with_byte, with_bytes};
 
 use super::BinlogValue;
-use super::numbers::read_unsigned;
-use binlog_base::below::{ParseBuf, Value};
+use binlog_base::below::{ParseBuf, Value, read_number};
 use binlog_base::fault::Fault;
+use byteorder::LittleEndian;
 use std::alloc::{AllocError, Global};
 
 // A copy of the bytes.
@@ -27,13 +27,13 @@ fn read_fixed(alloc: Global, len: usize, buf: &mut ParseBuf<'_>) -> Result<Binlo
 }
 
 // Bytes behind their length in `width` bytes.
-#[tactic(auto, unfolding(crate::specs::Cells::text))]
+#[tactic(auto, using(binlog_base::specs::Fixed::few), unfolding(crate::specs::Cells::text))]
 fn read_slice<'a>(width: usize, buf: &mut ParseBuf<'a>) -> Result<&'a [u8], Fault>
     requires some { 1 ≤ width }
     requires most { width ≤ 4 }
     ensures { Parses false (λ x. x.now) result buf.new.0.now (text width) buf.old.0.now }
 {
-    let len = read_unsigned(width, buf)?;
+    let len = read_number::<LittleEndian, u32>(width, buf)?;
     buf.checked_eat(len as usize)
 }
 

@@ -2,45 +2,15 @@
 
 ghost use Rattle.std.specs.Prelude.{◌≡◌, ◌≤◌, true, false};
 ghost use Rattle.binlog_base.specs.Format.{Parses};
-ghost use Rattle.binlog_base.specs.Numbers.{little, signed_little};
 ghost use Rattle.mysql_binlog_rows.specs.Cells.{cell_of, integer, long_integer, float_bits, double_bits, variant_cell, enum_cell, with_bytes};
 
 use super::BinlogValue;
-use binlog_base::below::{
-    I8, IntRepr, LeI16, LeI24, LeI32, LeI64, LeU16, LeU24, LeU32, LeU64, ParseBuf, U8, Value,
-};
+use binlog_base::below::{IntRepr, LeI64, LeU32, LeU64, ParseBuf, Value, read_number};
 use binlog_base::fault::Fault;
-
-// A number of one to four bytes, the lowest first.
-pub(super) fn read_unsigned(width: usize, buf: &mut ParseBuf<'_>) -> Result<u32, Fault>
-    requires some { 1 ≤ width }
-    requires most { width ≤ 4 }
-    ensures { Parses false (λ n. n) result buf.new.0.now (little width) buf.old.0.now }
-{
-    match width {
-        1 => Ok(u32::from(U8::deserialize(buf)?)),
-        2 => Ok(u32::from(LeU16::deserialize(buf)?)),
-        3 => LeU24::deserialize(buf),
-        _ => LeU32::deserialize(buf),
-    }
-}
-
-// The same in two's complement.
-fn read_signed(width: usize, buf: &mut ParseBuf<'_>) -> Result<i32, Fault>
-    requires some { 1 ≤ width }
-    requires most { width ≤ 4 }
-    ensures { Parses false (λ z. z) result buf.new.0.now (signed_little width) buf.old.0.now }
-{
-    match width {
-        1 => Ok(i32::from(I8::deserialize(buf)?)),
-        2 => Ok(i32::from(LeI16::deserialize(buf)?)),
-        3 => LeI24::deserialize(buf),
-        _ => LeI32::deserialize(buf),
-    }
-}
+use byteorder::LittleEndian;
 
 // TINY, SHORT, INT24, LONG.
-#[tactic(auto, unfolding(crate::specs::Cells::integer))]
+#[tactic(auto, using(binlog_base::specs::Fixed::few), unfolding(crate::specs::Cells::integer))]
 pub(super) fn read_integer(
     width: usize,
     unsigned: bool,
@@ -51,9 +21,9 @@ pub(super) fn read_integer(
     ensures { Parses false cell_of result buf.new.0.now (integer width unsigned) buf.old.0.now }
 {
     let number = if unsigned {
-        i64::from(read_unsigned(width, buf)?)
+        i64::from(read_number::<LittleEndian, u32>(width, buf)?)
     } else {
-        i64::from(read_signed(width, buf)?)
+        i64::from(read_number::<LittleEndian, i32>(width, buf)?)
     };
     Ok(BinlogValue::Value(Value::Int(number)))
 }
@@ -110,6 +80,6 @@ fn read_enum_of(width: u8, buf: &mut ParseBuf<'_>) -> Result<BinlogValue, Fault>
     if width < 1 || width > 2 {
         return Err(Fault::UnknownEnum);
     }
-    let number = read_unsigned(usize::from(width), buf)?;
+    let number = read_number::<LittleEndian, u32>(usize::from(width), buf)?;
     Ok(BinlogValue::Value(Value::Int(i64::from(number))))
 }

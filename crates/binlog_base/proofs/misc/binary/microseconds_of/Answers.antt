@@ -2,7 +2,7 @@ use Rattle.std.proofs.Common.{◌≡◌, ℕ, ◌*◌, ◌<◌, ◌≤◌, ◌^�
 use Rattle.std.specs.Int.{w64, cast_signed}
 use Rattle.std.proofs.lemmas.Int.{ints}
 use Rattle.binlog_base.specs.PackedTimes.{fraction_unit}
-use Rattle.binlog_base.proofs.PackedTelling.{part_small}
+use Rattle.binlog_base.proofs.Fractions.{part_small}
 use Rattle.binlog_base.proofs.misc.binary.microseconds_of.Goals as goal
 
 -- the product fits, and stays what it is as a signed number

@@ -1,6 +1,6 @@
 use Rattle.std.proofs.Common.{arith}
 use Rattle.std.proofs.lemmas.Int.{ints}
-use Rattle.binlog_base.proofs.PackedTelling.{time2_sum_below}
+use Rattle.binlog_base.proofs.Fractions.{time2_sum_below}
 use Rattle.binlog_base.proofs.misc.binary.time_of_parts.Goals as goal
 
 pub returns-then-part-gt0 : goal.returns-then-part-gt0

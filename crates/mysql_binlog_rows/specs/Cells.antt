@@ -8,13 +8,18 @@ use Rattle.binlog_base.specs.declared.below.column_type.ColumnType.{ColumnType}
 use Rattle.binlog_base.specs.declared.below.column_type.ColumnType.TheVariants as column
 use Rattle.binlog_base.specs.declared.fault.Fault.{Fault}
 use Rattle.binlog_base.specs.declared.fault.Fault.TheVariants.{MissingMetadata, Unhandled, UnknownBlob, UnknownEnum, YearRange}
-use Rattle.binlog_base.specs.Format.{Format, bytes, done, fault, both, as_value, choice}
+use Rattle.binlog_base.specs.Format.{Format, ◌>>=◌, bytes, done, fault, checked, both, as_value, choice}
+use Rattle.binlog_base.specs.Tables.{from_table}
 use Rattle.binlog_base.specs.Numbers.{little, signed_little}
 use Rattle.binlog_base.specs.ColumnTypes.{column_type_of}
 use Rattle.binlog_base.specs.Values.{Plain, Bytes, Int, UInt, Float, Double, Date, Time, plain_of}
 use Rattle.binlog_base.specs.PackedTimes.{timestamp2, datetime2, time2, datetime_value, time_value}
 use Rattle.binlog_values.specs.PackedDecimals.{packed_decimal}
 use Rattle.binlog_values.specs.DecimalText.{decimal_text}
+use Rattle.mysql_binlog_rows.specs.declared.value.form.Width.{Width}
+use Rattle.mysql_binlog_rows.specs.declared.value.form.Width.TheVariants as width
+use Rattle.mysql_binlog_rows.specs.declared.value.form.Form.{Form}
+use Rattle.mysql_binlog_rows.specs.declared.value.form.Form.TheVariants as form
 use Rattle.mysql_binlog_rows.specs.declared.value.BinlogValue.{BinlogValue}
 use Rattle.mysql_binlog_rows.specs.declared.value.BinlogValue.TheVariants as binlog
 
@@ -126,8 +131,8 @@ unfoldable pub text_cell : ℕ → Format Cell
 text_cell w = as_value (text w) bytes_cell
 
 -- a length below 256 takes one byte, else two
-abbrev pub length_width : ℕ → ℕ
-length_width most = if nat_lt most 256 then 1 else 2
+abbrev pub length_width : ℕ → Width
+length_width most = if nat_lt most 256 then width.One else width.Two
 
 -- VARCHAR and VAR_STRING: the greatest length
 abbrev pub varchar_length : ℕ → ℕ → ℕ
@@ -137,90 +142,114 @@ varchar_length m0 m1 = m0 + 256 * m1
 abbrev pub string_length : ℕ → ℕ → ℕ
 string_length m0 m1 = if m0 == 0 then m1 * 256 else (3 - m0 / 16 % 4) * 256 + m1
 
-abbrev pub varchar_cell : ℕ → ℕ → Format Cell
-varchar_cell m0 m1 = text_cell (length_width (varchar_length m0 m1))
-
-abbrev pub string_cell : ℕ → ℕ → Format Cell
-string_cell m0 m1 = text_cell (length_width (string_length m0 m1))
-
 -- BIT: as many bytes as m1 bytes and m0 bits more take
 abbrev pub bit_bytes : ℕ → ℕ → ℕ
 bit_bytes m0 m1 = (m1 * 8 + m0 + 7) / 8
 
-abbrev pub bit_cell : ℕ → ℕ → Format Cell
-bit_cell m0 m1 = fixed_bytes (bit_bytes m0 m1)
-
--- SET: m1 bytes
-abbrev pub set_cell : ℕ → ℕ → Format Cell
-set_cell m0 m1 = fixed_bytes m1
-
--- BLOBs, GEOMETRY, VECTOR: a length of w bytes, one to four
-unfoldable pub blob_cell : ℕ → Format Cell
-blob_cell w = choice (nat_lt 0 w && nat_lt w 5) (text_cell w) (fault UnknownBlob)
-
--- ENUM: the number of a variant, in one or two bytes
+-- ENUM: the number of a variant
 unfoldable pub variant_cell : ℕ → Format Cell
-variant_cell w = choice (nat_lt 0 w && nat_lt w 3) (as_value (little w) int_cell) (fault UnknownEnum)
+variant_cell w = as_value (little w) int_cell
 
-abbrev pub enum_cell : ℕ → ℕ → Format Cell
-enum_cell m0 m1 = variant_cell m1
+-- ---- how the cells of a column are read
 
--- ---- metadata
+-- the bytes of a width
+abbrev pub bytes_in : Width → ℕ
+bytes_in width.One = 1
+bytes_in width.Two = 2
+bytes_in width.Three = 3
+bytes_in width.Four = 4
 
--- a type that reads the first byte of its metadata
-abbrev pub with_byte : List ℕ → (ℕ → Format Cell) → Format Cell
-with_byte [] f = fault MissingMetadata
-with_byte (m0 ∷ more) f = f m0
+-- the cell that is read in this way
+unfoldable pub cell_by : Form → Format Cell
+cell_by (form.Integer w unsigned) = integer (bytes_in w) unsigned
+cell_by (form.LongInteger unsigned) = long_integer unsigned
+cell_by form.Float = float_bits
+cell_by form.Double = double_bits
+cell_by form.Timestamp = timestamp_cell
+cell_by form.Time = time_cell
+cell_by form.Datetime = datetime_cell
+cell_by form.Year = year_cell
+cell_by form.Date = date_cell
+cell_by (form.Timestamp2 decimals) = timestamp2_cell decimals
+cell_by (form.Datetime2 decimals) = datetime2_cell decimals
+cell_by (form.Time2 decimals) = time2_cell decimals
+cell_by (form.Decimal precision scale) = decimal_cell precision scale
+cell_by (form.Fixed n) = fixed_bytes n
+cell_by (form.Text w) = text_cell (bytes_in w)
+cell_by (form.Variant w) = variant_cell (bytes_in w)
 
--- the first two
-abbrev pub with_bytes : List ℕ → (ℕ → ℕ → Format Cell) → Format Cell
-with_bytes [] f = fault MissingMetadata
-with_bytes (m0 ∷ []) f = fault MissingMetadata
-with_bytes (m0 ∷ m1 ∷ more) f = f m0 m1
+-- the first byte of the metadata, and the first two
+abbrev pub first_byte : List ℕ → Result ℕ Fault
+first_byte [] = Err MissingMetadata
+first_byte (m0 ∷ more) = Ok m0
 
--- ---- the table
+abbrev pub first_two : List ℕ → Result (ℕ × ℕ) Fault
+first_two [] = Err MissingMetadata
+first_two (m0 ∷ []) = Err MissingMetadata
+first_two (m0 ∷ m1 ∷ more) = Ok (m0, m1)
 
--- a cell of a column that is no array
-unfoldable pub element : ColumnType → List ℕ → Bool → Bool → Format Cell
-element column.MYSQL_TYPE_TINY metadata unsigned partial = integer 1 unsigned
-element column.MYSQL_TYPE_SHORT metadata unsigned partial = integer 2 unsigned
-element column.MYSQL_TYPE_INT24 metadata unsigned partial = integer 3 unsigned
-element column.MYSQL_TYPE_LONG metadata unsigned partial = integer 4 unsigned
-element column.MYSQL_TYPE_LONGLONG metadata unsigned partial = long_integer unsigned
-element column.MYSQL_TYPE_FLOAT metadata unsigned partial = float_bits
-element column.MYSQL_TYPE_DOUBLE metadata unsigned partial = double_bits
-element column.MYSQL_TYPE_TIMESTAMP metadata unsigned partial = timestamp_cell
-element column.MYSQL_TYPE_TIME metadata unsigned partial = time_cell
-element column.MYSQL_TYPE_DATETIME metadata unsigned partial = datetime_cell
-element column.MYSQL_TYPE_YEAR metadata unsigned partial = year_cell
-element column.MYSQL_TYPE_NEWDATE metadata unsigned partial = date_cell
-element column.MYSQL_TYPE_BIT metadata unsigned partial = with_bytes metadata bit_cell
-element column.MYSQL_TYPE_SET metadata unsigned partial = with_bytes metadata set_cell
-element column.MYSQL_TYPE_ENUM metadata unsigned partial = with_bytes metadata enum_cell
-element column.MYSQL_TYPE_TINY_BLOB metadata unsigned partial = with_byte metadata blob_cell
-element column.MYSQL_TYPE_MEDIUM_BLOB metadata unsigned partial = with_byte metadata blob_cell
-element column.MYSQL_TYPE_LONG_BLOB metadata unsigned partial = with_byte metadata blob_cell
-element column.MYSQL_TYPE_BLOB metadata unsigned partial = with_byte metadata blob_cell
-element column.MYSQL_TYPE_GEOMETRY metadata unsigned partial = with_byte metadata blob_cell
-element column.MYSQL_TYPE_VECTOR metadata unsigned partial = with_byte metadata blob_cell
-element column.MYSQL_TYPE_VARCHAR metadata unsigned partial = with_bytes metadata varchar_cell
-element column.MYSQL_TYPE_VAR_STRING metadata unsigned partial = with_bytes metadata varchar_cell
-element column.MYSQL_TYPE_STRING metadata unsigned partial = with_bytes metadata string_cell
-element column.MYSQL_TYPE_NEWDECIMAL metadata unsigned partial = with_bytes metadata decimal_cell
-element column.MYSQL_TYPE_TIMESTAMP2 metadata unsigned partial = with_byte metadata timestamp2_cell
-element column.MYSQL_TYPE_DATETIME2 metadata unsigned partial = with_byte metadata datetime2_cell
-element column.MYSQL_TYPE_TIME2 metadata unsigned partial = with_byte metadata time2_cell
-element _ metadata unsigned partial = fault Unhandled
+-- BLOBs, GEOMETRY, VECTOR: the length has one to four bytes
+abbrev pub blob_widths : List (ℕ × Width)
+blob_widths = (1, width.One) ∷ (2, width.Two) ∷ (3, width.Three) ∷ (4, width.Four) ∷ []
+
+abbrev pub blob_form : ℕ → Result Form Fault
+blob_form m0 = from_table blob_widths (λ n. UnknownBlob) m0 >>= λ w. Ok (form.Text w)
+
+-- ENUM: the number has one or two bytes
+abbrev pub variant_widths : List (ℕ × Width)
+variant_widths = (1, width.One) ∷ (2, width.Two) ∷ []
+
+abbrev pub variant_form : ℕ → Result Form Fault
+variant_form m1 = from_table variant_widths (λ n. UnknownEnum) m1 >>= λ w. Ok (form.Variant w)
+
+-- of the types that read two bytes of metadata
+abbrev pub two_form : ColumnType → List ℕ → Result Form Fault
+two_form column.MYSQL_TYPE_BIT metadata = first_two metadata >>= λ m. Ok (form.Fixed (bit_bytes m.0 m.1))
+two_form column.MYSQL_TYPE_SET metadata = first_two metadata >>= λ m. Ok (form.Fixed m.1)
+two_form column.MYSQL_TYPE_ENUM metadata = first_two metadata >>= λ m. variant_form m.1
+two_form column.MYSQL_TYPE_VARCHAR metadata = first_two metadata >>= λ m. Ok (form.Text (length_width (varchar_length m.0 m.1)))
+two_form column.MYSQL_TYPE_VAR_STRING metadata = first_two metadata >>= λ m. Ok (form.Text (length_width (varchar_length m.0 m.1)))
+two_form column.MYSQL_TYPE_STRING metadata = first_two metadata >>= λ m. Ok (form.Text (length_width (string_length m.0 m.1)))
+two_form column.MYSQL_TYPE_NEWDECIMAL metadata = first_two metadata >>= λ m. Ok (form.Decimal m.0 m.1)
+two_form _ metadata = Err Unhandled
+
+-- The way in which the cells of a column are read that is no array, by its type, its metadata and its sign; or the fault of each of them.
+unfoldable pub element_form : ColumnType → List ℕ → Bool → Result Form Fault
+element_form column.MYSQL_TYPE_TINY metadata unsigned = Ok (form.Integer width.One unsigned)
+element_form column.MYSQL_TYPE_SHORT metadata unsigned = Ok (form.Integer width.Two unsigned)
+element_form column.MYSQL_TYPE_INT24 metadata unsigned = Ok (form.Integer width.Three unsigned)
+element_form column.MYSQL_TYPE_LONG metadata unsigned = Ok (form.Integer width.Four unsigned)
+element_form column.MYSQL_TYPE_LONGLONG metadata unsigned = Ok (form.LongInteger unsigned)
+element_form column.MYSQL_TYPE_FLOAT metadata unsigned = Ok form.Float
+element_form column.MYSQL_TYPE_DOUBLE metadata unsigned = Ok form.Double
+element_form column.MYSQL_TYPE_TIMESTAMP metadata unsigned = Ok form.Timestamp
+element_form column.MYSQL_TYPE_TIME metadata unsigned = Ok form.Time
+element_form column.MYSQL_TYPE_DATETIME metadata unsigned = Ok form.Datetime
+element_form column.MYSQL_TYPE_YEAR metadata unsigned = Ok form.Year
+element_form column.MYSQL_TYPE_NEWDATE metadata unsigned = Ok form.Date
+element_form column.MYSQL_TYPE_TINY_BLOB metadata unsigned = first_byte metadata >>= blob_form
+element_form column.MYSQL_TYPE_MEDIUM_BLOB metadata unsigned = first_byte metadata >>= blob_form
+element_form column.MYSQL_TYPE_LONG_BLOB metadata unsigned = first_byte metadata >>= blob_form
+element_form column.MYSQL_TYPE_BLOB metadata unsigned = first_byte metadata >>= blob_form
+element_form column.MYSQL_TYPE_GEOMETRY metadata unsigned = first_byte metadata >>= blob_form
+element_form column.MYSQL_TYPE_VECTOR metadata unsigned = first_byte metadata >>= blob_form
+element_form column.MYSQL_TYPE_TIMESTAMP2 metadata unsigned = first_byte metadata >>= λ m0. Ok (form.Timestamp2 m0)
+element_form column.MYSQL_TYPE_DATETIME2 metadata unsigned = first_byte metadata >>= λ m0. Ok (form.Datetime2 m0)
+element_form column.MYSQL_TYPE_TIME2 metadata unsigned = first_byte metadata >>= λ m0. Ok (form.Time2 m0)
+element_form type metadata unsigned = two_form type metadata
 
 -- TYPED_ARRAY: a cell of the type that the first byte of the metadata names, with all of the metadata; an array is no such type
-abbrev pub typed : Result ColumnType Fault → List ℕ → Bool → Bool → Format Cell
-typed (Ok type) metadata unsigned partial = element type metadata unsigned partial
-typed (Err e) metadata unsigned partial = fault Unhandled
+abbrev pub typed_form : Result ColumnType Fault → List ℕ → Bool → Result Form Fault
+typed_form (Ok type) metadata unsigned = element_form type metadata unsigned
+typed_form (Err e) metadata unsigned = Err Unhandled
 
-abbrev pub array_cell : List ℕ → Bool → Bool → Format Cell
-array_cell metadata unsigned partial = with_byte metadata (λ m0. typed (column_type_of m0) metadata unsigned partial)
+abbrev pub array_form : List ℕ → Bool → Result Form Fault
+array_form metadata unsigned = first_byte metadata >>= λ m0. typed_form (column_type_of m0) metadata unsigned
 
--- a cell of a column of this type and metadata, unsigned or not, whole or partial
-unfoldable pub cell : ColumnType → List ℕ → Bool → Bool → Format Cell
-cell column.MYSQL_TYPE_TYPED_ARRAY metadata unsigned partial = array_cell metadata unsigned partial
-cell type metadata unsigned partial = element type metadata unsigned partial
+abbrev pub form_of : ColumnType → List ℕ → Bool → Result Form Fault
+form_of column.MYSQL_TYPE_TYPED_ARRAY metadata unsigned = array_form metadata unsigned
+form_of type metadata unsigned = element_form type metadata unsigned
+
+-- a cell of a column of this type and metadata, unsigned or not
+unfoldable pub cell : ColumnType → List ℕ → Bool → Format Cell
+cell type metadata unsigned = both (checked (form_of type metadata unsigned)) cell_by

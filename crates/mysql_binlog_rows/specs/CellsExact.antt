@@ -1,12 +1,14 @@
 -- The formats of cells are exact.
-use Rattle.std.specs.Prelude.{ℕ, Bool, false, List, [], ◌∷◌, ◌/◌, nat_lt, ◌&&◌, Result, Ok, Err}
-use Rattle.std.proofs.Common.{refl}
+use Rattle.std.specs.Prelude.{ℕ, Bool, true, false, List, [], ◌∷◌, ◌/◌, ◌==◌, nat_lt, Result, Ok, Err, IsTrue}
+use Rattle.std.proofs.Common.{◌≡◌, refl, cond, subst}
 use Rattle.binlog_base.specs.declared.fault.Fault.{Fault}
 use Rattle.binlog_base.specs.declared.below.column_type.ColumnType.{ColumnType}
 use Rattle.binlog_base.specs.declared.below.column_type.ColumnType.TheVariants as column
-use Rattle.binlog_base.specs.declared.fault.Fault.TheVariants.{MissingMetadata, Unhandled, UnknownBlob, UnknownEnum, YearRange}
-use Rattle.binlog_base.specs.Format.{Format, IsExact, bytes}
-use Rattle.binlog_base.specs.Exact.{exact_bytes, exact_done, exact_fault, exact_both, exact_as, exact_choice}
+use Rattle.binlog_base.specs.declared.fault.Fault.TheVariants.{UnknownBlob, UnknownEnum, YearRange}
+use Rattle.binlog_base.specs.Faults.{IsOfBytes}
+use Rattle.binlog_base.specs.Tables.{from_table}
+use Rattle.binlog_base.specs.Format.{Format, IsExact, ◌>>=◌, bytes}
+use Rattle.binlog_base.specs.Exact.{exact_bytes, exact_done, exact_fault, exact_checked, exact_both, exact_as, exact_choice}
 use Rattle.binlog_base.specs.Numbers.{little, signed_little}
 use Rattle.binlog_base.specs.NumbersExact.{exact_little, exact_signed_little}
 use Rattle.binlog_base.specs.ColumnTypes.{column_type_of}
@@ -14,7 +16,10 @@ use Rattle.binlog_base.specs.PackedTimes.{timestamp2, datetime2, time2}
 use Rattle.binlog_base.specs.PackedTimesExact.{exact_timestamp2, exact_datetime2, exact_time2}
 use Rattle.binlog_values.specs.PackedDecimals.{packed_decimal}
 use Rattle.binlog_values.specs.PackedDecimalsExact.{exact_packed_decimal}
-use Rattle.mysql_binlog_rows.specs.Cells.{Cell, integer, long_integer, float_bits, double_bits, timestamp_cell, time_cell, date_of_number, datetime_cell, year_cell, date_cell, timestamp2_cell, datetime2_cell, time2_cell, decimal_cell, fixed_bytes, text, text_cell, length_width, varchar_length, varchar_cell, string_length, string_cell, bit_bytes, bit_cell, set_cell, blob_cell, variant_cell, enum_cell, with_byte, with_bytes, element, typed, cell}
+use Rattle.mysql_binlog_rows.specs.declared.value.form.Width.{Width}
+use Rattle.mysql_binlog_rows.specs.declared.value.form.Form.{Form}
+use Rattle.mysql_binlog_rows.specs.declared.value.form.Form.TheVariants as form
+use Rattle.mysql_binlog_rows.specs.Cells.{Cell, integer, long_integer, float_bits, double_bits, timestamp_cell, time_cell, date_of_number, datetime_cell, year_cell, date_cell, timestamp2_cell, datetime2_cell, time2_cell, decimal_cell, fixed_bytes, text, text_cell, variant_cell, bytes_in, cell_by, first_byte, first_two, blob_widths, blob_form, variant_widths, two_form, element_form, typed_form, form_of, cell}
 
 exact_integer : (w : ℕ) (unsigned : Bool) → IsExact (integer w unsigned)
 unfolding integer
@@ -83,60 +88,101 @@ exact_text_cell : (w : ℕ) → IsExact (text_cell w)
 unfolding text_cell
 exact_text_cell w = exact_as (text w) _ (exact_text w)
 
-exact_blob_cell : (w : ℕ) → IsExact (blob_cell w)
-unfolding blob_cell
-exact_blob_cell w = exact_choice (nat_lt 0 w && nat_lt w 5) _ _ (exact_text_cell w) (exact_fault UnknownBlob refl)
-
 exact_variant_cell : (w : ℕ) → IsExact (variant_cell w)
 unfolding variant_cell
-exact_variant_cell w = exact_choice (nat_lt 0 w && nat_lt w 3) _ _ (exact_as (little w) _ (exact_little w)) (exact_fault UnknownEnum refl)
+exact_variant_cell w = exact_as (little w) _ (exact_little w)
 
-exact_with_byte : (metadata : List ℕ) (f : ℕ → Format Cell) → ((m0 : ℕ) → IsExact (f m0)) → IsExact (with_byte metadata f)
-exact_with_byte [] f each = exact_fault MissingMetadata refl
-exact_with_byte (m0 ∷ more) f each = each m0
+exact_by : (f : Form) → IsExact (cell_by f)
+unfolding cell_by
+exact_by (form.Integer w unsigned) = exact_integer (bytes_in w) unsigned
+exact_by (form.LongInteger unsigned) = exact_long_integer unsigned
+exact_by form.Float = exact_float_bits
+exact_by form.Double = exact_double_bits
+exact_by form.Timestamp = exact_timestamp_cell
+exact_by form.Time = exact_time_cell
+exact_by form.Datetime = exact_datetime_cell
+exact_by form.Year = exact_year_cell
+exact_by form.Date = exact_date_cell
+exact_by (form.Timestamp2 decimals) = exact_timestamp2_cell decimals
+exact_by (form.Datetime2 decimals) = exact_datetime2_cell decimals
+exact_by (form.Time2 decimals) = exact_time2_cell decimals
+exact_by (form.Decimal precision scale) = exact_decimal_cell precision scale
+exact_by (form.Fixed n) = exact_fixed_bytes n
+exact_by (form.Text w) = exact_text_cell (bytes_in w)
+exact_by (form.Variant w) = exact_variant_cell (bytes_in w)
 
-exact_with_bytes : (metadata : List ℕ) (f : ℕ → ℕ → Format Cell) → ((m0 m1 : ℕ) → IsExact (f m0 m1)) → IsExact (with_bytes metadata f)
-exact_with_bytes [] f each = exact_fault MissingMetadata refl
-exact_with_bytes (m0 ∷ []) f each = exact_fault MissingMetadata refl
-exact_with_bytes (m0 ∷ m1 ∷ more) f each = each m0 m1
+-- ---- the fault of a type or of metadata is one that bytes can have
 
-exact_element : (type : ColumnType) (metadata : List ℕ) (unsigned partial : Bool) → IsExact (element type metadata unsigned partial)
-unfolding element
-exact_element column.MYSQL_TYPE_TINY metadata unsigned partial = exact_integer 1 unsigned
-exact_element column.MYSQL_TYPE_SHORT metadata unsigned partial = exact_integer 2 unsigned
-exact_element column.MYSQL_TYPE_INT24 metadata unsigned partial = exact_integer 3 unsigned
-exact_element column.MYSQL_TYPE_LONG metadata unsigned partial = exact_integer 4 unsigned
-exact_element column.MYSQL_TYPE_LONGLONG metadata unsigned partial = exact_long_integer unsigned
-exact_element column.MYSQL_TYPE_FLOAT metadata unsigned partial = exact_float_bits
-exact_element column.MYSQL_TYPE_DOUBLE metadata unsigned partial = exact_double_bits
-exact_element column.MYSQL_TYPE_TIMESTAMP metadata unsigned partial = exact_timestamp_cell
-exact_element column.MYSQL_TYPE_TIME metadata unsigned partial = exact_time_cell
-exact_element column.MYSQL_TYPE_DATETIME metadata unsigned partial = exact_datetime_cell
-exact_element column.MYSQL_TYPE_YEAR metadata unsigned partial = exact_year_cell
-exact_element column.MYSQL_TYPE_NEWDATE metadata unsigned partial = exact_date_cell
-exact_element column.MYSQL_TYPE_BIT metadata unsigned partial = exact_with_bytes metadata bit_cell (λ m0 m1. exact_fixed_bytes (bit_bytes m0 m1))
-exact_element column.MYSQL_TYPE_SET metadata unsigned partial = exact_with_bytes metadata set_cell (λ m0 m1. exact_fixed_bytes m1)
-exact_element column.MYSQL_TYPE_ENUM metadata unsigned partial = exact_with_bytes metadata enum_cell (λ m0 m1. exact_variant_cell m1)
-exact_element column.MYSQL_TYPE_TINY_BLOB metadata unsigned partial = exact_with_byte metadata blob_cell exact_blob_cell
-exact_element column.MYSQL_TYPE_MEDIUM_BLOB metadata unsigned partial = exact_with_byte metadata blob_cell exact_blob_cell
-exact_element column.MYSQL_TYPE_LONG_BLOB metadata unsigned partial = exact_with_byte metadata blob_cell exact_blob_cell
-exact_element column.MYSQL_TYPE_BLOB metadata unsigned partial = exact_with_byte metadata blob_cell exact_blob_cell
-exact_element column.MYSQL_TYPE_GEOMETRY metadata unsigned partial = exact_with_byte metadata blob_cell exact_blob_cell
-exact_element column.MYSQL_TYPE_VECTOR metadata unsigned partial = exact_with_byte metadata blob_cell exact_blob_cell
-exact_element column.MYSQL_TYPE_VARCHAR metadata unsigned partial = exact_with_bytes metadata varchar_cell (λ m0 m1. exact_text_cell (length_width (varchar_length m0 m1)))
-exact_element column.MYSQL_TYPE_VAR_STRING metadata unsigned partial = exact_with_bytes metadata varchar_cell (λ m0 m1. exact_text_cell (length_width (varchar_length m0 m1)))
-exact_element column.MYSQL_TYPE_STRING metadata unsigned partial = exact_with_bytes metadata string_cell (λ m0 m1. exact_text_cell (length_width (string_length m0 m1)))
-exact_element column.MYSQL_TYPE_NEWDECIMAL metadata unsigned partial = exact_with_bytes metadata decimal_cell exact_decimal_cell
-exact_element column.MYSQL_TYPE_TIMESTAMP2 metadata unsigned partial = exact_with_byte metadata timestamp2_cell exact_timestamp2_cell
-exact_element column.MYSQL_TYPE_DATETIME2 metadata unsigned partial = exact_with_byte metadata datetime2_cell exact_datetime2_cell
-exact_element column.MYSQL_TYPE_TIME2 metadata unsigned partial = exact_with_byte metadata time2_cell exact_time2_cell
-exact_element _ metadata unsigned partial = exact_fault Unhandled refl
+abbrev IsSoundForm : Result Form Fault → Type 0
+IsSoundForm (Ok f) = IsTrue true
+IsSoundForm (Err e) = IsOfBytes e
 
-exact_typed : (type : Result ColumnType Fault) (metadata : List ℕ) (unsigned partial : Bool) → IsExact (typed type metadata unsigned partial)
-exact_typed (Ok type) metadata unsigned partial = exact_element type metadata unsigned partial
-exact_typed (Err e) metadata unsigned partial = exact_fault Unhandled refl
+by_first : (metadata : List ℕ) (g : ℕ → Result Form Fault) → ((m0 : ℕ) → IsSoundForm (g m0)) → IsSoundForm (first_byte metadata >>= g)
+by_first [] g each = refl
+by_first (m0 ∷ more) g each = each m0
 
-pub exact_cell : (type : ColumnType) (metadata : List ℕ) (unsigned partial : Bool) → IsExact (cell type metadata unsigned partial)
+by_two : (metadata : List ℕ) (g : ℕ × ℕ → Result Form Fault) → ((m : ℕ × ℕ) → IsSoundForm (g m)) → IsSoundForm (first_two metadata >>= g)
+by_two [] g each = refl
+by_two (m0 ∷ []) g each = refl
+by_two (m0 ∷ m1 ∷ more) g each = each (m0, m1)
+
+by_width : (table : List (ℕ × Width)) (e : Fault) (n : ℕ) (g : Width → Form) → IsOfBytes e → IsSoundForm (from_table table (λ m. e) n >>= λ w. Ok (g w))
+by_width [] e n g of_bytes = of_bytes
+by_width (row ∷ rows) e n g of_bytes = elim (n == row.0) as (λ b. IsSoundForm (cond b (Ok row.1) (from_table rows (λ m. e) n) >>= λ w. Ok (g w))) [
+  | true ↦ refl
+  | false ↦ by_width rows e n g of_bytes
+]
+
+blob_sound : (m0 : ℕ) → IsSoundForm (blob_form m0)
+blob_sound m0 = by_width blob_widths UnknownBlob m0 form.Text refl
+
+two_sound : (type : ColumnType) (metadata : List ℕ) → IsSoundForm (two_form type metadata)
+two_sound column.MYSQL_TYPE_BIT metadata = by_two metadata _ (λ m. refl)
+two_sound column.MYSQL_TYPE_SET metadata = by_two metadata _ (λ m. refl)
+two_sound column.MYSQL_TYPE_ENUM metadata = by_two metadata _ (λ m. by_width variant_widths UnknownEnum m.1 form.Variant refl)
+two_sound column.MYSQL_TYPE_VARCHAR metadata = by_two metadata _ (λ m. refl)
+two_sound column.MYSQL_TYPE_VAR_STRING metadata = by_two metadata _ (λ m. refl)
+two_sound column.MYSQL_TYPE_STRING metadata = by_two metadata _ (λ m. refl)
+two_sound column.MYSQL_TYPE_NEWDECIMAL metadata = by_two metadata _ (λ m. refl)
+two_sound _ metadata = refl
+
+element_sound : (type : ColumnType) (metadata : List ℕ) (unsigned : Bool) → IsSoundForm (element_form type metadata unsigned)
+unfolding element_form
+element_sound column.MYSQL_TYPE_TINY_BLOB metadata unsigned = by_first metadata _ blob_sound
+element_sound column.MYSQL_TYPE_MEDIUM_BLOB metadata unsigned = by_first metadata _ blob_sound
+element_sound column.MYSQL_TYPE_LONG_BLOB metadata unsigned = by_first metadata _ blob_sound
+element_sound column.MYSQL_TYPE_BLOB metadata unsigned = by_first metadata _ blob_sound
+element_sound column.MYSQL_TYPE_GEOMETRY metadata unsigned = by_first metadata _ blob_sound
+element_sound column.MYSQL_TYPE_VECTOR metadata unsigned = by_first metadata _ blob_sound
+element_sound column.MYSQL_TYPE_TIMESTAMP2 metadata unsigned = by_first metadata _ (λ m0. refl)
+element_sound column.MYSQL_TYPE_DATETIME2 metadata unsigned = by_first metadata _ (λ m0. refl)
+element_sound column.MYSQL_TYPE_TIME2 metadata unsigned = by_first metadata _ (λ m0. refl)
+element_sound column.MYSQL_TYPE_TINY metadata unsigned = refl
+element_sound column.MYSQL_TYPE_SHORT metadata unsigned = refl
+element_sound column.MYSQL_TYPE_INT24 metadata unsigned = refl
+element_sound column.MYSQL_TYPE_LONG metadata unsigned = refl
+element_sound column.MYSQL_TYPE_LONGLONG metadata unsigned = refl
+element_sound column.MYSQL_TYPE_FLOAT metadata unsigned = refl
+element_sound column.MYSQL_TYPE_DOUBLE metadata unsigned = refl
+element_sound column.MYSQL_TYPE_TIMESTAMP metadata unsigned = refl
+element_sound column.MYSQL_TYPE_TIME metadata unsigned = refl
+element_sound column.MYSQL_TYPE_DATETIME metadata unsigned = refl
+element_sound column.MYSQL_TYPE_YEAR metadata unsigned = refl
+element_sound column.MYSQL_TYPE_NEWDATE metadata unsigned = refl
+element_sound type metadata unsigned = two_sound type metadata
+
+typed_sound : (type : Result ColumnType Fault) (metadata : List ℕ) (unsigned : Bool) → IsSoundForm (typed_form type metadata unsigned)
+typed_sound (Ok type) metadata unsigned = element_sound type metadata unsigned
+typed_sound (Err e) metadata unsigned = refl
+
+form_sound : (type : ColumnType) (metadata : List ℕ) (unsigned : Bool) → IsSoundForm (form_of type metadata unsigned)
+form_sound column.MYSQL_TYPE_TYPED_ARRAY metadata unsigned = by_first metadata _ (λ m0. typed_sound (column_type_of m0) metadata unsigned)
+form_sound type metadata unsigned = element_sound type metadata unsigned
+
+fault_sound : (r : Result Form Fault) (e : Fault) → IsSoundForm r → r ≡ Err e → IsOfBytes e
+fault_sound r e sound is = subst IsSoundForm is sound
+
+pub exact_cell : (type : ColumnType) (metadata : List ℕ) (unsigned : Bool) → IsExact (cell type metadata unsigned)
 unfolding cell
-exact_cell column.MYSQL_TYPE_TYPED_ARRAY metadata unsigned partial = exact_with_byte metadata (λ m0. typed (column_type_of m0) metadata unsigned partial) (λ m0. exact_typed (column_type_of m0) metadata unsigned partial)
-exact_cell type metadata unsigned partial = exact_element type metadata unsigned partial
+exact_cell type metadata unsigned =
+    exact_both _ _ (exact_checked (form_of type metadata unsigned) (λ e. fault_sound (form_of type metadata unsigned) e (form_sound type metadata unsigned))) exact_by

@@ -91,7 +91,7 @@ ends (Some e) = fault e
 
 -- NULL where the null bit is set, else the cell
 unfoldable pub nullable_cell : Bool → Slot → Format Cell
-nullable_cell is_null s = choice is_null (done (PlainCell Null)) (cell s.column_type s.metadata false false)
+nullable_cell is_null s = choice is_null (done (PlainCell Null)) (cell s.column_type s.metadata false)
 
 -- A value for each column in the image, in order; nulls has one bit for each of them that is still to come.
 unfoldable pub cells : List Slot → Option Fault → List Bool → Format (List (Option Cell))

@@ -38,7 +38,7 @@ exact_ends (Some e) sound = exact_fault e sound
 
 exact_nullable_cell : (is_null : Bool) (s : Slot) → IsExact (nullable_cell is_null s)
 unfolding nullable_cell
-exact_nullable_cell is_null s = exact_choice is_null _ _ (exact_done _) (exact_cell s.column_type s.metadata false false)
+exact_nullable_cell is_null s = exact_choice is_null _ _ (exact_done _) (exact_cell s.column_type s.metadata false)
 
 exact_cells : (slots : List Slot) (end : Option Fault) (nulls : List Bool) → EndsSoundly end → IsExact (cells slots end nulls)
 unfolding cells

@@ -180,5 +180,5 @@ fn read_nullable_cell(
     if is_null {
         return Ok(BinlogValue::Value(Value::NULL));
     }
-    read_cell(alloc, slot.column_type, slot.metadata, false, false, buf)
+    read_cell(alloc, slot.column_type, slot.metadata, false, buf)
 }

@@ -1,10 +1,11 @@
 //! Cells of numbers.
 
-ghost use Rattle.std.specs.Prelude.{◌≡◌, ◌≤◌, true, false};
+ghost use Rattle.std.specs.Prelude.{◌≡◌, false};
 ghost use Rattle.binlog_base.specs.Format.{Parses};
-ghost use Rattle.mysql_binlog_rows.specs.Cells.{cell_of, integer, long_integer, float_bits, double_bits, variant_cell, enum_cell, with_bytes};
+ghost use Rattle.mysql_binlog_rows.specs.Cells.{cell_of, integer, long_integer, float_bits, double_bits, variant_cell, bytes_in};
 
 use super::BinlogValue;
+use super::form::Width;
 use binlog_base::below::{IntRepr, LeI64, LeU32, LeU64, ParseBuf, Value, read_number};
 use binlog_base::fault::Fault;
 use byteorder::LittleEndian;
@@ -12,14 +13,13 @@ use byteorder::LittleEndian;
 // TINY, SHORT, INT24, LONG.
 #[tactic(auto, using(binlog_base::specs::Fixed::few), unfolding(crate::specs::Cells::integer))]
 pub(super) fn read_integer(
-    width: usize,
+    width: Width,
     unsigned: bool,
     buf: &mut ParseBuf<'_>,
 ) -> Result<BinlogValue, Fault>
-    requires some { 1 ≤ width }
-    requires most { width ≤ 4 }
-    ensures { Parses false cell_of result buf.new.0.now (integer width unsigned) buf.old.0.now }
+    ensures { Parses false cell_of result buf.new.0.now (integer (bytes_in width) unsigned) buf.old.0.now }
 {
+    let width = width.bytes();
     let number = if unsigned {
         i64::from(read_number::<LittleEndian, u32>(width, buf)?)
     } else {
@@ -62,24 +62,11 @@ pub(super) fn read_double(buf: &mut ParseBuf<'_>) -> Result<BinlogValue, Fault>
     Ok(BinlogValue::Value(Value::Double(bits)))
 }
 
-// ENUM.
-pub(super) fn read_enum(metadata: &[u8], buf: &mut ParseBuf<'_>) -> Result<BinlogValue, Fault>
-    ensures { Parses false cell_of result buf.new.0.now (with_bytes metadata.now enum_cell) buf.old.0.now }
+// The number of a variant.
+#[tactic(auto, using(binlog_base::specs::Fixed::few), unfolding(crate::specs::Cells::variant_cell))]
+pub(super) fn read_variant(width: Width, buf: &mut ParseBuf<'_>) -> Result<BinlogValue, Fault>
+    ensures { Parses false cell_of result buf.new.0.now (variant_cell (bytes_in width)) buf.old.0.now }
 {
-    let [_, m1, ..] = metadata else {
-        return Err(Fault::MissingMetadata);
-    };
-    read_enum_of(*m1, buf)
-}
-
-// The same, by its width.
-#[tactic(auto, unfolding(crate::specs::Cells::variant_cell))]
-fn read_enum_of(width: u8, buf: &mut ParseBuf<'_>) -> Result<BinlogValue, Fault>
-    ensures { Parses false cell_of result buf.new.0.now (variant_cell width) buf.old.0.now }
-{
-    if width < 1 || width > 2 {
-        return Err(Fault::UnknownEnum);
-    }
-    let number = read_number::<LittleEndian, u32>(usize::from(width), buf)?;
+    let number = read_number::<LittleEndian, u32>(width.bytes(), buf)?;
     Ok(BinlogValue::Value(Value::Int(i64::from(number))))
 }

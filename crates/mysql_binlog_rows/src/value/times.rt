@@ -5,7 +5,7 @@ ghost use Rattle.std.specs.Option.{option_map};
 ghost use Rattle.binlog_base.specs.Format.{Parses};
 ghost use Rattle.binlog_base.specs.Values.{plain_of};
 ghost use Rattle.mysql_binlog_rows.specs.OldTimes.{digits_of_time, negative_time};
-ghost use Rattle.mysql_binlog_rows.specs.Cells.{Cell, cell_of, timestamp_cell, time_of_digits, time_cell, date_of_digits, datetime_cell, year_text, year_cell, date_of_bits, date_cell, bytes_cell, six_places, timestamp_text, timestamp2_cell, datetime2_cell, time2_cell, with_byte};
+ghost use Rattle.mysql_binlog_rows.specs.Cells.{Cell, cell_of, timestamp_cell, time_of_digits, time_cell, date_of_digits, datetime_cell, year_text, year_cell, date_of_bits, date_cell, bytes_cell, six_places, timestamp_text, timestamp2_cell, datetime2_cell, time2_cell};
 
 use super::BinlogValue;
 use binlog_base::below::{ColumnType, IntRepr, LeU24, LeU32, LeU64, ParseBuf, U8, Value};
@@ -199,7 +199,7 @@ fn timestamp_of(alloc: Global, seconds: i32, microseconds: i32) -> Result<Binlog
 
 // TIMESTAMP2, by its decimals.
 #[tactic(auto, unfolding(crate::specs::Cells::timestamp2_cell))]
-fn read_timestamp2_of(
+pub(super) fn read_timestamp2(
     alloc: Global,
     decimals: u8,
     buf: &mut ParseBuf<'_>,
@@ -210,54 +210,20 @@ fn read_timestamp2_of(
     Ok(timestamp_of(alloc, seconds, microseconds)?)
 }
 
-// TIMESTAMP2.
-pub(super) fn read_timestamp2(
-    alloc: Global,
-    metadata: &[u8],
-    buf: &mut ParseBuf<'_>,
-) -> Result<BinlogValue, Fault>
-    ensures { Parses true cell_of result buf.new.0.now (with_byte metadata.now timestamp2_cell) buf.old.0.now }
-{
-    let [m0, ..] = metadata else {
-        return Err(Fault::MissingMetadata);
-    };
-    read_timestamp2_of(alloc, *m0, buf)
-}
-
 // DATETIME2, by its decimals.
 #[tactic(auto, unfolding(crate::specs::Cells::datetime2_cell))]
-fn read_datetime2_of(decimals: u8, buf: &mut ParseBuf<'_>) -> Result<BinlogValue, Fault>
+pub(super) fn read_datetime2(decimals: u8, buf: &mut ParseBuf<'_>) -> Result<BinlogValue, Fault>
     ensures { Parses false cell_of result buf.new.0.now (datetime2_cell decimals) buf.old.0.now }
 {
     let packed = my_datetime_packed_from_binary(buf, u32::from(decimals))?;
     Ok(BinlogValue::Value(datetime_from_packed(packed)))
 }
 
-// DATETIME2.
-pub(super) fn read_datetime2(metadata: &[u8], buf: &mut ParseBuf<'_>) -> Result<BinlogValue, Fault>
-    ensures { Parses false cell_of result buf.new.0.now (with_byte metadata.now datetime2_cell) buf.old.0.now }
-{
-    let [m0, ..] = metadata else {
-        return Err(Fault::MissingMetadata);
-    };
-    read_datetime2_of(*m0, buf)
-}
-
 // TIME2, by its decimals.
 #[tactic(auto, unfolding(crate::specs::Cells::time2_cell))]
-fn read_time2_of(decimals: u8, buf: &mut ParseBuf<'_>) -> Result<BinlogValue, Fault>
+pub(super) fn read_time2(decimals: u8, buf: &mut ParseBuf<'_>) -> Result<BinlogValue, Fault>
     ensures { Parses false cell_of result buf.new.0.now (time2_cell decimals) buf.old.0.now }
 {
     let packed = my_time_packed_from_binary(buf, u32::from(decimals))?;
     Ok(BinlogValue::Value(time_from_packed(packed)))
-}
-
-// TIME2.
-pub(super) fn read_time2(metadata: &[u8], buf: &mut ParseBuf<'_>) -> Result<BinlogValue, Fault>
-    ensures { Parses false cell_of result buf.new.0.now (with_byte metadata.now time2_cell) buf.old.0.now }
-{
-    let [m0, ..] = metadata else {
-        return Err(Fault::MissingMetadata);
-    };
-    read_time2_of(*m0, buf)
 }

@@ -1,0 +1,219 @@
+//! How the cells of a column are read, by its type and metadata.
+
+ghost use Rattle.std.specs.Prelude.{◌≡◌, ◌≤◌};
+ghost use Rattle.mysql_binlog_rows.specs.Cells.{bytes_in, first_byte, first_two, length_width, varchar_length, string_length, bit_bytes, blob_form, variant_form, two_form, element_form, array_form, form_of};
+
+use binlog_base::below::{ColumnType, Constant};
+use binlog_base::fault::Fault;
+
+/// One to four bytes.
+#[derive(Clone, Copy)]
+pub(crate) enum Width {
+    One,
+    Two,
+    Three,
+    Four,
+}
+
+impl Width {
+    /// The count of the bytes.
+    pub fn bytes(self) -> usize
+        ensures value { result ≡ bytes_in self }
+        ensures some { 1 ≤ result }
+        ensures most { result ≤ 4 }
+    {
+        match self {
+            Width::One => 1,
+            Width::Two => 2,
+            Width::Three => 3,
+            Width::Four => 4,
+        }
+    }
+}
+
+/// How a cell is read.
+#[derive(Clone, Copy)]
+pub(crate) enum Form {
+    /// A number of so many bytes, and whether it is unsigned.
+    Integer(Width, bool),
+    /// A number of eight bytes, and whether it is unsigned.
+    LongInteger(bool),
+    Float,
+    Double,
+    Timestamp,
+    Time,
+    Datetime,
+    Year,
+    Date,
+    /// A time with a fraction, of so many decimals.
+    Timestamp2(u8),
+    Datetime2(u8),
+    Time2(u8),
+    /// A decimal of a precision and a scale.
+    Decimal(u8, u8),
+    /// So many bytes.
+    Fixed(usize),
+    /// Bytes after their length, which has so many bytes.
+    Text(Width),
+    /// The number of a variant, in so many bytes.
+    Variant(Width),
+}
+
+// The first byte of the metadata.
+fn first_byte(metadata: &[u8]) -> Result<u8, Fault>
+    ensures { result ≡ first_byte metadata.now }
+{
+    match metadata {
+        [m0, ..] => Ok(*m0),
+        _ => Err(Fault::MissingMetadata),
+    }
+}
+
+// The first two bytes of the metadata.
+fn first_two(metadata: &[u8]) -> Result<(u8, u8), Fault>
+    ensures { result ≡ first_two metadata.now }
+{
+    match metadata {
+        [m0, m1, ..] => Ok((*m0, *m1)),
+        _ => Err(Fault::MissingMetadata),
+    }
+}
+
+// The width of the length of cells whose greatest length this is.
+fn length_width(most: u32) -> Width
+    ensures { result ≡ length_width most }
+{
+    if most < 256 { Width::One } else { Width::Two }
+}
+
+// The greatest length of a VARCHAR or VAR_STRING cell.
+fn varchar_length(m0: u8, m1: u8) -> u32
+    ensures { result ≡ varchar_length m0 m1 }
+{
+    u32::from(m0) + 256 * u32::from(m1)
+}
+
+// The greatest length of a STRING cell.
+fn string_length(m0: u8, m1: u8) -> u32
+    ensures { result ≡ string_length m0 m1 }
+{
+    if m0 == 0 {
+        u32::from(m1) * 256
+    } else {
+        let inverse = 3 - u32::from(m0) / 16 % 4;
+        inverse * 256 + u32::from(m1)
+    }
+}
+
+// The bytes of a BIT cell.
+fn bit_bytes(m0: u8, m1: u8) -> usize
+    ensures { result ≡ bit_bytes m0 m1 }
+{
+    (usize::from(m1) * 8 + usize::from(m0) + 7) / 8
+}
+
+// BLOBs, GEOMETRY and VECTOR, by the width of the length.
+fn blob_form(width: u8) -> Result<Form, Fault>
+    ensures { result ≡ blob_form width }
+{
+    match width {
+        1 => Ok(Form::Text(Width::One)),
+        2 => Ok(Form::Text(Width::Two)),
+        3 => Ok(Form::Text(Width::Three)),
+        4 => Ok(Form::Text(Width::Four)),
+        _ => Err(Fault::UnknownBlob),
+    }
+}
+
+// ENUM, by the width of the number.
+fn variant_form(width: u8) -> Result<Form, Fault>
+    ensures { result ≡ variant_form width }
+{
+    match width {
+        1 => Ok(Form::Variant(Width::One)),
+        2 => Ok(Form::Variant(Width::Two)),
+        _ => Err(Fault::UnknownEnum),
+    }
+}
+
+// How the cells of a column are read that is no array.
+#[tactic(auto, unfolding(crate::specs::Cells::element_form))]
+fn element_form(column_type: ColumnType, metadata: &[u8], unsigned: bool) -> Result<Form, Fault>
+    ensures { result ≡ element_form column_type metadata.now unsigned }
+{
+    match column_type {
+        ColumnType::MYSQL_TYPE_TINY => Ok(Form::Integer(Width::One, unsigned)),
+        ColumnType::MYSQL_TYPE_SHORT => Ok(Form::Integer(Width::Two, unsigned)),
+        ColumnType::MYSQL_TYPE_INT24 => Ok(Form::Integer(Width::Three, unsigned)),
+        ColumnType::MYSQL_TYPE_LONG => Ok(Form::Integer(Width::Four, unsigned)),
+        ColumnType::MYSQL_TYPE_LONGLONG => Ok(Form::LongInteger(unsigned)),
+        ColumnType::MYSQL_TYPE_FLOAT => Ok(Form::Float),
+        ColumnType::MYSQL_TYPE_DOUBLE => Ok(Form::Double),
+        ColumnType::MYSQL_TYPE_TIMESTAMP => Ok(Form::Timestamp),
+        ColumnType::MYSQL_TYPE_TIME => Ok(Form::Time),
+        ColumnType::MYSQL_TYPE_DATETIME => Ok(Form::Datetime),
+        ColumnType::MYSQL_TYPE_YEAR => Ok(Form::Year),
+        ColumnType::MYSQL_TYPE_NEWDATE => Ok(Form::Date),
+        ColumnType::MYSQL_TYPE_TINY_BLOB
+        | ColumnType::MYSQL_TYPE_MEDIUM_BLOB
+        | ColumnType::MYSQL_TYPE_LONG_BLOB
+        | ColumnType::MYSQL_TYPE_BLOB
+        | ColumnType::MYSQL_TYPE_GEOMETRY
+        | ColumnType::MYSQL_TYPE_VECTOR => blob_form(first_byte(metadata)?),
+        ColumnType::MYSQL_TYPE_TIMESTAMP2 => Ok(Form::Timestamp2(first_byte(metadata)?)),
+        ColumnType::MYSQL_TYPE_DATETIME2 => Ok(Form::Datetime2(first_byte(metadata)?)),
+        ColumnType::MYSQL_TYPE_TIME2 => Ok(Form::Time2(first_byte(metadata)?)),
+        _ => two_form(column_type, metadata),
+    }
+}
+
+// How the cells of a type are read that reads two bytes of metadata.
+fn two_form(column_type: ColumnType, metadata: &[u8]) -> Result<Form, Fault>
+    ensures { result ≡ two_form column_type metadata.now }
+{
+    match column_type {
+        ColumnType::MYSQL_TYPE_BIT => {
+            let (m0, m1) = first_two(metadata)?;
+            Ok(Form::Fixed(bit_bytes(m0, m1)))
+        }
+        ColumnType::MYSQL_TYPE_SET => Ok(Form::Fixed(usize::from(first_two(metadata)?.1))),
+        ColumnType::MYSQL_TYPE_ENUM => variant_form(first_two(metadata)?.1),
+        ColumnType::MYSQL_TYPE_VARCHAR | ColumnType::MYSQL_TYPE_VAR_STRING => {
+            let (m0, m1) = first_two(metadata)?;
+            Ok(Form::Text(length_width(varchar_length(m0, m1))))
+        }
+        ColumnType::MYSQL_TYPE_STRING => {
+            let (m0, m1) = first_two(metadata)?;
+            Ok(Form::Text(length_width(string_length(m0, m1))))
+        }
+        ColumnType::MYSQL_TYPE_NEWDECIMAL => {
+            let (precision, scale) = first_two(metadata)?;
+            Ok(Form::Decimal(precision, scale))
+        }
+        _ => Err(Fault::Unhandled),
+    }
+}
+
+// How the cells of an array are read: as those of the type that the metadata names, with all of the metadata.
+fn typed_form(metadata: &[u8], unsigned: bool) -> Result<Form, Fault>
+    ensures { result ≡ array_form metadata.now unsigned }
+{
+    match ColumnType::from_number(first_byte(metadata)?) {
+        Ok(inner) => element_form(inner, metadata, unsigned),
+        Err(_) => Err(Fault::Unhandled),
+    }
+}
+
+/// How the cells of a column of this type and metadata are read, unsigned or not.
+pub(crate) fn form_of(
+    column_type: ColumnType,
+    metadata: &[u8],
+    unsigned: bool,
+) -> Result<Form, Fault>
+    ensures { result ≡ form_of column_type metadata.now unsigned }
+{
+    match column_type {
+        ColumnType::MYSQL_TYPE_TYPED_ARRAY => typed_form(metadata, unsigned),
+        _ => element_form(column_type, metadata, unsigned),
+    }
+}

@@ -1,7 +1,6 @@
 -- Formats are unambiguous, to the end or not.
 use Rattle.std.proofs.Common.{◌≡◌, ℕ, Bool, true, false, List, [], ◌++◌, sym, ap, ◌∙◌}
 use Rattle.binlog_base.specs.Format.{Format, Exact}
-use Rattle.binlog_base.specs.declared.fault.Fault.{Fault}
 use Rattle.binlog_base.specs.Exact.{one_spelling, ok_is, err_is, ok_or_err}
 use Rattle.binlog_base.specs.Laws.{SpellsOneValue, RefusesWholesForOneReason}
 

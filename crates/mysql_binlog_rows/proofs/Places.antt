@@ -1,5 +1,5 @@
 -- What a hole of width 6 with zeros writes.
-use Rattle.std.proofs.Common.{◌≡◌, ap, append-nil, ◌++◌, ◌∙◌, List, ℕ, ◌^◌, ◌-◌, length, replicate, Bool, true, false, arith}
+use Rattle.std.proofs.Common.{◌≡◌, append-nil, ◌++◌, ℕ, ◌^◌, ◌-◌, length, replicate, Bool, true, false, arith}
 use Rattle.std.specs.Prelude.{ℤ, ◌∷◌, [], unsigned_abs}
 use Rattle.std.specs.Int.{is_negative}
 use Rattle.std.specs.Fmt.{styled_signed_decimal, format_spec, padded_integral, char_count, decimal, sign_text}

@@ -1,5 +1,5 @@
 -- The bytes of a cell, by the column's type and metadata.
-use Rattle.std.specs.Prelude.{ℕ, ◌+◌, ◌-◌, ◌*◌, ◌/◌, ◌%◌, ◌==◌, pos, Bool, false, List, [], ◌∷◌, nat_lt, ◌&&◌, if◌then◌else◌, Result, Ok, Err}
+use Rattle.std.specs.Prelude.{ℕ, ◌+◌, ◌-◌, ◌*◌, ◌/◌, ◌%◌, ◌==◌, pos, Bool, false, List, [], ◌∷◌, nat_lt, if◌then◌else◌, Result, Ok, Err}
 use Rattle.std.specs.Prelude.{ℤ, ◌++◌, length, replicate, codes, unsigned_abs}
 use Rattle.std.specs.Int.{is_negative}
 use Rattle.std.specs.Ordering.{int_eq}

@@ -7,7 +7,7 @@ use Rattle.binlog_base.specs.declared.below.column_type.ColumnType.TheVariants a
 use Rattle.binlog_base.specs.declared.fault.Fault.TheVariants.{UnknownBlob, UnknownEnum, YearRange}
 use Rattle.binlog_base.specs.Faults.{IsOfBytes}
 use Rattle.binlog_base.specs.Tables.{from_table}
-use Rattle.binlog_base.specs.Format.{Format, IsExact, ◌>>=◌, bytes}
+use Rattle.binlog_base.specs.Format.{IsExact, ◌>>=◌, bytes}
 use Rattle.binlog_base.specs.Exact.{exact_bytes, exact_done, exact_fault, exact_checked, exact_both, exact_as, exact_choice}
 use Rattle.binlog_base.specs.Numbers.{little, signed_little}
 use Rattle.binlog_base.specs.NumbersExact.{exact_little, exact_signed_little}
@@ -19,7 +19,7 @@ use Rattle.binlog_values.specs.PackedDecimalsExact.{exact_packed_decimal}
 use Rattle.mysql_binlog_rows.specs.declared.value.form.Width.{Width}
 use Rattle.mysql_binlog_rows.specs.declared.value.form.Form.{Form}
 use Rattle.mysql_binlog_rows.specs.declared.value.form.Form.TheVariants as form
-use Rattle.mysql_binlog_rows.specs.Cells.{Cell, integer, long_integer, float_bits, double_bits, timestamp_cell, time_cell, date_of_number, datetime_cell, year_cell, date_cell, timestamp2_cell, datetime2_cell, time2_cell, decimal_cell, fixed_bytes, text, text_cell, variant_cell, bytes_in, cell_by, first_byte, first_two, blob_widths, blob_form, variant_widths, two_form, element_form, typed_form, form_of, cell}
+use Rattle.mysql_binlog_rows.specs.Cells.{integer, long_integer, float_bits, double_bits, timestamp_cell, time_cell, date_of_number, datetime_cell, year_cell, date_cell, timestamp2_cell, datetime2_cell, time2_cell, decimal_cell, fixed_bytes, text, text_cell, variant_cell, bytes_in, cell_by, first_byte, first_two, blob_widths, blob_form, variant_widths, two_form, element_form, typed_form, form_of, cell}
 
 exact_integer : (w : ℕ) (unsigned : Bool) → IsExact (integer w unsigned)
 unfolding integer

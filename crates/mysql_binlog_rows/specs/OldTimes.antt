@@ -1,5 +1,5 @@
 -- The sign of a TIME of the format before fractional seconds.
-use Rattle.std.specs.Prelude.{ℕ, zero, ℤ, ◌≡◌, ◌<◌, ◌+◌, ◌*◌, ◌^◌, true, false, if◌then◌else◌, Option, Some, None, unsigned_abs}
+use Rattle.std.specs.Prelude.{ℕ, zero, ℤ, ◌≡◌, ◌<◌, ◌+◌, ◌*◌, ◌^◌, false, if◌then◌else◌, Option, Some, None, unsigned_abs}
 use Rattle.std.specs.Option.{unwrap_or}
 use Rattle.std.specs.Int.{is_negative}
 use Rattle.binlog_base.specs.declared.below.column_type.ColumnType.{ColumnType}

@@ -19,7 +19,7 @@ ghost use Rattle.std.specs.Cmp.{on_per, partial_equiv_from_equiv};
 
 use self::bytes::{read_fixed, read_text};
 use self::decimals::read_decimal;
-use self::form::{Form, form_of};
+pub(crate) use self::form::{Form, form_of};
 use self::numbers::{read_double, read_float, read_integer, read_long_integer, read_variant};
 pub use self::times::negative_time;
 use self::times::{
@@ -69,9 +69,13 @@ pub enum BinlogValueToValueError {
     JsonDiff,
 }
 
-// Reads a cell in this way.
+/// Reads a cell in this way.
 #[tactic(auto, unfolding(crate::specs::Cells::cell_by))]
-fn read_by(alloc: Global, form: Form, buf: &mut ParseBuf<'_>) -> Result<BinlogValue, Fault>
+pub(crate) fn read_by(
+    alloc: Global,
+    form: Form,
+    buf: &mut ParseBuf<'_>,
+) -> Result<BinlogValue, Fault>
     ensures { Parses true cell_of result buf.new.0.now (cell_by form) buf.old.0.now }
 {
     match form {
@@ -94,9 +98,9 @@ fn read_by(alloc: Global, form: Form, buf: &mut ParseBuf<'_>) -> Result<BinlogVa
     }
 }
 
-/// Reads the cell of a column of this type and metadata, unsigned or not.
+// Reads the cell of a column of this type and metadata, unsigned or not.
 #[tactic(auto, unfolding(crate::specs::Cells::cell))]
-pub(crate) fn read_cell(
+fn read_cell(
     alloc: Global,
     column_type: ColumnType,
     metadata: &[u8],

@@ -52,7 +52,7 @@ pub fn run<O: Write, E: Write>(alloc: Global, words: &[String], out: &mut O, err
 }
 
 /// Writes the line of a fault and answers the status that goes with it, 1, whether or not the line was written.
-pub fn fail<O: Write>(out: &mut O, fault: Fault) -> u8
+pub(crate) fn fail<O: Write>(out: &mut O, fault: Fault) -> u8
     ensures { result ≡ 1 }
 {
     let _ = print_fault(out, fault);

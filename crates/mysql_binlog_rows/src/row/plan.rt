@@ -8,7 +8,7 @@ ghost use Rattle.mysql_binlog_rows.specs.Cells.{cell_of};
 ghost use Rattle.mysql_binlog_rows.specs.Images.{image, image_of, slot_at, typed_slot, column_of, nullable_cell, cells};
 
 use super::binlog_row::BinlogRow;
-use crate::value::{BinlogValue, read_cell};
+use crate::value::{BinlogValue, Form, form_of, read_by};
 use binlog_base::below::{Column, ColumnType, MyDeserialize, ParseBuf, Value};
 use binlog_base::bits::{BitOrder, BitView};
 use binlog_base::fault::Fault;
@@ -17,21 +17,26 @@ use std::alloc::Global;
 use std::marker::Model;
 use std::rc::RcSlice;
 
-/// A column of the event that has a type.
+/// A column of the event that has a type. How its cells are read is made once.
 #[derive(Drop)]
 struct Slot<'a> {
     column_type: ColumnType,
     metadata: &'a [u8],
+    form: Result<Form, Fault>,
     present: bool,
     index: usize,
 }
 
 impl<'a> Model for Slot<'a> {
+    ghost use Rattle.std.specs.Prelude.{◌≡◌, false};
+    ghost use Rattle.mysql_binlog_rows.specs.Cells.{form_of};
     ghost use Rattle.mysql_binlog_rows.specs.Images as Spec;
 
     ghost Value = { Spec.Slot };
 
     ghost view = { λ s. record { column_type = s.column_type; metadata = s.metadata.now; present = s.present; index = s.index } };
+
+    ghost invariant = { λ s. s.form ≡ form_of s.column_type s.metadata.now false };
 }
 
 /// What the images of one bitmap are read by, made once for an event.
@@ -64,12 +69,16 @@ fn slot_of<'a>(
 {
     match table.real_column_type(index, metadata)? {
         None => Err(Fault::NoColumnType),
-        Some(column_type) => Ok(Slot {
-            column_type,
-            metadata: metadata.unwrap_or(&[]),
-            present,
-            index,
-        }),
+        Some(column_type) => {
+            let metadata = metadata.unwrap_or(&[]);
+            Ok(Slot {
+                column_type,
+                metadata,
+                form: form_of(column_type, metadata, false),
+                present,
+                index,
+            })
+        }
     }
 }
 
@@ -168,7 +177,7 @@ fn is_set(bits: &BitView<'_>, place: usize) -> bool
 }
 
 // NULL where the null bit is set, else the cell.
-#[tactic(auto, unfolding(crate::specs::Images::nullable_cell))]
+#[tactic(auto, unfolding(crate::specs::Images::nullable_cell, crate::specs::Cells::cell))]
 fn read_nullable_cell(
     alloc: Global,
     slot: &Slot<'_>,
@@ -180,5 +189,5 @@ fn read_nullable_cell(
     if is_null {
         return Ok(BinlogValue::Value(Value::NULL));
     }
-    read_cell(alloc, slot.column_type, slot.metadata, false, buf)
+    read_by(alloc, slot.form?, buf)
 }

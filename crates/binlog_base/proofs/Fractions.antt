@@ -1,11 +1,11 @@
--- How large fractions of packed times are, and what is computed of them.
+-- How large the fractions of packed times are, and what is computed from them.
 use Rattle.std.specs.Int.{w32}
 use Rattle.std.proofs.lemmas.Bool.{lt-ltb}
 use Rattle.std.proofs.lemmas.Int.{ints}
 use Rattle.std.proofs.Common.{SFits, ◌≡◌, ℕ, zero, suc, ◌+◌, ◌*◌, ◌<◌, ◌≤◌, ◌^◌, refl, arith}
 use Rattle.std.specs.Prelude.{ℤ, pos, negsuc, ◌-ℤ◌, unsigned_abs}
-use Rattle.binlog_base.specs.TwosComplement.{IsSigned}
-use Rattle.binlog_base.specs.PackedTimes.{packed, fraction_unit, time2_sum}
+use Rattle.binlog_base.specs.Coding.{IsSigned}
+use Rattle.binlog_base.specs.PackedTimes.{packed_time, fraction_unit, time2_sum}
 
 -- ---- how large a fraction is
 
@@ -34,11 +34,11 @@ signed_small (suc (suc (suc (suc w)))) z h low = absurd (omega arith)
 
 -- ---- what the functions compute
 
--- below zero, and with a fraction
-pub time2_sum_below : (w whole part : ℕ) → whole < 2 ^ 23 → 0 < part → time2_sum w whole part ≡ packed (pos (whole + 1) -ℤ pos (2 ^ 23)) (pos (part * fraction_unit w) -ℤ pos (256 ^ w * fraction_unit w))
+-- a negative time with a fraction
+pub time2_sum_below : (w whole part : ℕ) → whole < 2 ^ 23 → 0 < part → time2_sum w whole part ≡ packed_time (pos (whole + 1) -ℤ pos (2 ^ 23)) (pos (part * fraction_unit w) -ℤ pos (256 ^ w * fraction_unit w))
 time2_sum_below w whole part low some = rw (lt-ltb whole (2 ^ 23) low, lt-ltb 0 part some) refl
 
--- seconds of four bytes fit 32 bits
+-- a signed number of four bytes fits 32 bits
 pub signed_four_fits : (z : ℤ) → IsSigned 4 z → SFits w32 z
 signed_four_fits (pos n) h = omega (arith, ints, h)
 signed_four_fits (negsuc n) h = omega (arith, ints, h)

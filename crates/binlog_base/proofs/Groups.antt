@@ -1,9 +1,9 @@
--- Groups of seven bits.
+-- Numbers in groups of seven bits.
 use Rattle.std.proofs.Common.{◌≡◌, ℕ, zero, suc, ◌+◌, ◌-◌, ◌*◌, ◌/◌, ◌%◌, ◌^◌, ◌<◌, ◌≤◌, List, [], ◌∷◌, Ok, Err, refl, sym, ap, subst, ◌∙◌, arith}
 use Rattle.std.proofs.lemmas.Bool.{le-ltb, lt-ltb}
 use Rattle.std.proofs.Math.Nat.{pow-suc, one-le-pow, pow-le-pow_right}
 use Rattle.binlog_base.specs.declared.fault.Fault.{Fault}
-use Rattle.binlog_base.specs.Numbers.{little, groups, groups_bytes}
+use Rattle.binlog_base.specs.Numbers.{little_endian, groups, groups_bytes}
 
 pub group_fits : (k low high : ℕ) → 0 < k → low < 128 → high < 128 ^ (k - 1) → low + 128 * high < 128 ^ k
 group_fits zero low high h p q = absurd (omega arith)
@@ -16,17 +16,17 @@ one_group_fits (suc k) low h p = let e = pow-suc 128 k in let o = one-le-pow k 1
 pub eight_groups : (k n : ℕ) → k ≤ 9 → n < 128 ^ (k - 1) → n < 2 ^ 56
 eight_groups k n h p = let less : k - 1 ≤ 8 = omega arith in let e : 128 ^ (k - 1) ≤ 128 ^ 8 = pow-le-pow_right (omega arith) less in omega (arith, e, p)
 
--- a byte that says that one more comes
-pub more_groups : (k b : ℕ) (bytes left : List ℕ) (e : Fault) → 0 < k → (little 1).at bytes ≡ Ok (b, left) → 128 ≤ b → (groups (k - 1)).at left ≡ Err e → (groups k).at bytes ≡ Err e
+-- a fault after a byte that says that another byte follows
+pub more_groups : (k b : ℕ) (bytes left : List ℕ) (e : Fault) → 0 < k → (little_endian 1).parse bytes ≡ Ok (b, left) → 128 ≤ b → (groups (k - 1)).parse left ≡ Err e → (groups k).parse bytes ≡ Err e
 unfolding groups
 more_groups zero b bytes left e h first t r = absurd (omega arith)
 more_groups (suc k) b bytes left e h first t r =
     let one : suc k - 1 ≡ k = omega arith in
-    let same : (groups k).at left ≡ Err e = ap (λ j. (groups j).at left) (sym one) ∙ r in
+    let same : (groups k).parse left ≡ Err e = ap (λ j. (groups j).parse left) (sym one) ∙ r in
     let f = le-ltb b 128 t in
     rw (first, f, same) refl
 
--- what is written: the last group, or one and the others
+-- what is written: the last group, or one group and then the others
 pub last_group : (k n : ℕ) → 0 < k → n < 128 → groups_bytes k n ≡ n ∷ []
 unfolding groups_bytes
 last_group zero n some h = absurd (omega arith)

@@ -1,9 +1,10 @@
+-- Proofs that several functions of this crate share.
 pub mod Appending
 pub mod Groups
 pub mod Lossy
 pub mod BitLists
 pub mod Ambiguity
-pub mod Telling
+pub mod Sequences
 pub mod Fractions
 pub mod Known
 pub mod Filled

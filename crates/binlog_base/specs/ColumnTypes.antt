@@ -1,14 +1,13 @@
--- The numbers of column types and geometry types, and the groups of column types.
-use Rattle.std.specs.Prelude.{◌≡◌, ℕ, Bool, true, false, List, [], ◌∷◌, Result, Err}
-use Rattle.std.proofs.Common.{refl, sym, subst}
+-- The numbers of MySQL's column types and geometry types, and the groups of column types.
+use Rattle.std.specs.Prelude.{◌≡◌, ℕ, Bool, true, false, List, [], ◌∷◌, Result, Ok}
+use Rattle.std.proofs.Common.{rules}
 use Rattle.binlog_base.specs.declared.fault.Fault.{Fault}
 use Rattle.binlog_base.specs.declared.fault.Fault.TheVariants as fault
-use Rattle.binlog_base.specs.Faults.{IsOfBytes}
-use Rattle.binlog_base.specs.Tables.{from_table, table_refuses}
-use Rattle.binlog_base.specs.declared.below.geometry.GeometryType.{GeometryType}
-use Rattle.binlog_base.specs.declared.below.geometry.GeometryType.TheVariants as geometry
-use Rattle.binlog_base.specs.declared.below.column_type.ColumnType.{ColumnType}
-use Rattle.binlog_base.specs.declared.below.column_type.ColumnType.TheVariants as column
+use Rattle.binlog_base.specs.Tables.{from_table}
+use Rattle.binlog_base.specs.declared.below.columns.geometry.GeometryType.{GeometryType}
+use Rattle.binlog_base.specs.declared.below.columns.geometry.GeometryType.TheVariants as geometry
+use Rattle.binlog_base.specs.declared.below.columns.column_type.ColumnType.{ColumnType}
+use Rattle.binlog_base.specs.declared.below.columns.column_type.ColumnType.TheVariants as column
 
 abbrev pub column_types : List (ℕ × ColumnType)
 column_types =
@@ -60,6 +59,54 @@ geometry_types =
     ∷ (7, geometry.GEOM_GEOMETRYCOLLECTION)
     ∷ []
 
+-- ---- the number of a type
+
+abbrev pub column_number : ColumnType → ℕ
+column_number column.MYSQL_TYPE_DECIMAL = 0
+column_number column.MYSQL_TYPE_TINY = 1
+column_number column.MYSQL_TYPE_SHORT = 2
+column_number column.MYSQL_TYPE_LONG = 3
+column_number column.MYSQL_TYPE_FLOAT = 4
+column_number column.MYSQL_TYPE_DOUBLE = 5
+column_number column.MYSQL_TYPE_NULL = 6
+column_number column.MYSQL_TYPE_TIMESTAMP = 7
+column_number column.MYSQL_TYPE_LONGLONG = 8
+column_number column.MYSQL_TYPE_INT24 = 9
+column_number column.MYSQL_TYPE_DATE = 10
+column_number column.MYSQL_TYPE_TIME = 11
+column_number column.MYSQL_TYPE_DATETIME = 12
+column_number column.MYSQL_TYPE_YEAR = 13
+column_number column.MYSQL_TYPE_NEWDATE = 14
+column_number column.MYSQL_TYPE_VARCHAR = 15
+column_number column.MYSQL_TYPE_BIT = 16
+column_number column.MYSQL_TYPE_TIMESTAMP2 = 17
+column_number column.MYSQL_TYPE_DATETIME2 = 18
+column_number column.MYSQL_TYPE_TIME2 = 19
+column_number column.MYSQL_TYPE_TYPED_ARRAY = 20
+column_number column.MYSQL_TYPE_VECTOR = 242
+column_number column.MYSQL_TYPE_UNKNOWN = 243
+column_number column.MYSQL_TYPE_JSON = 245
+column_number column.MYSQL_TYPE_NEWDECIMAL = 246
+column_number column.MYSQL_TYPE_ENUM = 247
+column_number column.MYSQL_TYPE_SET = 248
+column_number column.MYSQL_TYPE_TINY_BLOB = 249
+column_number column.MYSQL_TYPE_MEDIUM_BLOB = 250
+column_number column.MYSQL_TYPE_LONG_BLOB = 251
+column_number column.MYSQL_TYPE_BLOB = 252
+column_number column.MYSQL_TYPE_VAR_STRING = 253
+column_number column.MYSQL_TYPE_STRING = 254
+column_number column.MYSQL_TYPE_GEOMETRY = 255
+
+abbrev pub geometry_number : GeometryType → ℕ
+geometry_number geometry.GEOM_GEOMETRY = 0
+geometry_number geometry.GEOM_POINT = 1
+geometry_number geometry.GEOM_LINESTRING = 2
+geometry_number geometry.GEOM_POLYGON = 3
+geometry_number geometry.GEOM_MULTIPOINT = 4
+geometry_number geometry.GEOM_MULTILINESTRING = 5
+geometry_number geometry.GEOM_MULTIPOLYGON = 6
+geometry_number geometry.GEOM_GEOMETRYCOLLECTION = 7
+
 -- ---- the groups of column types
 
 abbrev pub is_numeric : ColumnType → Bool
@@ -85,16 +132,10 @@ is_enum_or_set column.MYSQL_TYPE_ENUM = true
 is_enum_or_set column.MYSQL_TYPE_SET = true
 is_enum_or_set _ = false
 
--- ---- the types that a byte in an event stands for, with the fault of one that stands for none
+-- ---- the type that a byte in an event means, or the fault of a byte that means none
 
 abbrev pub column_type_of : ℕ → Result ColumnType Fault
 column_type_of = from_table column_types fault.UnknownColumnType
 
 abbrev pub geometry_type_of : ℕ → Result GeometryType Fault
 geometry_type_of = from_table geometry_types fault.UnknownGeometryType
-
-pub column_type_refused : (n : ℕ) (e : Fault) → column_type_of n ≡ Err e → IsOfBytes e
-column_type_refused n e h = subst IsOfBytes (sym (table_refuses column_types fault.UnknownColumnType n e h)) refl
-
-pub geometry_type_refused : (n : ℕ) (e : Fault) → geometry_type_of n ≡ Err e → IsOfBytes e
-geometry_type_refused n e h = subst IsOfBytes (sym (table_refuses geometry_types fault.UnknownGeometryType n e h)) refl

@@ -1,11 +1,11 @@
--- The numbers and kinds of faults, and which of them bytes can have.
+-- The numbers and kinds of faults, and which faults bytes can have.
 use Rattle.std.specs.Prelude.{ℕ, Bool, true, false, IsTrue}
 use Rattle.binlog_base.specs.declared.fault.Fault.{Fault}
 use Rattle.binlog_base.specs.declared.fault.Fault.TheVariants as fault
 use Rattle.binlog_base.specs.declared.fault.FaultKind.{FaultKind}
 use Rattle.binlog_base.specs.declared.fault.FaultKind.TheVariants as kind
 
--- the table of numbers
+-- the number of each fault
 abbrev pub number_of : Fault → ℕ
 number_of fault.UnexpectedEof = 1
 number_of fault.BadLenEnc = 2
@@ -36,7 +36,7 @@ number_of fault.EmptyPair = 26
 number_of fault.Reader = 27
 number_of fault.Memory = 28
 
--- 1 is an early end, 2 and 15 are of no kind of their own, 27 and 28 have theirs, all others are invalid data
+-- the kind of each fault
 abbrev pub kind_of : Fault → FaultKind
 kind_of fault.UnexpectedEof = kind.UnexpectedEof
 kind_of fault.BadLenEnc = kind.Other
@@ -45,7 +45,7 @@ kind_of fault.Reader = kind.Reader
 kind_of fault.Memory = kind.Memory
 kind_of _ = kind.InvalidData
 
--- whether bytes can have the fault: it is no failure of a reader or writer, and no want of memory
+-- whether bytes can have the fault: it is neither Reader nor Memory
 abbrev pub is_of_bytes : Fault → Bool
 is_of_bytes fault.Reader = false
 is_of_bytes fault.Memory = false

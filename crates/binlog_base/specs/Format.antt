@@ -1,17 +1,18 @@
--- A format says which bytes spell which values, and which fault stands where no front of the bytes spells any.
+-- A format says which bytes spell which values, and which fault is given where no prefix of the bytes spells any.
 use Rattle.std.specs.Prelude.{◌≡◌, ◌≢◌, ℕ, ◌<◌, Bool, true, false, List, [], ◌++◌, length, take, drop, Result, Ok, Err, Option, Some, None, nat_lt, if◌then◌else◌, ◌⊎◌, ⊤}
 use Rattle.std.specs.Bool.{MatchBool}
 use Rattle.binlog_base.specs.declared.fault.Fault.{Fault}
 use Rattle.binlog_base.specs.declared.fault.Fault.TheVariants.{UnexpectedEof, Memory}
 use Rattle.binlog_base.specs.Faults.{IsOfBytes}
 
--- spells: these bytes, all of them, spell this value.
--- refuses: no front of these bytes spells a value, and the fault is that of the first demand that isn't met.
--- at: the same as a plain program that reads from the left: the value at the front and the bytes behind it, or the fault.
+-- spells: these bytes, all of them, spell (encode) this value.
+-- refuses: no prefix of these bytes spells a value, and the fault is that of the first part that
+-- isn't valid.
+-- parse: reads from the left, and gives the value of a prefix and the bytes after it, or the fault.
 pub record Format (A : Type 0) : Type 1 where
   pub spells : List ℕ → A → Type 0
   pub refuses : List ℕ → Fault → Type 0
-  pub at : List ℕ → Result (A × List ℕ) Fault
+  pub parse : List ℕ → Result (A × List ℕ) Fault
 
 infixl 10 ◌>>=◌
 abbrev pub ◌>>=◌ : {A B : Type 0} → Result A Fault → (A → Result B Fault) → Result B Fault
@@ -21,126 +22,144 @@ abbrev pub ◌>>=◌ : {A B : Type 0} → Result A Fault → (A → Result B Fau
 -- ---- ways to make a format
 
 -- n bytes, whatever they are
-abbrev pub bytes : ℕ → Format (List ℕ)
-bytes n = record {
+abbrev pub take_bytes : ℕ → Format (List ℕ)
+take_bytes n = record {
   spells = λ x v. (v ≡ x) × (length x ≡ n);
   refuses = λ x e. (length x < n) × (e ≡ UnexpectedEof);
-  at = λ x. if nat_lt (length x) n then Err UnexpectedEof else Ok (take n x, drop n x);
+  parse = λ x. if nat_lt (length x) n then Err UnexpectedEof else Ok (take n x, drop n x);
 }
 
--- no bytes
-abbrev pub done : {A : Type 0} → A → Format A
-done a = record {
+-- no bytes, and this value
+abbrev pub no_bytes : {A : Type 0} → A → Format A
+no_bytes a = record {
   spells = λ x b. (x ≡ []) × (b ≡ a);
   refuses = λ x e. ⊥;
-  at = λ x. Ok (a, x);
+  parse = λ x. Ok (a, x);
 }
 
--- a demand that isn't met
-abbrev pub fault : {A : Type 0} → Fault → Format A
-fault {A} d = record {
+-- always refused, with this fault
+abbrev pub refusal : {A : Type 0} → Fault → Format A
+refusal {A} d = record {
   spells = λ x (a : A). ⊥;
   refuses = λ x e. e ≡ d;
-  at = λ x. Err d;
+  parse = λ x. Err d;
 }
 
--- a demand on what was read before: no bytes, and its value or its fault
-abbrev pub checked : {A : Type 0} → Result A Fault → Format A
-checked {A} r = record {
+-- a check of what was read before: it takes no bytes, and gives a value or a fault
+abbrev pub check : {A : Type 0} → Result A Fault → Format A
+check {A} r = record {
   spells = λ x a. (x ≡ []) × (r ≡ Ok a);
   refuses = λ x e. r ≡ Err e;
-  at = λ x. r >>= λ a. Ok (a, x);
+  parse = λ x. r >>= λ a. Ok (a, x);
 }
 
--- what stands at the front of bytes that were read before; bytes behind it say nothing
+-- a value at the start of bytes that were read before; bytes after it are ignored
 abbrev pub within : {A : Type 0} → List ℕ → Format A → Format A
 within {A} b f = record {
   spells = λ x a. (x ≡ []) × (y z : List ℕ) × (b ≡ y ++ z) × f.spells y a;
   refuses = λ x e. f.refuses b e;
-  at = λ x. f.at b >>= λ r. Ok (r.0, x);
+  parse = λ x. f.parse b >>= λ r. Ok (r.0, x);
 }
 
--- one behind the other; the second may depend on the first's value.
--- The fault is that of the first of the two that is no front of what stands behind the one before it.
-abbrev pub both : {A B : Type 0} → Format A → (A → Format B) → Format B
-both {A} {B} f g = record {
+-- One format after the other; the second may depend on the first's value. The fault is that of the
+-- first of the two that is refused.
+abbrev pub sequence : {A B : Type 0} → Format A → (A → Format B) → Format B
+sequence {A} {B} f g = record {
   spells = λ x b. (a : A) × (y z : List ℕ) × (x ≡ y ++ z) × f.spells y a × (g a).spells z b;
   refuses = λ x e. f.refuses x e ⊎ ((a : A) × (y z : List ℕ) × (x ≡ y ++ z) × f.spells y a × (g a).refuses z e);
-  at = λ x. f.at x >>= λ r. (g r.0).at r.1;
+  parse = λ x. f.parse x >>= λ r. (g r.0).parse r.1;
 }
 
--- the same bytes, with another value
-abbrev pub as_value : {A B : Type 0} → Format A → (A → B) → Format B
-as_value f g = both f (λ a. done (g a))
+-- a format whose value is computed from that of another format, by the same bytes
+abbrev pub map_value : {A B : Type 0} → Format A → (A → B) → Format B
+map_value f g = sequence f (λ a. no_bytes (g a))
 
--- the one format or the other
+-- the first format where the condition is true, else the second
 abbrev pub choice : {A : Type 0} → Bool → Format A → Format A → Format A
 choice b f g = record {
   spells = λ x a. MatchBool b (f.spells x a) (g.spells x a);
   refuses = λ x e. MatchBool b (f.refuses x e) (g.refuses x e);
-  at = λ x. if b then f.at x else g.at x;
+  parse = λ x. if b then f.parse x else g.parse x;
 }
 
--- all bytes that are left; it can only come last
-abbrev pub rest : Format (List ℕ)
-rest = record {
+-- all bytes that are left, as one value; it can only come last
+abbrev pub all_left : Format (List ℕ)
+all_left = record {
   spells = λ x v. v ≡ x;
   refuses = λ x e. ⊥;
-  at = λ x. Ok (x, []);
+  parse = λ x. Ok (x, []);
 }
 
--- ---- the three tell one story
+-- ---- the three parts of a format agree
 
--- Where at reads a value, a front of the bytes spells it, and what spells a value is read, whatever follows it;
--- it fails with the fault that refuses tells, and with no other; and that fault is one that bytes can have.
+-- sound: where parse gives a value, a prefix of the bytes spells it, and the bytes that are left
+-- follow.
+-- complete: bytes that spell a value are read as that value, whatever follows them.
+-- refused_sound, refused_complete: parse fails with the fault that refuses gives, and with no
+-- other.
+-- of_bytes: that fault is one that bytes can have.
 pub record IsExact {A : Type 0} (f : Format A) : Type 0 where
-  pub found : (x : List ℕ) (a : A) (left : List ℕ) → f.at x ≡ Ok (a, left) → (y : List ℕ) × (x ≡ y ++ left) × f.spells y a
-  pub again : (y left : List ℕ) (a : A) → f.spells y a → f.at (y ++ left) ≡ Ok (a, left)
-  pub fails : (x : List ℕ) (e : Fault) → f.at x ≡ Err e → f.refuses x e
-  pub only : (x : List ℕ) (e : Fault) → f.refuses x e → f.at x ≡ Err e
+  pub sound : (x : List ℕ) (a : A) (left : List ℕ) → f.parse x ≡ Ok (a, left) → (y : List ℕ) × (x ≡ y ++ left) × f.spells y a
+  pub complete : (y left : List ℕ) (a : A) → f.spells y a → f.parse (y ++ left) ≡ Ok (a, left)
+  pub refused_sound : (x : List ℕ) (e : Fault) → f.parse x ≡ Err e → f.refuses x e
+  pub refused_complete : (x : List ℕ) (e : Fault) → f.refuses x e → f.parse x ≡ Err e
   pub of_bytes : (x : List ℕ) (e : Fault) → f.refuses x e → IsOfBytes e
 
--- the same of a format that ends with the rest: its spelling is all of the bytes
+-- IsExact for a format that ends with all_left: a value takes all of the bytes
 pub record IsExactToEnd {A : Type 0} (f : Format A) : Type 0 where
-  pub found : (x : List ℕ) (a : A) (left : List ℕ) → f.at x ≡ Ok (a, left) → (left ≡ []) × f.spells x a
-  pub again : (x : List ℕ) (a : A) → f.spells x a → f.at x ≡ Ok (a, [])
-  pub fails : (x : List ℕ) (e : Fault) → f.at x ≡ Err e → f.refuses x e
-  pub only : (x : List ℕ) (e : Fault) → f.refuses x e → f.at x ≡ Err e
+  pub sound : (x : List ℕ) (a : A) (left : List ℕ) → f.parse x ≡ Ok (a, left) → (left ≡ []) × f.spells x a
+  pub complete : (x : List ℕ) (a : A) → f.spells x a → f.parse x ≡ Ok (a, [])
+  pub refused_sound : (x : List ℕ) (e : Fault) → f.parse x ≡ Err e → f.refuses x e
+  pub refused_complete : (x : List ℕ) (e : Fault) → f.refuses x e → f.parse x ≡ Err e
   pub of_bytes : (x : List ℕ) (e : Fault) → f.refuses x e → IsOfBytes e
 
--- the law of a type's format, by whether it takes all of the bytes
+-- the law of a format, by whether its values take all of the bytes
 abbrev pub Exact : {A : Type 0} → Bool → Format A → Type 0
 Exact false f = IsExact f
 Exact true f = IsExactToEnd f
 
--- ---- what a call of a reader answered
+-- ---- the result of a call that reads a value
 
--- What it gave, and the bytes that it left, are what the format has at the front. One that takes memory may answer Memory
--- in place of all else. Where it refuses, nothing is said of the bytes that are left.
-abbrev pub Refused : {Y : Type 0} → Bool → Fault → Result Y Fault → Type 0
-Refused false e read = read ≡ Err e
-Refused true e read = e ≢ Memory → read ≡ Err e
+-- The result of a call that takes memory is as `answer` says, or memory was refused.
+abbrev pub OrMemory : {X : Type 0} → Result X Fault → Type 0 → Type 0
+OrMemory (Ok _) answer = answer
+OrMemory (Err e) answer = e ≢ Memory → answer
 
-abbrev pub Parses : {X Y : Type 0} → Bool → (X → Y) → Result X Fault → List ℕ → Format Y → List ℕ → Type 0
-Parses takes_memory view (Ok x) left f old = f.at old ≡ Ok (view x, left)
-Parses takes_memory view (Err e) left f old = Refused takes_memory e (f.at old)
+abbrev pub OrMemoryIf : {X : Type 0} → Bool → Result X Fault → Type 0 → Type 0
+OrMemoryIf false result answer = answer
+OrMemoryIf true result answer = OrMemory result answer
 
--- The same by spells and refuses alone: a front of the bytes spells the value, and what is left follows it; or no front does,
--- and the fault is the one that the format tells.
-abbrev pub RefusedBy : Bool → Fault → Type 0 → Type 0
-RefusedBy false e told = told
-RefusedBy true e told = e ≢ Memory → told
+-- The old bytes parse to the value, as `view` shows it, and to the new bytes, which are left; or to
+-- the fault.
+abbrev pub ParsesAs : {X Y : Type 0} → (X → Y) → Format Y → Result X Fault → List ℕ → List ℕ → Type 0
+ParsesAs view f (Ok x) old new = f.parse old ≡ Ok (view x, new)
+ParsesAs view f (Err e) old new = f.parse old ≡ Err e
 
--- A format that ends with the rest leaves nothing.
-abbrev pub Follows : Bool → List ℕ → Type 0
-Follows false left = ⊤
-Follows true left = left ≡ []
+abbrev pub Parses : {Y : Type 0} → Format Y → Result Y Fault → List ℕ → List ℕ → Type 0
+Parses f result old new = ParsesAs (λ y. y) f result old new
 
-abbrev pub Reads : {X Y : Type 0} → Bool → Bool → (X → Y) → Result X Fault → List ℕ → Format Y → List ℕ → Type 0
-Reads to_end takes_memory view (Ok x) left f old = (front : List ℕ) × (old ≡ front ++ left) × f.spells front (view x) × Follows to_end left
-Reads to_end takes_memory view (Err e) left f old = RefusedBy takes_memory e (f.refuses old e)
+-- a prefix of the old bytes spells the value, and the new bytes follow it
+abbrev pub SpellsPrefix : {Y : Type 0} → Format Y → Y → List ℕ → List ℕ → Type 0
+SpellsPrefix f y old new = (prefix : List ℕ) × (old ≡ prefix ++ new) × f.spells prefix y
 
--- the width of a format's spellings, where each has the same
+-- all of the old bytes spell the value, and none are left
+abbrev pub SpellsAll : {Y : Type 0} → Format Y → Y → List ℕ → List ℕ → Type 0
+SpellsAll f y old new = f.spells old y × (new ≡ [])
+
+abbrev pub Spells : {Y : Type 0} → Bool → Format Y → Y → List ℕ → List ℕ → Type 0
+Spells false f y old new = SpellsPrefix f y old new
+Spells true f y old new = SpellsAll f y old new
+
+-- The result by spells and refuses: a prefix of the old bytes spells the value, or all of them do
+-- where the format takes them to the end; or the format refuses them with the fault.
+abbrev pub ReadsAs : {X Y : Type 0} → Bool → (X → Y) → Format Y → Result X Fault → List ℕ → List ℕ → Type 0
+ReadsAs to_end view f (Ok x) old new = Spells to_end f (view x) old new
+ReadsAs to_end view f (Err e) old new = f.refuses old e
+
+abbrev pub ReadsAll : {Y : Type 0} → Format Y → Result Y Fault → List ℕ → List ℕ → Type 0
+ReadsAll f result old new = ReadsAs true (λ y. y) f result old new
+
+-- each value of the format takes this many bytes; with None they may differ
 abbrev pub HasWidth : {A : Type 0} → Option ℕ → Format A → Type 0
 HasWidth None f = ⊤
 HasWidth {A} (Some w) f = (x : List ℕ) (a : A) → f.spells x a → length x ≡ w

@@ -1,25 +1,25 @@
--- Byte strings: with their length in front, of a length that is handed in, and to the end.
+-- Byte strings with their length before them, and bytes that are ignored.
 use Rattle.std.specs.Prelude.{ℕ, List, ◌∷◌, ◌++◌, length}
-use Rattle.binlog_base.specs.Format.{Format, bytes, both, as_value}
-use Rattle.binlog_base.specs.Numbers.{little, lenenc, lenenc_bytes, varlen, varlen_bytes}
+use Rattle.binlog_base.specs.Format.{Format, take_bytes, sequence, map_value}
+use Rattle.binlog_base.specs.Numbers.{little_endian, lenenc, lenenc_bytes, varlen, varlen_bytes}
 
 -- the length in one byte, and that many bytes
 unfoldable pub u8_string : Format (List ℕ)
-u8_string = both (little 1) bytes
+u8_string = sequence (little_endian 1) take_bytes
 
 -- a length-encoded length, and that many bytes
 unfoldable pub lenenc_string : Format (List ℕ)
-lenenc_string = both lenenc bytes
+lenenc_string = sequence lenenc take_bytes
 
--- the length as VarLen, and that many bytes
+-- the length as a VarLen number, and that many bytes
 unfoldable pub varlen_string : Format (List ℕ)
-varlen_string = both varlen bytes
+varlen_string = sequence varlen take_bytes
 
--- any n bytes, which say nothing
-unfoldable pub skipped : ℕ → Format (Unit {0})
-skipped n = as_value (bytes n) (λ _. tt)
+-- any n bytes, which are ignored
+unfoldable pub skip_bytes : ℕ → Format (Unit {0})
+skip_bytes n = map_value (take_bytes n) (λ _. tt)
 
--- what is written of a string that its kind can hold
+-- the bytes that are written for a string that its kind can hold
 unfoldable pub u8_string_bytes : List ℕ → List ℕ
 u8_string_bytes text = length text ∷ text
 

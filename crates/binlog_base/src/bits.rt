@@ -1,11 +1,13 @@
 //! Lists of bits over borrowed bytes.
 
-/// Which bit of a byte is the first.
+/// The order of the bits in a byte.
 #[derive(Clone, Copy, Debug, PartialEq, Eq)]
 pub enum BitOrder {
-    /// Bit i of a bitmap is `byte[i / 8] >> (i % 8)`: image bitmaps, null bits, partial bits.
+    /// Bit `i` of a bitmap is `bytes[i / 8] >> (i % 8) & 1`. The bitmaps of columns, null bits and
+    /// partial updates have this order.
     LeastSignificantFirst,
-    /// Bit i of a bitmap is `byte[i / 8] >> (7 - i % 8)`: signedness and visibility.
+    /// Bit `i` of a bitmap is `bytes[i / 8] >> (7 - i % 8) & 1`. In optional metadata, the bits of
+    /// signedness and visibility have this order.
     MostSignificantFirst,
 }
 

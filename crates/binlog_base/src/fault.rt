@@ -1,4 +1,4 @@
-//! Why a call was refused.
+//! Faults: why a call failed.
 
 ghost use Rattle.std.specs.Prelude.{◌≡◌};
 ghost use Rattle.binlog_base.specs.declared.fault.Fault.TheVariants.{Memory};
@@ -7,36 +7,38 @@ ghost use Rattle.binlog_base.specs.Faults.{number_of, kind_of};
 use std::alloc::{AllocError, AllocFailed};
 use thiserror::Error;
 
-/// Why a binary JSON container does not stand.
+/// Why a binary JSON container (an array or an object) is invalid.
 #[derive(Clone, Copy, Debug, PartialEq, Eq, Error)]
 pub enum JsonbError {
-    /// A key's offset lies before the end of the header, or its bytes end behind the container.
+    /// A key's offset is before the end of the header, or its bytes end after the container.
     #[error("a key's offset is out of range")]
     InvalidKeyOffsetPointer,
-    /// A value's offset lies before the end of its own entry, or behind the container.
+    /// A value's offset is before the end of its own entry, or after the container.
     #[error("a value's offset is out of range")]
     InvalidValueOffsetPointer,
-    /// The size is below the header's, or beyond the bytes that are there.
+    /// The container's size is below that of its header, or above the count of the bytes that are
+    /// there.
     #[error("the size is out of range")]
     SizeOverflow,
 }
 
-/// The kind of a fault, as Rust's `io::ErrorKind` tells it.
+/// The kind of a fault, after the kinds of Rust's `io::ErrorKind`.
 #[derive(Clone, Copy, Debug, PartialEq, Eq)]
 pub enum FaultKind {
-    /// The bytes end early.
+    /// The bytes end before the value does.
     UnexpectedEof,
-    /// The bytes say what they may not.
+    /// The bytes are not valid.
     InvalidData,
-    /// No kind of its own.
+    /// A fault of no kind of its own.
     Other,
-    /// A source or sink failed.
+    /// A source or a sink failed.
     Reader,
     /// Memory was refused.
     Memory,
 }
 
-/// Why a call was refused: the first demand, from left to right, that is not met.
+/// Why a call failed: what is wrong with the first part of the bytes, from left to right, that
+/// isn't valid.
 #[derive(Clone, Copy, Debug, PartialEq, Eq, Error)]
 pub enum Fault {
     /// The bytes end before the value does.
@@ -54,22 +56,23 @@ pub enum Fault {
     /// The rows event has more columns than its table.
     #[error("a column without a type")]
     NoColumnType,
-    /// A metadata byte that the column's type reads is not there.
+    /// The column's metadata has fewer bytes than the column's type needs.
     #[error("missing metadata")]
     MissingMetadata,
-    /// An ENUM column takes neither one byte nor two.
+    /// The cells of an ENUM column take neither one byte nor two.
     #[error("unknown width of an enum")]
     UnknownEnum,
-    /// The length of a BLOB column's cells takes none of 1 to 4 bytes.
+    /// The length of a BLOB column's cells doesn't take 1 to 4 bytes.
     #[error("unknown width of a blob's length")]
     UnknownBlob,
-    /// What isn't supported: cells of the column's type, optional metadata, an image before the change, a partial update.
+    /// Something that isn't supported: cells of the column's type, optional metadata, an image
+    /// before the change, or a partial update.
     #[error("not supported")]
     Unhandled,
     /// A decimal's scale is above its precision.
     #[error("scale above precision")]
     DecimalScale,
-    /// A group of a packed decimal is out of the range of its digits.
+    /// A group of digits in a packed DECIMAL is a larger number than its digits can be.
     #[error("digits out of range")]
     DecimalGroup,
     /// A packed time is below -2^63.
@@ -81,13 +84,13 @@ pub enum Fault {
     /// A number that no optional metadata field has.
     #[error("unknown optional field {0}")]
     UnknownOptionalField(u8),
-    /// A value does not take all of its bytes.
+    /// A value doesn't take all of its bytes.
     #[error("bytes remain")]
     BytesRemaining,
     /// A number that no geometry type has.
     #[error("unknown geometry type {0}")]
     UnknownGeometryType(u8),
-    /// A binary JSON container does not stand.
+    /// A binary JSON container is invalid.
     #[error("bad JSONB: {0}")]
     Jsonb(JsonbError),
     /// A number that no binary JSON type has.
@@ -102,7 +105,7 @@ pub enum Fault {
     /// A JSON string is not UTF-8.
     #[error("not UTF-8")]
     InvalidUtf8,
-    /// An opaque time has fewer than 8 bytes.
+    /// An opaque time in binary JSON has fewer than 8 bytes.
     #[error("opaque value too short")]
     OpaqueTooShort,
     /// A JSON document nests more than 100 containers.
@@ -114,10 +117,10 @@ pub enum Fault {
     /// A number that no JSON diff operation has.
     #[error("unknown operation {0}")]
     UnknownJsonDiffOperation(u8),
-    /// A pair of rows takes no byte, and bytes remain.
+    /// A pair of rows takes no bytes, while bytes remain.
     #[error("a pair of no bytes")]
     EmptyPair,
-    /// The source or sink that was handed in failed.
+    /// The given source or sink failed.
     #[error("the reader or writer failed")]
     Reader,
     /// Memory was refused.
@@ -126,7 +129,7 @@ pub enum Fault {
 }
 
 impl Fault {
-    /// The number, 1 to 28.
+    /// Returns the fault's number, 1 to 28, in the order of the variants.
     pub fn number(&self) -> u8
         ensures { result ≡ number_of self.now }
     {
@@ -162,7 +165,8 @@ impl Fault {
         }
     }
 
-    /// The kind: 1 is an early end; 2 and 15 are of no kind of their own; 27 and 28 have theirs; all others are invalid data.
+    /// Returns the fault's kind. `UnexpectedEof`, `Reader` and `Memory` are kinds of their own,
+    /// `BadLenEnc` and `BytesRemaining` are `Other`, and all others are `InvalidData`.
     pub fn kind(&self) -> FaultKind
         ensures { result ≡ kind_of self.now }
     {

@@ -1,4 +1,5 @@
-//! The lower layers that the reader of row events stands on: faults, formats of bytes, numbers, strings, bit lists.
+//! What the reader of row events is built on: faults, formats of bytes, numbers, byte strings,
+//! lists of bits, and packed times.
 #![tactic(auto)]
 
 pub mod below;

@@ -1,11 +1,10 @@
-//! Packed times: their parts, the bytes that hold them, and their values; writing no more than a limit.
+//! Packed times: their parts, their fields, their bytes and their values; and writers with a limit.
 //!
-//! The bytes are those of MySQL's "Date and Time Data Type Representation" for TIME, DATETIME and TIMESTAMP columns with fractional
-//! seconds.
+//! The bytes are those of MySQL's "Date and Time Data Type Representation" for TIME, DATETIME and
+//! TIMESTAMP columns with fractional seconds.
 
 mod binary;
 mod fields;
-mod laws;
 mod limit;
 mod packed;
 #[cfg(test)]
@@ -14,8 +13,7 @@ mod tests;
 pub use binary::{
     my_datetime_packed_from_binary, my_time_packed_from_binary, my_timestamp_from_binary,
 };
-pub use fields::{datetime_from_packed, time_from_packed};
-pub use laws::packed_times_are_exact;
+pub use fields::{DateTimeFields, TimeFields, datetime_from_packed, time_from_packed};
 pub use limit::{LimitWrite, LimitedWrite};
 pub use packed::{
     DATETIMEF_INT_OFS, TIMEF_INT_OFS, TIMEF_OFS, my_packed_time_get_frac_part,

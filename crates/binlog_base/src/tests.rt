@@ -1,3 +1,5 @@
+//! Tests of numbers, byte strings, columns, rows, faults and lists of bits.
+
 use crate::below::{
     BareBytes, BeI16, BeI24, BeI32, BeU16, BeU24, BeU32, BeU40, BeU48, BytesRepr, Column,
     ColumnFlags, ColumnType, Const, EofBytes, Failed, GeometryType, I8, IntRepr, LeI16, LeI24,
@@ -253,7 +255,7 @@ fn faults_by_number(rt: HostRuntime) {
     }
 }
 
-/// What a value is written as, after a byte that stands there already.
+/// What a value is written as, after a byte that is there already.
 fn written(rt: &HostRuntime, value: &impl MySerialize) -> Result<Vec<u8>, Fail> {
     let mut buf = vec![in rt.alloc(); 7u8]?;
     value.serialize(&mut buf)?;
@@ -337,7 +339,11 @@ fn strings_are_read(rt: HostRuntime) -> Result<(), Fail> {
         )
     );
     assert!(rt; ParseBuf(&[9]).parse::<Skip<1>>(()).is_ok());
-    assert_eq!(rt; ParseBuf(&[1, 2, 3]).checked_eat(2), Ok([1, 2].as_slice()));
+    let mut few = ParseBuf(&[1, 2, 3]);
+    assert_eq!(rt; few.checked_eat(2), Some([1, 2].as_slice()));
+    assert_eq!(rt; (few.checked_eat(2), few.len()), (None, 1));
+    assert_eq!(rt; few.eat(2), Err(Fault::UnexpectedEof));
+    assert_eq!(rt; few.eat(1), Ok([3].as_slice()));
     assert_eq!(rt; ParseBuf(&[1, 2, 3]).eat_all(), [1, 2, 3].as_slice());
     assert_eq!(rt; <Skip<1> as MyDeserialize>::SIZE, None);
     assert_eq!(rt; <RawInt<BeU24> as MyDeserialize>::SIZE, Some(3));
@@ -386,10 +392,12 @@ fn flags_and_constants(rt: HostRuntime) -> Result<(), Fail> {
     );
     let long: Const<ColumnType, U8> = ParseBuf(&[3]).parse(())?;
     assert_eq!(rt; long.0, ColumnType::MYSQL_TYPE_LONG);
-    assert_eq!(rt;
-        Const::<GeometryType, U8>::new(GeometryType::GEOM_POINT).0,
-        GeometryType::GEOM_POINT
-    );
+    let json: Const<ColumnType, u8> = ParseBuf(&[245]).parse(())?;
+    assert_eq!(rt; json.0, ColumnType::MYSQL_TYPE_JSON);
+    assert_eq!(rt; written(&rt, &json)?.as_slice(), [7, 245].as_slice());
+    let point = Const::<GeometryType, U8>::new(GeometryType::GEOM_POINT);
+    assert_eq!(rt; point.0, GeometryType::GEOM_POINT);
+    assert_eq!(rt; written(&rt, &point)?.as_slice(), [7, 1].as_slice());
     assert!(rt;
         matches!(
             ParseBuf(&[244]).parse::<Const<ColumnType, U8>>(()),
@@ -419,10 +427,20 @@ fn bits_in_both_orders(rt: HostRuntime) -> Result<(), Fail> {
         (Some(true), Some(true), None)
     );
     assert_eq!(rt; (high.get(1), high.get(8)), (Some(false), Some(false)));
-    // A bit past the bytes isn't there.
+    // There are no bits past the bytes.
     let all = BitView::new(&bytes, 17, BitOrder::LeastSignificantFirst);
     assert_eq!(rt; (all.len(), all.get(16)), (16, None));
     assert_eq!(rt; low.iter().take(3).filter(|bit| *bit).count(), 2);
+    // The same nine bits, with others after them.
+    let filled = [0b1000_0011, 0b1111_1111];
+    assert!(rt; low == BitView::new(&filled, 9, BitOrder::LeastSignificantFirst));
+    let mirrored = [0b1100_0001, 0b1111_1111];
+    assert!(rt; low == BitView::new(&mirrored, 9, BitOrder::MostSignificantFirst));
+    assert!(rt; low != high);
+    assert!(rt; low != all);
+    let three = BitView::new(&bytes, 3, BitOrder::LeastSignificantFirst);
+    let text = format!(in rt.alloc(); "{three:?}")?;
+    assert_eq!(rt; text.as_str(), "[true, true, false]");
     assert_eq!(rt; (bitmap_len(0), bitmap_len(8), bitmap_len(9)), (0, 1, 2));
     assert!(rt;
         matches!(
@@ -458,6 +476,11 @@ fn columns_and_rows(rt: HostRuntime) -> Result<(), Fail> {
     assert!(rt; matches!(row.as_ref(0), Some(Value::Int(-1))));
     assert!(rt; row.as_ref(1).is_none());
     assert!(rt; row.as_ref(2).is_none());
+    // Bytes are compared wherever they are, and floats by their bits.
+    let text = Value::Bytes(vec![in alloc; 1u8, 2]?);
+    assert!(rt; text == Value::Bytes(vec![in alloc; 1u8, 2]?));
+    assert!(rt; Value::Float(0x7fc0_0000) == Value::Float(0x7fc0_0000));
+    assert!(rt; Value::Int(1) != Value::UInt(1));
     Ok(())
 }
 
@@ -477,6 +500,7 @@ fn bytes_are_sources(rt: HostRuntime) {
 fn laws_are_calls(rt: HostRuntime) {
     laws::numbers_are_unambiguous::<LenEnc>();
     laws::numbers_read_back::<LeI24>();
+    laws::constants_read_back::<ColumnType, U8>();
     laws::numbers_are_shortest();
     laws::strings_are_spelled::<U8Bytes>();
     laws::readings_are_unambiguous::<RawBytes<EofBytes>>();

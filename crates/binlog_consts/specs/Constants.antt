@@ -1,4 +1,4 @@
--- The numbers of the smaller enums, each table as the documentation prints it.
+-- The numbers of the smaller enums, each as a table of MySQL's documentation.
 use Rattle.std.specs.Prelude.{ℕ, List, [], ◌∷◌}
 use Rattle.binlog_consts.specs.declared.consts.format.BinlogVersion.{BinlogVersion}
 use Rattle.binlog_consts.specs.declared.consts.format.BinlogVersion.TheVariants as version
@@ -15,7 +15,7 @@ use Rattle.binlog_consts.specs.declared.consts.payload.TransactionPayloadFields.
 use Rattle.binlog_consts.specs.declared.consts.payload.TransactionPayloadCompressionType.{TransactionPayloadCompressionType}
 use Rattle.binlog_consts.specs.declared.consts.payload.TransactionPayloadCompressionType.TheVariants as compression
 
--- the versions of the log's format
+-- the versions of the binary log's format
 abbrev pub binlog_versions : List (ℕ × BinlogVersion)
 binlog_versions =
     (1, version.Version1)

@@ -1,4 +1,5 @@
--- The numbers of event types. 0x29 is not read, and the number of the end mark is no event's.
+-- The numbers of event types. The number 0x29 is no event type here, and no event has the number of
+-- the end mark.
 use Rattle.std.specs.Prelude.{ℕ, List, [], ◌∷◌}
 use Rattle.binlog_consts.specs.declared.consts.event_type.EventType.{EventType}
 use Rattle.binlog_consts.specs.declared.consts.event_type.EventType.TheVariants as event

@@ -8,7 +8,8 @@ use Rattle.binlog_consts.specs.declared.consts.flags.GtidFlags.{GtidFlags}
 use Rattle.binlog_consts.specs.declared.consts.flags.RowsEventFlags.{RowsEventFlags}
 use Rattle.binlog_consts.specs.declared.consts.flags.UserVarFlags.{UserVarFlags}
 
--- a conversion of a number to flags: those very bits; an error, made of the number, where a bit is set that the table does not have
+-- the conversion of a number to flags: the flags with its bits, or an error that holds the number
+-- where a bit is set that the table doesn't have
 abbrev pub known_flags : {F E : Type 0} → List Row → (ℕ → F) → (ℕ → E) → ℕ → Result F E
 known_flags table flags refused n = if bit_and n (known_bits table) == n then Ok (flags n) else Err (refused n)
 
@@ -27,7 +28,7 @@ event_flags =
     ∷ (codes "LOG_EVENT_MTS_ISOLATE_F", 0x0200)
     ∷ []
 
--- the flags before an event under semi-synchronous replication
+-- the flags that come before an event under semi-synchronous replication
 abbrev pub semi_sync_flags : List Row
 semi_sync_flags =
     (codes "SEMI_SYNC_ACK_REQ", 0x01)
@@ -39,7 +40,7 @@ gtid_flags =
     (codes "MAY_HAVE_SBR", 0x01)
     ∷ []
 
--- the flags of a row event
+-- the flags of a rows event
 abbrev pub rows_event_flags : List Row
 rows_event_flags =
     (codes "STMT_END", 0x0001)
@@ -54,7 +55,7 @@ user_var_flags =
     (codes "UNSIGNED", 0x01)
     ∷ []
 
--- ---- the value of each type that has these very bits
+-- ---- the flags of each type with these bits
 
 abbrev pub event_flags_of : ℕ → EventFlags
 event_flags_of bits = record { 0 = bits }

@@ -1,4 +1,4 @@
--- The numbers of transactions within their group.
+-- The group numbers of GTIDs.
 use Rattle.std.specs.Prelude.{ℕ, Bool, ◌-◌, ◌^◌, ◌==◌, ◌||◌, ◌&&◌, nat_le, nat_lt}
 
 abbrev pub min_gno : ℕ
@@ -8,6 +8,6 @@ min_gno = 1
 abbrev pub max_gno : ℕ
 max_gno = 2 ^ 63 - 1
 
--- 0, which an anonymous transaction has, or at least the lowest and below the highest
+-- a group number is 0, for an anonymous transaction, or at least min_gno and below max_gno
 abbrev pub is_group_number : ℕ → Bool
 is_group_number n = n == 0 || (nat_le min_gno n && nat_lt n max_gno)

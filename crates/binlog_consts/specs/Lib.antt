@@ -1,3 +1,4 @@
+-- The definitions that the contracts of this crate rest on.
 pub mod EventTypes
 pub mod StatusVars
 pub mod OptionalMetadata

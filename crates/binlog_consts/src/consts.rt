@@ -1,5 +1,5 @@
-//! The enums and flags that events of the binary log hold as numbers, each with the error of a number that stands
-//! for none.
+//! The enums and flags that events of the binary log hold as numbers, each with the error for a
+//! number that has no meaning.
 
 mod event_fields;
 mod event_type;

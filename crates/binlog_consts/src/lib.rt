@@ -1,4 +1,4 @@
-//! The constants of MySQL's binary log: event types, flags, and the numbers that stand in events.
+//! The constants of MySQL's binary log: event types, flags, and other numbers in events.
 #![tactic(auto)]
 
 pub mod consts;

@@ -1,3 +1,5 @@
+//! Tests of the constants and flags.
+
 use crate::consts::{
     BinlogChecksumAlg, BinlogVersion, EventFlags, EventType, Flags, Gno, GtidFlags, IncidentType,
     IntvarEventType, InvalidGno, LoadDuplicateHandling, OptionalMetadataFieldType, RowsEventFlags,
@@ -10,7 +12,7 @@ use crate::consts::{
 };
 use std::test::Fail;
 
-/// Whether a number gives what the table has there, and this refusal where it has nothing.
+/// Whether a number gives what the table has for it, and this error where it has nothing.
 fn follows<N, T, E>(table: &[(N, T)], number: N, refusal: E) -> bool
 where
     N: Copy + PartialEq,
@@ -23,7 +25,7 @@ where
     }
 }
 
-/// The documentation's table of event types.
+/// The table of event types in MySQL's documentation.
 const EVENT_TYPES: [(u8, EventType); 42] = [
     (0x00, EventType::UNKNOWN_EVENT),
     (0x01, EventType::START_EVENT_V3),
@@ -69,7 +71,7 @@ const EVENT_TYPES: [(u8, EventType); 42] = [
     (0x2A, EventType::GTID_TAGGED_LOG_EVENT),
 ];
 
-/// The documentation's table of status variables.
+/// The table of status variables in MySQL's documentation.
 const STATUS_VAR_KEYS: [(u8, StatusVarKey); 21] = [
     (0, StatusVarKey::Flags2),
     (1, StatusVarKey::SqlMode),
@@ -94,7 +96,7 @@ const STATUS_VAR_KEYS: [(u8, StatusVarKey); 21] = [
     (20, StatusVarKey::DefaultTableEncryption),
 ];
 
-/// The documentation's table of optional metadata.
+/// The table of optional metadata in MySQL's documentation.
 const OPTIONAL_METADATA_FIELD_TYPES: [(u8, OptionalMetadataFieldType); 13] = [
     (1, OptionalMetadataFieldType::SIGNEDNESS),
     (2, OptionalMetadataFieldType::DEFAULT_CHARSET),
@@ -350,7 +352,7 @@ fn event_flags_by_bits(rt: HostRuntime) {
         assert_eq!(rt; flag.bits(), bits);
         assert_eq!(rt; EventFlags::try_from(bits), Ok(flag));
     }
-    // the ten lowest bits have names
+    // The ten lowest bits have names.
     assert_eq!(rt; EventFlags::all().bits(), 0x03ff);
     assert_eq!(rt; EventFlags::try_from(0x03ff), Ok(EventFlags::all()));
     for unknown in [0x0400, 0x0401, 0x8000, 0xffff] {
@@ -373,7 +375,7 @@ fn flags_of_row_events(rt: HostRuntime) -> Result<(), Fail> {
     for (bits, flag) in named {
         assert_eq!(rt; flag.bits(), bits);
     }
-    // the four lowest bits have names
+    // The four lowest bits have names.
     assert_eq!(rt; RowsEventFlags::all().bits(), 0x000f);
     assert!(rt; RowsEventFlags::empty().is_empty());
     for bits in 0..=0x000f {
@@ -403,7 +405,7 @@ fn flags_of_row_events(rt: HostRuntime) -> Result<(), Fail> {
 
 #[test]
 fn flags_of_one_bit(rt: HostRuntime) {
-    // the lowest bit alone has a name in each of the three types
+    // Only the lowest bit has a name in each of the three types.
     assert_eq!(rt; SemiSyncFlags::all().bits(), 1);
     assert_eq!(rt; GtidFlags::all().bits(), 1);
     assert_eq!(rt; UserVarFlags::all().bits(), 1);

@@ -1,2 +1,3 @@
+-- Proofs that several functions of this crate share.
 pub mod ColumnChunks
 pub mod Arrays

@@ -1,5 +1,5 @@
+-- The definitions that the contracts of this crate rest on.
 pub mod TableMap
-pub mod TableMapExact
 pub mod Chunks
-pub mod ChunksExact
 pub mod ColumnTypes
+pub mod Lemmas

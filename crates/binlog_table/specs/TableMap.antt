@@ -1,15 +1,16 @@
--- The layout of a table map event.
+-- The layout of MySQL's table map event.
 use Rattle.std.specs.Prelude.{ℕ, ◌==◌, if◌then◌else◌, List}
-use Rattle.binlog_base.specs.Format.{Format, bytes, both, as_value, rest}
-use Rattle.binlog_base.specs.Numbers.{little, lenenc}
-use Rattle.binlog_base.specs.Strings.{u8_string, lenenc_string, skipped}
+use Rattle.binlog_base.specs.Format.{Format, take_bytes, sequence, map_value, all_left}
+use Rattle.binlog_base.specs.Numbers.{little_endian, lenenc}
+use Rattle.binlog_base.specs.Strings.{u8_string, lenenc_string, skip_bytes}
 use Rattle.binlog_base.specs.Bits.{bitmap_len}
 
--- A table id takes 4 bytes where the event's post-header has 6 bytes, else 6 bytes.
+-- A table id takes 4 bytes where the event's post-header has 6 bytes, else 6 bytes; the lowest
+-- first.
 unfoldable pub table_id : ℕ → Format ℕ
-table_id post_header_len = little (if post_header_len == 6 then 4 else 6)
+table_id post_header_len = little_endian (if post_header_len == 6 then 4 else 6)
 
--- an event without where it lies in memory
+-- a table map event, without its place in memory
 pub record TableMap : Type 0 where
   pub table_id : ℕ
   pub flags : ℕ
@@ -21,18 +22,19 @@ pub record TableMap : Type 0 where
   pub null_bits : List ℕ
   pub optional_metadata : List ℕ
 
--- Its parts, one behind the other: table id, flags, database, any byte, table, any byte, the count of the columns, a type byte for
--- each, the columns' metadata, a null bit for each, and the optional metadata to the end.
+-- The parts of the event, one after the other: table id, flags, database, any byte, table, any
+-- byte, the count of the columns, a type byte for each, the columns' metadata, a null bit for each,
+-- and the optional metadata to the end.
 unfoldable pub table_map : ℕ → Format TableMap
 table_map post_header_len =
-    both (table_id post_header_len) (λ id.
-    both (little 2) (λ flags.
-    both u8_string (λ database.
-    both (skipped 1) (λ _.
-    both u8_string (λ table.
-    both (skipped 1) (λ _.
-    both lenenc (λ count.
-    both (bytes count) (λ types.
-    both lenenc_string (λ metadata.
-    both (bytes (bitmap_len count)) (λ null_bits.
-    as_value rest (λ optional. record { table_id = id; flags = flags; database = database; table = table; columns_count = count; types = types; metadata = metadata; null_bits = null_bits; optional_metadata = optional })))))))))))
+    sequence (table_id post_header_len) (λ id.
+    sequence (little_endian 2) (λ flags.
+    sequence u8_string (λ database.
+    sequence (skip_bytes 1) (λ _.
+    sequence u8_string (λ table.
+    sequence (skip_bytes 1) (λ _.
+    sequence lenenc (λ count.
+    sequence (take_bytes count) (λ types.
+    sequence lenenc_string (λ metadata.
+    sequence (take_bytes (bitmap_len count)) (λ null_bits.
+    map_value all_left (λ optional. record { table_id = id; flags = flags; database = database; table = table; columns_count = count; types = types; metadata = metadata; null_bits = null_bits; optional_metadata = optional })))))))))))

@@ -1,4 +1,4 @@
-//! The table map event, by its written layout.
+//! The table map event of MySQL's binary log, read by its documented layout.
 #![tactic(auto)]
 
 pub mod table_map;

@@ -1,4 +1,4 @@
-//! The table map event: a table, its columns and what is written of them.
+//! The table map event: a table, its columns, and the metadata of the columns.
 
 mod bad_column_type;
 mod column_chunks;

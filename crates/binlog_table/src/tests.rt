@@ -1,3 +1,5 @@
+//! Tests of the table map event.
+
 use crate::table_map::{BadColumnType, TableId, TableMapEvent};
 use binlog_base::below::{ColumnType, MySerialize, ParseBuf, UnknownColumnType};
 use binlog_base::fault::Fault;
@@ -10,7 +12,7 @@ fn two_columns() -> [u8; 21] {
     ]
 }
 
-/// A table d.t with these bytes from the column count on.
+/// The table d.t, with these bytes from the count of the columns on.
 fn with_columns(rt: &HostRuntime, columns: &[u8]) -> Result<Vec<u8>, Fail> {
     let mut bytes = two_columns()[..14].to_vec(rt.alloc())?;
     bytes.extend_from_slice(columns)?;
@@ -53,7 +55,7 @@ fn has_counts(table: &TableMapEvent<'_>, columns: u64, json_columns: usize) -> b
         && table.optional_metadata_raw().is_empty()
 }
 
-/// Whether the columns may be NULL so.
+/// Whether these are the columns' null bits: set where a column may be NULL.
 fn has_null_bits(table: &TableMapEvent<'_>, bits: &[bool]) -> bool {
     let null_bits = table.null_bitmask();
     null_bits.len() == bits.len()
@@ -204,7 +206,7 @@ fn real_types(rt: HostRuntime) -> Result<(), Fail> {
     Ok(())
 }
 
-/// Whether a walk over the chunks gives each column's own chunk and real type, and none behind the last.
+/// Whether a walk over the chunks gives each column's own chunk and real type, and none after the last.
 fn walks_alike(table: &TableMapEvent<'_>, columns: usize) -> bool {
     let mut chunks = table.column_chunks();
     for index in 0..columns {

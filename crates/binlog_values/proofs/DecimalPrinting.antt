@@ -1,4 +1,4 @@
--- What is read of a printed decimal.
+-- What is read from the printed text of a decimal.
 use Rattle.std.proofs.Common.{◌≡◌, ◌≢◌, ℕ, zero, suc, ◌+◌, ◌-◌, ◌%◌, ◌<◌, ◌≤◌, min, Bool, true, false, cond, not, List, [], ◌∷◌, ◌++◌, length, take, drop, Some, None, refl, sym, ap, subst, ◌∙◌, append_assoc, arith, inl, inr, ◌⊎◌}
 use Rattle.std.specs.Prelude.{◌&&◌, ◌||◌, ◌==◌, nat_le, nat_lt}
 use Rattle.std.specs.List.{list_all, prefix_len, take_while, before_first, after_first}
@@ -10,10 +10,10 @@ use Rattle.std.proofs.lemmas.List.{length-append, length-map, length-drop, map-a
 use Rattle.std.proofs.lemmas.List.Folds.{length-prefix_len}
 use Rattle.std.proofs.lemmas.List.Sums.{prefix_len-le-length}
 use Rattle.binlog_values.specs.Decimals.{DecimalView}
-use Rattle.binlog_values.specs.DecimalText.{is_digit, is_zero, is_point, digits_of, are_digits, decimal_with, signed_decimal, decimal_of_text, without_leading_zeros, has_minus, unsigned, integer_text, fraction_digits_text, decimal_text}
-use Rattle.binlog_values.specs.DecimalCuts.{below-append}
+use Rattle.binlog_values.specs.DecimalText.{is_digit, is_zero, is_point, digits_of, are_digits, decimal_with, signed_decimal, decimal_of_text, without_leading_zeros, has_minus, without_sign, integer_text, fraction_digits_text, decimal_text}
+use Rattle.binlog_values.specs.Lemmas.DecimalGroups.{below-append}
 use Rattle.binlog_values.specs.DecimalLaws.{IsSameNumber}
-use Rattle.binlog_values.specs.PackedDecimalsExact.{view_of}
+use Rattle.binlog_values.specs.Lemmas.PackedDecimals.{view_of}
 use Rattle.binlog_values.proofs.DecimalSteps.{below-drop}
 use Rattle.binlog_values.proofs.DigitCharacters.{chars, glyphs}
 use Rattle.binlog_values.proofs.DecimalTexts.{both_true, all_front, all_back, below-digits_of}
@@ -34,11 +34,11 @@ are_glyphs : (ds : List ℕ) → AllBelowBase 10 ds → list_all is_digit (chars
 are_glyphs [] h = refl
 are_glyphs (d ∷ ds) h = rw (le-leb 48 (48 + d) (omega arith), le-leb (48 + d) 57 (omega (arith, h.0)), are_glyphs ds h.1) refl
 
--- tests of two numbers that say the same
+-- two equality tests have the same result if each equality implies the other
 alike : (a b c d : ℕ) → (a ≡ b → c ≡ d) → (c ≡ d → a ≡ b) → (a == b) ≡ (c == d)
 alike a b c d f g = same_from_decides (a == b) (c == d) (Decides-like (a == b) f g (Decides-eqb a b)) (Decides-eqb c d)
 
--- a test of two numbers that are not the same
+-- the test for equality is false if the numbers aren't the same
 pub apart : (a b : ℕ) → a ≢ b → (a == b) ≡ false
 apart a b h = alike a b 1 0 (λ e. absurd (h e)) (λ e. absurd (omega (arith, e)))
 
@@ -54,7 +54,7 @@ no_points : (ds : List ℕ) → AllBelowBase 10 ds → list_all (λ c. not (is_p
 no_points [] h = refl
 no_points (d ∷ ds) h = rw (apart (48 + d) 46 (omega arith), no_points ds h.1) refl
 
--- ---- fronts that pass a test
+-- ---- prefixes that pass a test
 
 front_passes : (p : ℕ → Bool) (xs ys : List ℕ) → list_all p xs ≡ true → prefix_len p (xs ++ ys) ≡ length xs + prefix_len p ys
 front_passes p [] ys h = omega arith
@@ -63,32 +63,32 @@ front_passes p (x ∷ xs) ys h =
     let rest = front_passes p xs ys b.1 in
     rw b.0 (omega (arith, rest))
 
--- what stands before the first point of digits, and behind it
-abbrev pub Behind : List ℕ → List ℕ → Type 0
-Behind text digits = (text ≡ []) × (digits ≡ []) ⊎ (text ≡ 46 ∷ digits)
+-- the text after the digits before the point: nothing, or a point and digits
+abbrev pub After : List ℕ → List ℕ → Type 0
+After text digits = (text ≡ []) × (digits ≡ []) ⊎ (text ≡ 46 ∷ digits)
 
-none_before : (text digits : List ℕ) → Behind text digits → prefix_len (λ c. not (is_point c)) text ≡ 0
+none_before : (text digits : List ℕ) → After text digits → prefix_len (λ c. not (is_point c)) text ≡ 0
 none_before text digits (inl h) = ap (prefix_len (λ c. not (is_point c))) h.0
 none_before text digits (inr h) = ap (prefix_len (λ c. not (is_point c))) h
 
-no_zero_behind : (text digits : List ℕ) → Behind text digits → prefix_len is_zero text ≡ 0
-no_zero_behind text digits (inl h) = ap (prefix_len is_zero) h.0
-no_zero_behind text digits (inr h) = ap (prefix_len is_zero) h
+no_zero_after : (text digits : List ℕ) → After text digits → prefix_len is_zero text ≡ 0
+no_zero_after text digits (inl h) = ap (prefix_len is_zero) h.0
+no_zero_after text digits (inr h) = ap (prefix_len is_zero) h
 
-point_at : (ds text digits : List ℕ) → AllBelowBase 10 ds → Behind text digits → prefix_len (λ c. not (is_point c)) (chars ds ++ text) ≡ length (chars ds)
+point_at : (ds text digits : List ℕ) → AllBelowBase 10 ds → After text digits → prefix_len (λ c. not (is_point c)) (chars ds ++ text) ≡ length (chars ds)
 point_at ds text digits h b = omega (arith, front_passes (λ c. not (is_point c)) (chars ds) text (no_points ds h), none_before text digits b)
 
-pub before_point : (ds text digits : List ℕ) → AllBelowBase 10 ds → Behind text digits → before_first is_point (chars ds ++ text) ≡ chars ds
+pub before_point : (ds text digits : List ℕ) → AllBelowBase 10 ds → After text digits → before_first is_point (chars ds ++ text) ≡ chars ds
 before_point ds text digits h b = ap (λ (n : ℕ). take n (chars ds ++ text)) (point_at ds text digits h b) ∙ take_at (chars ds) text (length (chars ds)) refl
 
 drop_one : (xs ys : List ℕ) (y n : ℕ) → length xs ≡ n → drop (n + 1) (xs ++ y ∷ ys) ≡ ys
 drop_one xs ys y n long =
     ap (drop (n + 1)) (sym (append_assoc xs (y ∷ []) ys)) ∙ drop_at (xs ++ y ∷ []) ys (n + 1) (omega (arith, length-append xs (y ∷ []), long))
 
-pub behind_point : (ds text digits : List ℕ) → AllBelowBase 10 ds → Behind text digits → after_first is_point (chars ds ++ text) ≡ digits
-behind_point ds text digits h b = ap (λ (n : ℕ). drop (n + 1) (chars ds ++ text)) (point_at ds text digits h b) ∙ dropped b
+pub after_point : (ds text digits : List ℕ) → AllBelowBase 10 ds → After text digits → after_first is_point (chars ds ++ text) ≡ digits
+after_point ds text digits h b = ap (λ (n : ℕ). drop (n + 1) (chars ds ++ text)) (point_at ds text digits h b) ∙ dropped b
   where
-    dropped : Behind text digits → drop (length (chars ds) + 1) (chars ds ++ text) ≡ digits
+    dropped : After text digits → drop (length (chars ds) + 1) (chars ds ++ text) ≡ digits
     dropped (inl e) = ap (λ (l : List ℕ). drop (length (chars ds) + 1) (chars ds ++ l)) e.0 ∙ drop_all (length (chars ds) + 1) (chars ds ++ []) (omega (arith, length-append (chars ds) [])) ∙ sym e.1
     dropped (inr e) = ap (λ (l : List ℕ). drop (length (chars ds) + 1) (chars ds ++ l)) e ∙ drop_one (chars ds) digits 46 (length (chars ds)) refl
 
@@ -102,31 +102,31 @@ read_digits minus js fs h k some =
     let zeros : list_all is_zero (chars js ++ chars fs) ≡ all_zeros (js ++ fs) = ap (list_all is_zero) both ∙ zero_glyphs (js ++ fs) in
     rw (digits, long, zeros, digits_of-chars js, digits_of-chars fs) refl
 
--- behind a minus
-read_minus : (js text fs : List ℕ) → AllBelowBase 10 js → AllBelowBase 10 fs → 0 < length js → Behind text (chars fs) → signed_decimal (45 ∷ (chars js ++ text)) ≡ Some (view_of (not (all_zeros (js ++ fs))) js fs)
+-- reading digits after a minus
+read_minus : (js text fs : List ℕ) → AllBelowBase 10 js → AllBelowBase 10 fs → 0 < length js → After text (chars fs) → signed_decimal (45 ∷ (chars js ++ text)) ≡ Some (view_of (not (all_zeros (js ++ fs))) js fs)
 read_minus js text fs h k some b =
     ap (λ (l : List ℕ). decimal_with true l (after_first is_point (chars js ++ text))) (before_point js text (chars fs) h b)
-    ∙ ap (decimal_with true (chars js)) (behind_point js text (chars fs) h b)
+    ∙ ap (decimal_with true (chars js)) (after_point js text (chars fs) h b)
     ∙ read_digits true js fs h k (omega arith)
 
--- without a sign
-read_plain : (js text fs : List ℕ) → AllBelowBase 10 js → AllBelowBase 10 fs → 0 < length js → Behind text (chars fs) → signed_decimal (chars js ++ text) ≡ Some (view_of false js fs)
+-- reading digits without a sign
+read_plain : (js text fs : List ℕ) → AllBelowBase 10 js → AllBelowBase 10 fs → 0 < length js → After text (chars fs) → signed_decimal (chars js ++ text) ≡ Some (view_of false js fs)
 read_plain [] text fs h k some b = absurd (omega arith)
 read_plain (j ∷ js) text fs h k some b =
     let all = chars (j ∷ js) ++ text in
     let other : (48 + j == 45) ≡ false = apart (48 + j) 45 (omega arith) in
     let neither : ((48 + j == 43) || (48 + j == 45)) ≡ false = rw (apart (48 + j) 43 (omega arith), other) refl in
-    let bare : unsigned all ≡ all = rw neither refl in
-    ap (λ (m : Bool). decimal_with m (before_first is_point (unsigned all)) (after_first is_point (unsigned all))) other
+    let bare : without_sign all ≡ all = rw neither refl in
+    ap (λ (m : Bool). decimal_with m (before_first is_point (without_sign all)) (after_first is_point (without_sign all))) other
     ∙ ap (λ (l : List ℕ). decimal_with false (before_first is_point l) (after_first is_point l)) bare
     ∙ ap (λ (l : List ℕ). decimal_with false l (after_first is_point all)) (before_point (j ∷ js) text (chars fs) h b)
-    ∙ ap (decimal_with false (chars (j ∷ js))) (behind_point (j ∷ js) text (chars fs) h b)
+    ∙ ap (decimal_with false (chars (j ∷ js))) (after_point (j ∷ js) text (chars fs) h b)
     ∙ read_digits false (j ∷ js) fs h k (omega arith)
 
 -- ---- leading zeros
 
-zeros_in_front : (ds text digits : List ℕ) → Behind text digits → prefix_len is_zero (chars ds ++ text) ≡ prefix_len (λ d. d == 0) ds
-zeros_in_front [] text digits b = no_zero_behind text digits b
+zeros_in_front : (ds text digits : List ℕ) → After text digits → prefix_len is_zero (chars ds ++ text) ≡ prefix_len (λ d. d == 0) ds
+zeros_in_front [] text digits b = no_zero_after text digits b
 zeros_in_front (d ∷ ds) text digits b = rw (zero_glyph d, zeros_in_front ds text digits b) refl
 
 -- dropping leading zeros keeps the number, and whether all digits are zeros
@@ -148,7 +148,7 @@ same_zeros (suc k) (suc d ∷ ds) fs h = absurd (omega (arith, other_first d ds)
     other_first : (d : ℕ) (ds : List ℕ) → prefix_len (λ d. d == 0) (suc d ∷ ds) ≡ 0
     other_first d ds = rw (eqb-suc-zero d) refl
 
--- digits with the same number that aren't fewer than one
+-- at least one digit, with the same number and the same test for all zeros
 record AreSame (ds ks : List ℕ) : Type 0 where
   below : AllBelowBase 10 ks
   some : 0 < length ks
@@ -174,8 +174,8 @@ shown (d ∷ ds) h =
     let same = fewer k all h (omega arith) (omega (arith, zeros)) in
     (drop k all, glyphs (drop k all) same.below, same)
 
--- of zeros at the start one stays
-trimmed_text : (ks text digits : List ℕ) → AllBelowBase 10 ks → 0 < length ks → Behind text digits → (js : List ℕ) × (without_leading_zeros (chars ks ++ text) ≡ chars js ++ text) × AreSame ks js
+-- dropping all but one of the zeros at the start keeps the number
+trimmed_text : (ks text digits : List ℕ) → AllBelowBase 10 ks → 0 < length ks → After text digits → (js : List ℕ) × (without_leading_zeros (chars ks ++ text) ≡ chars js ++ text) × AreSame ks js
 trimmed_text ks text digits h some b =
     let all = chars ks ++ text in
     let z = length (take_while is_zero all) in
@@ -189,11 +189,11 @@ trimmed_text ks text digits h some b =
 
 -- ---- the printed text
 
-fraction_text-is : (fs : List ℕ) → AllBelowBase 10 fs → Behind (fraction_digits_text fs) (chars fs)
+fraction_text-is : (fs : List ℕ) → AllBelowBase 10 fs → After (fraction_digits_text fs) (chars fs)
 fraction_text-is [] h = inl (refl, refl)
 fraction_text-is (f ∷ fs) h = inr (ap (λ (l : List ℕ). 46 ∷ l) (glyphs (f ∷ fs) h))
 
--- a sign that stands only where some digit isn't 0
+-- the decimal is negative only if some digit isn't 0
 abbrev IsSigned : DecimalView → Type 0
 IsSigned d = d.negative ≡ (d.negative && not (all_zeros (d.integer ++ d.fraction)))
 
@@ -223,7 +223,7 @@ printed false integer fraction h k signed =
       record { sign = refl; integer = sym same.value; fraction = refl },
     )
 
--- ---- what is known of a decimal that was read
+-- ---- what is known about a decimal that was read
 
 zero_of : (x : ℕ) → 48 ≤ x → (x == 48) ≡ (x - 48 == 0)
 zero_of x low = alike x 48 (x - 48) 0 (λ e. omega (arith, e)) (λ e. omega (arith, e, low))
@@ -246,20 +246,20 @@ pub guarded : (b : Bool) (v d : DecimalView) → cond b (Some v) None ≡ Some d
 guarded true v d h = (refl, cc)
 guarded false v d h = absurd cc
 
-known : (minus : Bool) (before behind : List ℕ) (d : DecimalView) → decimal_with minus before behind ≡ Some d → AllBelowBase 10 d.integer × AllBelowBase 10 d.fraction × IsSigned d
-known minus before behind d h =
-    let v = view_of (minus && not (list_all is_zero (before ++ behind))) (digits_of before) (digits_of behind) in
-    let g = guarded (are_digits before behind) v d h in
-    let digits = (both_true (list_all is_digit (before ++ behind)) (nat_lt 0 (length (before ++ behind))) g.0).0 in
-    let front = all_front is_digit before behind digits in
-    let back = all_back is_digit before behind digits in
-    let zeros = zeros_of before behind front back in
-    let signed : IsSigned v = twice minus (not (list_all is_zero (before ++ behind))) ∙ ap (λ (z : Bool). (minus && not (list_all is_zero (before ++ behind))) && not z) zeros in
-    subst (λ (w : DecimalView). AllBelowBase 10 w.integer × AllBelowBase 10 w.fraction × IsSigned w) g.1 (below-digits_of before front, below-digits_of behind back, signed)
+known : (minus : Bool) (before after : List ℕ) (d : DecimalView) → decimal_with minus before after ≡ Some d → AllBelowBase 10 d.integer × AllBelowBase 10 d.fraction × IsSigned d
+known minus before after d h =
+    let v = view_of (minus && not (list_all is_zero (before ++ after))) (digits_of before) (digits_of after) in
+    let g = guarded (are_digits before after) v d h in
+    let digits = (both_true (list_all is_digit (before ++ after)) (nat_lt 0 (length (before ++ after))) g.0).0 in
+    let front = all_front is_digit before after digits in
+    let back = all_back is_digit before after digits in
+    let zeros = zeros_of before after front back in
+    let signed : IsSigned v = twice minus (not (list_all is_zero (before ++ after))) ∙ ap (λ (z : Bool). (minus && not (list_all is_zero (before ++ after))) && not z) zeros in
+    subst (λ (w : DecimalView). AllBelowBase 10 w.integer × AllBelowBase 10 w.fraction × IsSigned w) g.1 (below-digits_of before front, below-digits_of after back, signed)
 
 pub printed_again : (text : List ℕ) (d : DecimalView) → decimal_of_text text ≡ Some d → (e : DecimalView) × (decimal_of_text (decimal_text d) ≡ Some e) × IsSameNumber d e
 unfolding decimal_of_text
 printed_again text d h =
     let t = without_leading_zeros text in
-    let k = known (has_minus t) (before_first is_point (unsigned t)) (after_first is_point (unsigned t)) d h in
+    let k = known (has_minus t) (before_first is_point (without_sign t)) (after_first is_point (without_sign t)) d h in
     printed d.negative d.integer d.fraction k.0 k.1 k.2

@@ -1,19 +1,20 @@
 -- The steps of the loops over digits and bytes of decimals.
 use Rattle.std.proofs.Common.{◌≡◌, ℕ, zero, suc, ◌+◌, ◌-◌, ◌*◌, ◌/◌, ◌%◌, ◌^◌, ◌<◌, ◌≤◌, Bool, true, false, List, [], ◌∷◌, ◌++◌, length, get_or, take, drop, set, map, replicate, Result, Ok, Err, refl, sym, ap, subst, ◌∙◌, append_assoc, append-nil, arith}
-use Rattle.std.specs.Prelude.{slice_index, ◌&&◌}
+use Rattle.std.specs.Prelude.{slice_index, ◌&&◌, ◌==◌}
 use Rattle.std.specs.Int.{bytes_high_first}
-use Rattle.binlog_values.specs.DecimalMasks.{masked, is_nil, masked-append, masked-nil}
+use Rattle.binlog_values.specs.DecimalMasks.{masked_bytes, is_nil}
+use Rattle.binlog_values.specs.Lemmas.DecimalMasks.{masked_bytes-append, masked_bytes-nil}
 use Rattle.std.specs.List.{list_all}
-use Rattle.std.specs.Prelude.{◌==◌}
 use Rattle.std.specs.Int.Digits.{AllBelowBase, number_from_digits}
+use Rattle.byteorder.specs.Endian.{big_bytes}
 use Rattle.std.proofs.Math.Dec.{eqb-suc-zero}
 use Rattle.std.proofs.Math.Nat.{pow-le-pow_right}
 use Rattle.std.proofs.lemmas.Int.Digits.{number_more, number_lt}
 use Rattle.std.proofs.lemmas.List.{length-take-le, length-drop, take_all, take-append-drop, drop_all, drop_more, take_more, set_at, get_or_at, map-append, length-map}
-use Rattle.byteorder.specs.Endian.{big_bytes}
 use Rattle.binlog_base.specs.declared.fault.Fault.{Fault}
-use Rattle.binlog_values.specs.Decimals.{group_width, group_bytes, grouped, integer_groups, without_zero_groups}
-use Rattle.binlog_values.specs.DecimalCuts.{places, IsCut, below-front, below-back, length-places, below-places, number-places, bytes-places, same_digits, number-group_bytes, length-group_bytes, cut-group, group-cut, cut-append, cut-parts, cut-length, cut-nil, bytes_in, digits_in}
+use Rattle.binlog_values.specs.Decimals.{group_width, group_bytes, grouped_bytes, integer_groups, without_zero_groups}
+use Rattle.binlog_values.specs.DecimalGroups.{low_digits, IsCut, bytes_in, digits_in}
+use Rattle.binlog_values.specs.Lemmas.DecimalGroups.{below-front, below-back, length-low_digits, below-low_digits, number-low_digits, bytes-low_digits, same_digits, number-group_bytes, length-group_bytes, cut-group, group-cut, cut-append, cut-parts, cut-length, cut-nil}
 use Rattle.binlog_values.specs.DecimalReads.{Unpacks}
 
 -- ---- numbers of digits
@@ -37,7 +38,7 @@ next_below base i ds some within below fits =
     let power : base ^ length (take (i + 1) ds) ≤ base ^ length ds = pow-le-pow_right (omega arith) long in
     omega (arith, more, low, power, fits)
 
--- one more digit stays below the bound
+-- with one more digit, the number is still below the bound
 pub number-step : (base i n : ℕ) (ds : List ℕ) → n ≡ number_from_digits base (take i ds) → 1 ≤ base → i < length ds → AllBelowBase base ds → base ^ length ds ≤ 2 ^ 32 → n * base + get_or ds i 0 < 2 ^ 32
 number-step base i n ds is some within below fits = subst (λ (m : ℕ). m * base + get_or ds i 0 < 2 ^ 32) (sym is) (next_below base i ds some within below fits)
 
@@ -64,10 +65,10 @@ pub mapped-all : (f : ℕ → ℕ) (xs ys : List ℕ) (i : ℕ) → length xs �
 mapped-all f xs ys i all is =
     is ∙ ap (λ (l : List ℕ). map f l ++ drop i xs) (take_all i xs all) ∙ ap (λ (l : List ℕ). map f xs ++ l) (drop_all i xs all) ∙ append-nil (map f xs)
 
--- the digits of a number, one digit more
-pub places-push : (base count n : ℕ) → 0 < count → places base count n ≡ places base (count - 1) (n / base) ++ (n % base) ∷ []
-places-push base zero n some = absurd (omega arith)
-places-push base (suc count) n some = let e : suc count - 1 ≡ count = omega arith in rw e refl
+-- the lowest digits of a number, with one digit more
+pub low_digits-push : (base count n : ℕ) → 0 < count → low_digits base count n ≡ low_digits base (count - 1) (n / base) ++ (n % base) ∷ []
+low_digits-push base zero n some = absurd (omega arith)
+low_digits-push base (suc count) n some = let e : suc count - 1 ≡ count = omega arith in rw e refl
 
 -- ---- groups that are all zeros
 
@@ -86,14 +87,14 @@ zeros_end : (ds : List ℕ) → without_zero_groups [] ds ≡ ds
 unfolding without_zero_groups
 zeros_end ds = refl
 
--- groups of nine digits, one fewer
+-- full groups of nine digits: the first, and those after it
 pub nines-of : (xs rest : List ℕ) → 9 ≤ length xs → rest ≡ drop 9 xs → replicate {A = ℕ} (length xs / 9) 9 ≡ 9 ∷ replicate {A = ℕ} (length rest / 9) 9
 nines-of xs rest some is =
     let long : length rest ≡ length xs - 9 = ap length is ∙ length-drop 9 xs in
     let count : length xs / 9 ≡ suc (length rest / 9) = omega arith in
     ap (λ (n : ℕ). replicate {A = ℕ} n 9) count
 
--- the bytes of such groups
+-- the bytes of full groups: the four of the first group, and those after it
 pub fours-of : (xs rest : List ℕ) → 4 ≤ length xs → rest ≡ drop 4 xs → replicate {A = ℕ} (length xs / 4) 9 ≡ 9 ∷ replicate {A = ℕ} (length rest / 4) 9
 fours-of xs rest some is =
     let long : length rest ≡ length xs - 4 = ap length is ∙ length-drop 4 xs in
@@ -144,42 +145,42 @@ and_false : (b : Bool) → (b && false) ≡ false
 and_false true = refl
 and_false false = refl
 
--- the first of groups of nine digits, and those behind it
-pub nines-masked : (negative front : Bool) (left group rest : List ℕ) → 9 ≤ length left → group ≡ take 9 left → rest ≡ drop 9 left → masked negative front (grouped (replicate (length left / 9) 9) left) ≡ masked negative front (group_bytes group) ++ masked negative false (grouped (replicate (length rest / 9) 9) rest)
-unfolding grouped
-nines-masked negative front left group rest some is after =
+-- writing full groups of nine digits: the first, and those after it
+pub nines-masked_bytes : (negative front : Bool) (left group rest : List ℕ) → 9 ≤ length left → group ≡ take 9 left → rest ≡ drop 9 left → masked_bytes negative front (grouped_bytes (replicate (length left / 9) 9) left) ≡ masked_bytes negative front (group_bytes group) ++ masked_bytes negative false (grouped_bytes (replicate (length rest / 9) 9) rest)
+unfolding grouped_bytes
+nines-masked_bytes negative front left group rest some is after =
     let count : 0 < length group = omega (arith, ap length is, length-take-le 9 left some) in
-    let parts : grouped (replicate (length left / 9) 9) left ≡ group_bytes group ++ grouped (replicate (length rest / 9) 9) rest =
-    ap (λ (sizes : List ℕ). grouped sizes left) (nines-of left rest some after)
-    ∙ ap (λ (l : List ℕ). group_bytes l ++ grouped (replicate (length rest / 9) 9) (drop 9 left)) (sym is)
-    ∙ ap (λ (l : List ℕ). group_bytes group ++ grouped (replicate (length rest / 9) 9) l) (sym after) in
+    let parts : grouped_bytes (replicate (length left / 9) 9) left ≡ group_bytes group ++ grouped_bytes (replicate (length rest / 9) 9) rest =
+    ap (λ (sizes : List ℕ). grouped_bytes sizes left) (nines-of left rest some after)
+    ∙ ap (λ (l : List ℕ). group_bytes l ++ grouped_bytes (replicate (length rest / 9) 9) (drop 9 left)) (sym is)
+    ∙ ap (λ (l : List ℕ). group_bytes group ++ grouped_bytes (replicate (length rest / 9) 9) l) (sym after) in
     let later : (front && is_nil (group_bytes group)) ≡ false = ap (λ (b : Bool). front && b) (some_group group count) ∙ and_false front in
-    ap (masked negative front) parts ∙ masked-append negative front (group_bytes group) (grouped (replicate (length rest / 9) 9) rest)
-    ∙ ap (λ (b : Bool). masked negative front (group_bytes group) ++ masked negative b (grouped (replicate (length rest / 9) 9) rest)) later
+    ap (masked_bytes negative front) parts ∙ masked_bytes-append negative front (group_bytes group) (grouped_bytes (replicate (length rest / 9) 9) rest)
+    ∙ ap (λ (b : Bool). masked_bytes negative front (group_bytes group) ++ masked_bytes negative b (grouped_bytes (replicate (length rest / 9) 9) rest)) later
 
-pub nines-none : (negative front : Bool) (left : List ℕ) → length left ≡ 0 → masked negative front (grouped (replicate (length left / 9) 9) left) ≡ []
-unfolding grouped
+pub nines-none : (negative front : Bool) (left : List ℕ) → length left ≡ 0 → masked_bytes negative front (grouped_bytes (replicate (length left / 9) 9) left) ≡ []
+unfolding grouped_bytes
 nines-none negative front left none =
     let count : length left / 9 ≡ 0 = omega arith in
-    ap (λ (n : ℕ). masked negative front (grouped (replicate n 9) left)) count ∙ masked-nil negative front
+    ap (λ (n : ℕ). masked_bytes negative front (grouped_bytes (replicate n 9) left)) count ∙ masked_bytes-nil negative front
 
 -- ---- groups that are read
 
--- the digits of a group's number have its bytes
-pub group_bytes-places : (size : ℕ) (bytes : List ℕ) → AllBelowBase 256 bytes → length bytes ≡ group_width size → number_from_digits 256 bytes < 10 ^ size → group_bytes (places 10 size (number_from_digits 256 bytes)) ≡ bytes
-group_bytes-places size bytes below long low =
+-- the digits of a group's number are packed in the group's bytes
+pub group_bytes-low_digits : (size : ℕ) (bytes : List ℕ) → AllBelowBase 256 bytes → length bytes ≡ group_width size → number_from_digits 256 bytes < 10 ^ size → group_bytes (low_digits 10 size (number_from_digits 256 bytes)) ≡ bytes
+group_bytes-low_digits size bytes below long low =
     let n = number_from_digits 256 bytes in
     let w = group_width size in
-    let count : length (places 10 size n) ≡ size = length-places 10 size n in
-    let held : number_from_digits 10 (places 10 size n) ≡ n = number-places 10 size n (omega arith) low in
+    let count : length (low_digits 10 size n) ≡ size = length-low_digits 10 size n in
+    let held : number_from_digits 10 (low_digits 10 size n) ≡ n = number-low_digits 10 size n (omega arith) low in
     let fits : n < 256 ^ w = subst (λ (k : ℕ). n < 256 ^ k) long (number_lt 256 bytes below) in
-    ap (λ (k : ℕ). big_bytes (group_width k) (number_from_digits 10 (places 10 size n))) count ∙ ap (big_bytes w) held ∙ bytes-places w n
-    ∙ same_digits 256 (places 256 w n) bytes (length-places 256 w n ∙ sym long) (below-places 256 w n (omega arith)) below (number-places 256 w n (omega arith) fits)
+    ap (λ (k : ℕ). big_bytes (group_width k) (number_from_digits 10 (low_digits 10 size n))) count ∙ ap (big_bytes w) held ∙ bytes-low_digits w n
+    ∙ same_digits 256 (low_digits 256 w n) bytes (length-low_digits 256 w n ∙ sym long) (below-low_digits 256 w n (omega arith)) below (number-low_digits 256 w n (omega arith) fits)
 
-pub group-unpacked : {X : Type 0} (x : X) (size : ℕ) (bytes old new : List ℕ) → AllBelowBase 256 bytes → length bytes ≡ group_width size → number_from_digits 256 bytes < 10 ^ size → new ≡ old ++ places 10 size (number_from_digits 256 bytes) → Unpacks (Ok x) (size ∷ []) bytes old new
+pub group-unpacked : {X : Type 0} (x : X) (size : ℕ) (bytes old new : List ℕ) → AllBelowBase 256 bytes → length bytes ≡ group_width size → number_from_digits 256 bytes < 10 ^ size → new ≡ old ++ low_digits 10 size (number_from_digits 256 bytes) → Unpacks (Ok x) (size ∷ []) bytes old new
 group-unpacked x size bytes old new below long low is =
-    let digits = places 10 size (number_from_digits 256 bytes) in
-    (digits, is, cut-group size bytes digits (below-places 10 size (number_from_digits 256 bytes) (omega arith)) (length-places 10 size (number_from_digits 256 bytes)) (group_bytes-places size bytes below long low))
+    let digits = low_digits 10 size (number_from_digits 256 bytes) in
+    (digits, is, cut-group size bytes digits (below-low_digits 10 size (number_from_digits 256 bytes) (omega arith)) (length-low_digits 10 size (number_from_digits 256 bytes)) (group_bytes-low_digits size bytes below long low))
 
 pub group-refused : (size : ℕ) (bytes : List ℕ) → size ≤ 9 → 10 ^ size ≤ number_from_digits 256 bytes → (digits : List ℕ) → IsCut (size ∷ []) bytes digits → ⊥
 group-refused size bytes most high digits h =
@@ -188,7 +189,7 @@ group-refused size bytes most high digits h =
     let low : number_from_digits 10 digits < 10 ^ size = subst (λ (k : ℕ). number_from_digits 10 digits < 10 ^ k) long (number_lt 10 digits h.below) in
     omega (arith, held, low, high)
 
--- groups behind groups
+-- reading two lists of groups, one after the other
 pub unpacks-then : {X Y : Type 0} (a b x y old mid new : List ℕ) (u : X) (r : Result Y Fault) → Unpacks (Ok u) a x old mid → Unpacks r b y mid new → Unpacks r (a ++ b) (x ++ y) old new
 unpacks-then a b x y old mid new u (Ok v) h k =
     (h.0 ++ k.0, k.1 ∙ ap (λ (l : List ℕ). l ++ k.0) h.1 ∙ append_assoc old h.0 k.0, cut-append a b x y h.0 k.0 h.2 k.2)
@@ -202,7 +203,7 @@ unpacks-stop X Y a b x y old mid new e long h =
 pub unpacks-nil : {X : Type 0} (x : X) (old : List ℕ) → Unpacks (Ok x) [] [] old old
 unpacks-nil x old = ([], sym (append-nil old), cut-nil)
 
--- groups of nine digits: the first of them, and those behind it
+-- reading full groups of nine digits: the first, and those after it
 abbrev UnpacksNines : (X : Type 0) → Result X Fault → List ℕ → List ℕ → List ℕ → Type 0
 UnpacksNines X r left old new = Unpacks r (replicate (length left / 4) 9) left old new
 
@@ -225,7 +226,7 @@ pub nines-end : (X : Type 0) (x : X) (left old : List ℕ) → length left ≡ 0
 nines-end X x [] old none = unpacks-nil x old
 nines-end X x (b ∷ left) old none = absurd (omega arith)
 
--- what a test for an empty slice says
+-- if the test for an empty slice is false, the length is above 0
 pub some_left : (n : ℕ) → false ≡ (n == 0) → 0 < n
 some_left zero h = absurd cc
 some_left (suc n) h = omega arith
@@ -234,7 +235,7 @@ pub none_left : (n : ℕ) → true ≡ (n == 0) → n ≡ 0
 none_left zero h = refl
 none_left (suc n) h = let other = eqb-suc-zero n in absurd cc
 
--- the last of four bytes are those of a group
+-- the last bytes of a big-endian number of four bytes are those of a group
 pub group-slice : (w n : ℕ) (ds bytes : List ℕ) → bytes ≡ bytes_high_first 4 n → w ≡ group_width (length ds) → n ≡ number_from_digits 10 ds → take (4 - (4 - w)) (drop (4 - w) bytes) ≡ group_bytes ds
 group-slice w n ds bytes is width value =
     let count : 4 - (4 - w) ≡ w = omega arith in

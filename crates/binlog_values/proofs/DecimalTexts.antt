@@ -1,13 +1,13 @@
--- What texts of decimals say, and what trimmed decimals are.
+-- The decimals of texts, and trimmed decimals.
 use Rattle.std.proofs.Common.{◌≡◌, ℕ, zero, suc, ◌+◌, ◌-◌, ◌<◌, ◌≤◌, Bool, true, false, cond, List, [], ◌∷◌, ◌++◌, length, take, drop, refl, sym, ap, subst, ◌∙◌, arith}
 use Rattle.std.specs.Prelude.{◌&&◌, ◌==◌, nat_lt, nat_le}
 use Rattle.std.specs.List.{list_all, before_first, after_first}
 use Rattle.std.specs.Int.Digits.{AllBelowBase}
 use Rattle.std.proofs.lemmas.Bool.{ltb-true, leb-true}
 use Rattle.std.proofs.lemmas.List.{length-append, length-map}
-use Rattle.binlog_values.specs.Decimals.{DecimalView, IsDecimal, integer_groups, without_zero_groups, trimmed, zero_decimal}
-use Rattle.binlog_values.specs.DecimalText.{is_digit, is_point, digits_of, are_digits, decimal_with, signed_decimal, decimal_of_text, without_leading_zeros, has_minus, unsigned}
-use Rattle.binlog_values.specs.PackedDecimalsExact.{view_of}
+use Rattle.binlog_values.specs.Decimals.{DecimalView, IsDecimal, integer_groups, without_zero_groups, trimmed_decimal, zero_decimal}
+use Rattle.binlog_values.specs.DecimalText.{is_digit, is_point, digits_of, are_digits, decimal_with, signed_decimal, decimal_of_text, without_leading_zeros, has_minus, without_sign}
+use Rattle.binlog_values.specs.Lemmas.PackedDecimals.{view_of}
 use Rattle.binlog_values.proofs.DecimalSteps.{below-drop}
 
 -- ---- texts
@@ -31,21 +31,21 @@ below-digits_of (x ∷ xs) h =
     let most : x ≤ 57 = leb-true x 57 (both_true (nat_le 48 x) (nat_le x 57) b.0).1 in
     (omega arith, below-digits_of xs b.1)
 
-pub digits-decimal : (negative : Bool) (before behind integer fraction : List ℕ) → are_digits before behind ≡ true → integer ≡ digits_of before → fraction ≡ digits_of behind → IsDecimal (record { negative = negative; integer = integer; fraction = fraction })
-digits-decimal negative before behind integer fraction h is as_well =
-    let b = both_true (list_all is_digit (before ++ behind)) (nat_lt 0 (length (before ++ behind))) h in
-    let some = ltb-true 0 (length (before ++ behind)) b.1 in (
-      subst (AllBelowBase 10) (sym is) (below-digits_of before (all_front is_digit before behind b.0)),
-      subst (AllBelowBase 10) (sym as_well) (below-digits_of behind (all_back is_digit before behind b.0)),
-      omega (arith, some, length-append before behind, ap length is, ap length as_well, length-map before (λ (c : ℕ). c - 48), length-map behind (λ (c : ℕ). c - 48)),
+pub digits-decimal : (negative : Bool) (before after integer fraction : List ℕ) → are_digits before after ≡ true → integer ≡ digits_of before → fraction ≡ digits_of after → IsDecimal (record { negative = negative; integer = integer; fraction = fraction })
+digits-decimal negative before after integer fraction h is as_well =
+    let b = both_true (list_all is_digit (before ++ after)) (nat_lt 0 (length (before ++ after))) h in
+    let some = ltb-true 0 (length (before ++ after)) b.1 in (
+      subst (AllBelowBase 10) (sym is) (below-digits_of before (all_front is_digit before after b.0)),
+      subst (AllBelowBase 10) (sym as_well) (below-digits_of after (all_back is_digit before after b.0)),
+      omega (arith, some, length-append before after, ap length is, ap length as_well, length-map before (λ (c : ℕ). c - 48), length-map after (λ (c : ℕ). c - 48)),
     )
 
-pub text-is : (bytes text body before behind : List ℕ) (minus : Bool) → text ≡ without_leading_zeros bytes → minus ≡ has_minus text → body ≡ unsigned text → before ≡ before_first is_point body → behind ≡ after_first is_point body → decimal_with minus before behind ≡ decimal_of_text bytes
+pub text-is : (bytes text body before after : List ℕ) (minus : Bool) → text ≡ without_leading_zeros bytes → minus ≡ has_minus text → body ≡ without_sign text → before ≡ before_first is_point body → after ≡ after_first is_point body → decimal_with minus before after ≡ decimal_of_text bytes
 unfolding decimal_of_text
-text-is bytes text body before behind minus is sign rest front back =
-    ap (λ (b : Bool). decimal_with b before behind) sign
-    ∙ ap (λ (l : List ℕ). decimal_with (has_minus text) l behind) (front ∙ ap (before_first is_point) rest)
-    ∙ ap (λ (l : List ℕ). decimal_with (has_minus text) (before_first is_point (unsigned text)) l) (back ∙ ap (after_first is_point) rest)
+text-is bytes text body before after minus is sign rest front back =
+    ap (λ (b : Bool). decimal_with b before after) sign
+    ∙ ap (λ (l : List ℕ). decimal_with (has_minus text) l after) (front ∙ ap (before_first is_point) rest)
+    ∙ ap (λ (l : List ℕ). decimal_with (has_minus text) (before_first is_point (without_sign text)) l) (back ∙ ap (after_first is_point) rest)
     ∙ ap signed_decimal is
 
 -- ---- trimmed decimals
@@ -54,35 +54,35 @@ below-chosen : (b : Bool) (xs ys : List ℕ) → AllBelowBase 10 xs → AllBelow
 below-chosen true xs ys h k = h
 below-chosen false xs ys h k = k
 
-below-trimmed : (sizes ds : List ℕ) → AllBelowBase 10 ds → AllBelowBase 10 (without_zero_groups sizes ds)
+below-trimmed_decimal : (sizes ds : List ℕ) → AllBelowBase 10 ds → AllBelowBase 10 (without_zero_groups sizes ds)
 unfolding without_zero_groups
-below-trimmed [] ds h = h
-below-trimmed (size ∷ sizes) ds h =
-    below-chosen (list_all (λ d. d == 0) (take size ds)) (without_zero_groups sizes (drop size ds)) ds (below-trimmed sizes (drop size ds) (below-drop 10 size ds h)) h
+below-trimmed_decimal [] ds h = h
+below-trimmed_decimal (size ∷ sizes) ds h =
+    below-chosen (list_all (λ d. d == 0) (take size ds)) (without_zero_groups sizes (drop size ds)) ds (below-trimmed_decimal sizes (drop size ds) (below-drop 10 size ds h)) h
 
--- the digits that are left
+-- the digits that are left of a trimmed decimal
 pub record AreLeft (d : DecimalView) (left fraction : List ℕ) (none : Bool) : Type 0 where
   pub before : left ≡ without_zero_groups (integer_groups (length d.integer)) d.integer
-  pub behind : fraction ≡ d.fraction
+  pub after : fraction ≡ d.fraction
   pub empty : none ≡ (length left + length fraction == 0)
 
 left-empty : (d : DecimalView) (left fraction : List ℕ) (none : Bool) → AreLeft d left fraction none → none ≡ (length (without_zero_groups (integer_groups (length d.integer)) d.integer) + length d.fraction == 0)
-left-empty d left fraction none h = h.empty ∙ ap (λ (l : List ℕ). length l + length fraction == 0) h.before ∙ ap (λ (l : List ℕ). length (without_zero_groups (integer_groups (length d.integer)) d.integer) + length l == 0) h.behind
+left-empty d left fraction none h = h.empty ∙ ap (λ (l : List ℕ). length l + length fraction == 0) h.before ∙ ap (λ (l : List ℕ). length (without_zero_groups (integer_groups (length d.integer)) d.integer) + length l == 0) h.after
 
-pub trimmed-none : (d : DecimalView) (left fraction : List ℕ) (none : Bool) → AreLeft d left fraction none → none ≡ true → zero_decimal ≡ trimmed d
-unfolding trimmed
-trimmed-none d left fraction none h is = rw (sym (left-empty d left fraction none h) ∙ is) refl
+pub trimmed_decimal-none : (d : DecimalView) (left fraction : List ℕ) (none : Bool) → AreLeft d left fraction none → none ≡ true → zero_decimal ≡ trimmed_decimal d
+unfolding trimmed_decimal
+trimmed_decimal-none d left fraction none h is = rw (sym (left-empty d left fraction none h) ∙ is) refl
 
-pub trimmed-some : (d : DecimalView) (left fraction : List ℕ) (none : Bool) → AreLeft d left fraction none → none ≡ false → record { negative = d.negative; integer = left; fraction = fraction } ≡ trimmed d
-unfolding trimmed
-trimmed-some d left fraction none h is =
+pub trimmed_decimal-some : (d : DecimalView) (left fraction : List ℕ) (none : Bool) → AreLeft d left fraction none → none ≡ false → record { negative = d.negative; integer = left; fraction = fraction } ≡ trimmed_decimal d
+unfolding trimmed_decimal
+trimmed_decimal-some d left fraction none h is =
     rw (sym (left-empty d left fraction none h) ∙ is)
-    (ap (λ (l : List ℕ). view_of d.negative l fraction) h.before ∙ ap (λ (l : List ℕ). view_of d.negative (without_zero_groups (integer_groups (length d.integer)) d.integer) l) h.behind)
+    (ap (λ (l : List ℕ). view_of d.negative l fraction) h.before ∙ ap (λ (l : List ℕ). view_of d.negative (without_zero_groups (integer_groups (length d.integer)) d.integer) l) h.after)
 
-pub trimmed-decimal : (d : DecimalView) (left fraction : List ℕ) (none : Bool) → IsDecimal d → AreLeft d left fraction none → none ≡ false → IsDecimal (record { negative = d.negative; integer = left; fraction = fraction })
-trimmed-decimal d left fraction none h are is = (
-  subst (AllBelowBase 10) (sym are.before) (below-trimmed (integer_groups (length d.integer)) d.integer h.0),
-  subst (AllBelowBase 10) (sym are.behind) h.1,
+pub trimmed_decimal-decimal : (d : DecimalView) (left fraction : List ℕ) (none : Bool) → IsDecimal d → AreLeft d left fraction none → none ≡ false → IsDecimal (record { negative = d.negative; integer = left; fraction = fraction })
+trimmed_decimal-decimal d left fraction none h are is = (
+  subst (AllBelowBase 10) (sym are.before) (below-trimmed_decimal (integer_groups (length d.integer)) d.integer h.0),
+  subst (AllBelowBase 10) (sym are.after) h.1,
   some_of (length left + length fraction) (sym are.empty ∙ is),
 )
   where

@@ -1,8 +1,9 @@
+-- The proofs of this crate.
 pub mod DecimalSteps
 pub mod DigitCharacters
-pub mod DecimalTelling
+pub mod DecimalBytes
 pub mod DecimalTexts
 pub mod DecimalPrinting
 pub mod DecimalRanges
-pub mod DecimalKnown
+pub mod DecimalSources
 pub mod DecimalGrammar

@@ -1,8 +1,10 @@
--- The texts of decimals: those that are read, and the one that is printed.
-use Rattle.std.specs.Prelude.{ℕ, ◌-◌, ◌%◌, min, Bool, false, not, ◌&&◌, ◌||◌, ◌==◌, nat_le, nat_lt, if◌then◌else◌, List, [], ◌∷◌, ◌++◌, length, drop, map, Option, Some, None}
+-- The texts of decimals: those that are accepted, and the one that is printed.
+use Rattle.std.specs.Prelude.{ℕ, ◌-◌, ◌%◌, min, Bool, false, not, ◌&&◌, ◌||◌, ◌==◌, nat_le, nat_lt, if◌then◌else◌, List, [], ◌∷◌, ◌++◌, length, drop, map, Option, Some, None, ◌≡◌, ◌≢◌, Result, Ok, Err}
 use Rattle.std.specs.List.{list_all, flat_map, take_while, before_first, after_first}
 use Rattle.std.specs.Fmt.{decimal, sign_text}
 use Rattle.binlog_values.specs.Decimals.{DecimalView}
+use Rattle.binlog_values.specs.declared.decimal.parse.ParseDecimalError.{ParseDecimalError}
+use Rattle.binlog_values.specs.declared.decimal.parse.ParseDecimalError.TheVariants.{Invalid, Memory}
 
 -- ---- the texts that are read, as bytes
 
@@ -15,46 +17,47 @@ is_zero c = c == 48
 abbrev pub is_point : ℕ → Bool
 is_point c = c == 46
 
--- of two or more zeros at the start one stays
+-- the text without the zeros at its start, except for the last of them
 abbrev pub without_leading_zeros : List ℕ → List ℕ
 without_leading_zeros text = drop (length (take_while is_zero text) - 1) text
 
--- a minus is written
+-- the text starts with a minus
 abbrev pub has_minus : List ℕ → Bool
 has_minus [] = false
 has_minus (c ∷ text) = c == 45
 
--- what stands behind a sign
-abbrev pub unsigned : List ℕ → List ℕ
-unsigned [] = []
-unsigned (c ∷ text) = if (c == 43) || (c == 45) then text else c ∷ text
+-- the text without its optional sign
+abbrev pub without_sign : List ℕ → List ℕ
+without_sign [] = []
+without_sign (c ∷ text) = if (c == 43) || (c == 45) then text else c ∷ text
 
--- the numbers of digits
+-- the digits as numbers from 0 to 9
 abbrev pub digits_of : List ℕ → List ℕ
 digits_of text = map (λ c. c - 48) text
 
--- all are digits, and there is one
+-- both texts hold only digits, and at least one digit in all
 abbrev pub are_digits : List ℕ → List ℕ → Bool
-are_digits before behind = list_all is_digit (before ++ behind) && nat_lt 0 (length (before ++ behind))
+are_digits before after = list_all is_digit (before ++ after) && nat_lt 0 (length (before ++ after))
 
--- Digits before the first point and behind it, together at least one; a minus counts only where some digit isn't 0.
+-- The decimal with these digits before and after the point, if there is at least one digit. It is
+-- negative if there is a minus and some digit isn't 0.
 abbrev pub decimal_with : Bool → List ℕ → List ℕ → Option DecimalView
-decimal_with minus before behind =
-    if are_digits before behind
-    then Some (record { negative = minus && not (list_all is_zero (before ++ behind)); integer = digits_of before; fraction = digits_of behind })
+decimal_with minus before after =
+    if are_digits before after
+    then Some (record { negative = minus && not (list_all is_zero (before ++ after)); integer = digits_of before; fraction = digits_of after })
     else None
 
--- an optional sign, and digits with an optional point
+-- the decimal of an optional sign and digits with an optional point
 abbrev pub signed_decimal : List ℕ → Option DecimalView
-signed_decimal text = decimal_with (has_minus text) (before_first is_point (unsigned text)) (after_first is_point (unsigned text))
+signed_decimal text = decimal_with (has_minus text) (before_first is_point (without_sign text)) (after_first is_point (without_sign text))
 
--- the decimal of a text, if it is one
+-- the decimal that a text is read as, or none if the text isn't accepted
 unfoldable pub decimal_of_text : List ℕ → Option DecimalView
 decimal_of_text text = signed_decimal (without_leading_zeros text)
 
 -- ---- the text that is printed
 
--- the leading zeros of the first group left out, but for its last digit
+-- the digits without the leading zeros of their first group, whose last digit is kept
 abbrev pub shown_digits : List ℕ → List ℕ
 shown_digits digits = drop (min (length (take_while (λ d. d == 0) digits)) ((length digits - 1) % 9)) digits
 
@@ -68,3 +71,9 @@ fraction_digits_text (d ∷ ds) = 46 ∷ flat_map decimal (d ∷ ds)
 
 unfoldable pub decimal_text : DecimalView → List ℕ
 decimal_text d = sign_text d.negative ++ (integer_text d.integer ++ fraction_digits_text d.fraction)
+
+-- The result is the decimal of the text; or the text has none, with the error Invalid; or memory
+-- could not be allocated.
+abbrev pub ReadsText : Result DecimalView ParseDecimalError → Option DecimalView → Type 0
+ReadsText (Ok d) value = value ≡ Some d
+ReadsText (Err e) value = e ≢ Memory → (e ≡ Invalid) × (value ≡ None)

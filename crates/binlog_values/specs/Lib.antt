@@ -1,11 +1,11 @@
+-- The definitions that the contracts of this crate use.
 pub mod Times
 pub mod TimeText
 pub mod Decimals
-pub mod DecimalCuts
+pub mod DecimalGroups
 pub mod DecimalMasks
 pub mod DecimalReads
 pub mod PackedDecimals
-pub mod PackedDecimalsExact
 pub mod DecimalLaws
 pub mod DecimalText
-pub mod DecimalParses
+pub mod Lemmas

@@ -1,10 +1,9 @@
-//! Decimals of MySQL: their packed bytes and their text.
+//! Decimal numbers of MySQL: the packed DECIMAL format and their text.
 
 ghost use Rattle.std.specs.Prelude.{◌≡◌, ◌≤◌, ◌+◌, ◌-◌, length, IfOk};
 ghost use Rattle.binlog_values.specs.Decimals.{DecimalView, IsDecimal, packed_size, zero_decimal};
 
 mod group;
-pub mod laws;
 mod mask;
 mod order;
 mod pack;
@@ -20,19 +19,19 @@ pub use parse::ParseDecimalError;
 use std::alloc::{AllocError, Global};
 use std::marker::Model;
 
-/// The number of a group of digits.
+/// The number that a group of at most nine decimal digits forms.
 pub type Digit = i32;
 
-/// The digits of a whole group.
+/// The number of decimal digits in a full group.
 pub const DIG_PER_DEC: usize = 9;
 
-/// The number of values of a whole group.
+/// The number of values that a full group can have: ten to the power of `DIG_PER_DEC`.
 pub const DIG_BASE: usize = 1_000_000_000;
 
-/// The bytes of a group of that many digits.
+/// How many bytes a group takes in the packed DECIMAL format, by its number of digits, 0 to 9.
 pub const DIG_TO_BYTES: [u8; 10] = [0, 1, 1, 2, 2, 3, 3, 4, 4, 4];
 
-/// The powers of ten.
+/// The powers of ten, from 10^0 to 10^9.
 pub const POWERS_10: [Digit; 10] = [
     1,
     10,
@@ -46,7 +45,8 @@ pub const POWERS_10: [Digit; 10] = [
     1_000_000_000,
 ];
 
-/// A decimal: a sign, and digits before and behind the point, at least one of them. Zeros at either end are part of it.
+/// A decimal number: a sign, and the digits before and after the point, at least one digit in all.
+/// Zeros at the start and at the end are part of the value.
 #[derive(Debug, Drop)]
 pub struct Decimal {
     negative: bool,
@@ -57,13 +57,19 @@ pub struct Decimal {
 impl Model for Decimal {
     ghost Value = { DecimalView };
 
-    ghost view = { λ d. record { negative = d.negative; integer = d.integer.items; fraction = d.fraction.items } };
+    ghost view = { λ d. record {
+      negative = d.negative;
+      integer = d.integer.items;
+      fraction = d.fraction.items;
+    } };
 
-    ghost invariant = { λ d. IsDecimal (record { negative = d.negative; integer = d.integer.items; fraction = d.fraction.items }) };
+    ghost invariant = { λ d.
+        IsDecimal (record { negative = d.negative; integer = d.integer.items; fraction = d.fraction.items }) };
 }
 
 impl Decimal {
-    /// Positive zero, of one digit.
+    /// Returns positive zero, with one digit before the point and none after it.
+    /// Fails if memory can't be allocated.
     pub fn default(alloc: Global) -> Result<Decimal, AllocError>
         ensures { IfOk result (λ d. d ≡ zero_decimal) }
     {
@@ -75,7 +81,7 @@ impl Decimal {
         })
     }
 
-    /// The same decimal again.
+    /// Returns a copy of the decimal. Fails if memory can't be allocated.
     pub fn clone(&self, alloc: Global) -> Result<Decimal, AllocError>
         ensures { IfOk result (λ d. d ≡ self.now) }
     {
@@ -88,7 +94,7 @@ impl Decimal {
         })
     }
 
-    /// The bytes of its packed form.
+    /// Returns how many bytes this decimal takes in the packed DECIMAL format.
     pub fn bin_size(&self) -> usize
         ensures { result ≡ packed_size (length self.now.integer) (length self.now.fraction) }
     {
@@ -96,7 +102,8 @@ impl Decimal {
     }
 }
 
-/// The bytes of the packed form of a decimal of `precision` digits, `scale` of them behind the point.
+/// Returns how many bytes a decimal of `precision` digits, `scale` of them after the point, takes
+/// in the packed DECIMAL format.
 pub fn decimal_bin_size(precision: usize, scale: usize) -> usize
     requires { scale ≤ precision }
     ensures { result ≡ packed_size (precision - scale) scale }

@@ -1,16 +1,32 @@
-//! Digits as text.
+//! Counts zeros among digits, and writes digits as text.
 
-ghost use Rattle.std.specs.Prelude.{◌≡◌, ◌≤◌, ◌+◌, length, map};
-ghost use Rattle.std.specs.List.{flat_map};
+ghost use Rattle.std.specs.Prelude.{◌≡◌, ◌≤◌, ◌+◌, ◌==◌, length, map};
+ghost use Rattle.std.specs.List.{flat_map, list_all, take_while};
 ghost use Rattle.std.specs.Fmt.{WritesOnOk, decimal};
 ghost use Rattle.std.specs.Int.Digits.{AllBelowBase};
+ghost use Rattle.binlog_values.specs.DecimalText.{fraction_digits_text};
 
 use std::{fmt, str};
 
-// The most digits that one call writes.
+// The most digits that are written at once.
 const CHUNK: usize = 32;
 
-// Makes digits their characters.
+// Returns how many items at the start are `zero`: 0 for digits, `b'0'` for characters.
+pub(crate) fn leading_zeros(digits: &[u8], zero: u8) -> usize
+    ensures zeros { result ≡ length (take_while (λ d. d == zero) digits.now) }
+    ensures within { result ≤ length digits.now }
+{
+    digits.iter().take_while(|digit| **digit == zero).count()
+}
+
+// Returns whether all items are `zero`: 0 for digits, `b'0'` for characters.
+pub(crate) fn all_zeros(digits: &[u8], zero: u8) -> bool
+    ensures { result ≡ list_all (λ d. d == zero) digits.now }
+{
+    digits.iter().all(|digit| *digit == zero)
+}
+
+// Replaces each digit by its ASCII character.
 fn make_characters(digits: &mut [u8])
     requires { AllBelowBase 10 digits.old }
     ensures { digits.new ≡ map (λ digit. 48 + digit) digits.old }
@@ -20,7 +36,7 @@ fn make_characters(digits: &mut [u8])
     }
 }
 
-// Writes digits by one call.
+// Writes at most `CHUNK` digits, by one call of the formatter.
 fn write_chunk<W: fmt::Write>(f: &mut fmt::Formatter<W>, digits: &[u8]) -> fmt::Result
     requires most { length digits.now ≤ CHUNK }
     requires below { AllBelowBase 10 digits.now }
@@ -36,7 +52,7 @@ fn write_chunk<W: fmt::Write>(f: &mut fmt::Formatter<W>, digits: &[u8]) -> fmt::
     f.write_str(text)
 }
 
-// Writes digits, one after the other.
+// Writes digits, `CHUNK` at a time.
 pub(crate) fn write_digits<W: fmt::Write>(f: &mut fmt::Formatter<W>, digits: &[u8]) -> fmt::Result
     requires { AllBelowBase 10 digits.now }
     ensures { WritesOnOk W.write_str_gives f.old result (flat_map decimal digits.now) f.new }
@@ -45,4 +61,17 @@ pub(crate) fn write_digits<W: fmt::Write>(f: &mut fmt::Formatter<W>, digits: &[u
         write_chunk(f, chunk)?;
     }
     Ok(())
+}
+
+// Writes a decimal point and the digits after it; writes nothing if there are no digits.
+pub(crate) fn write_fraction<W: fmt::Write>(f: &mut fmt::Formatter<W>, digits: &[u8]) -> fmt::Result
+    requires { AllBelowBase 10 digits.now }
+    ensures { WritesOnOk W.write_str_gives f.old result (fraction_digits_text digits.now) f.new }
+{
+    if digits.is_empty() {
+        Ok(())
+    } else {
+        f.write_str(".")?;
+        write_digits(f, digits)
+    }
 }

@@ -1,8 +1,10 @@
-//! The values of MySQL's binary log that are more than bytes: server times and decimals, and their text.
+//! Values of MySQL's binary log: the packed DECIMAL format, the packed TIME and DATETIME formats,
+//! and the text of such values.
 #![tactic(auto)]
 
 pub mod decimal;
 mod digits;
+pub mod laws;
 #[cfg(test)]
 mod tests;
 pub mod time;

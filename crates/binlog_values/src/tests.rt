@@ -1,9 +1,11 @@
+//! Tests of dates and times, and of their text.
+
 use crate::time::{MysqlTime, MysqlTimestampType};
 use std::test::Fail;
 
 const NOON: i64 = 110_137_624_448 << 24;
 
-// Whether that text is written behind an old one.
+// Returns whether `write_text` appends the wanted text to a string that isn't empty.
 fn writes(rt: &HostRuntime, time: &MysqlTime, decimals: usize, wanted: &str) -> Result<bool, Fail> {
     let mut text = String::from_str(rt.alloc(), "old")?;
     time.write_text(decimals, &mut text)?;

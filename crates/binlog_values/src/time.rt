@@ -1,77 +1,79 @@
-//! A server's time, from a packed number, and its text.
+//! Dates and times by their fields, as MySQL's `MYSQL_TIME`: read from packed numbers, and written
+//! as text.
 
 ghost use Rattle.std.specs.Prelude.{◌≡◌, ◌++◌, if◌then◌else◌, is_ok};
 ghost use Rattle.binlog_values.specs.Times.{time_of, datetime_of, date_of};
 ghost use Rattle.binlog_values.specs.TimeText.{text_of};
 
-/// What a server's time is.
+/// The kind of a `MysqlTime`, as MySQL's `enum_mysql_timestamp_type`.
 #[allow(non_camel_case_types)]
 #[derive(Clone, Copy, Debug, PartialEq, Eq)]
 pub enum MysqlTimestampType {
-    /// Nothing; it has no text.
+    /// No date and no time; the text is empty.
     MYSQL_TIMESTAMP_NONE = -2,
-    /// An error; it has no text.
+    /// An invalid date or time; the text is empty.
     MYSQL_TIMESTAMP_ERROR = -1,
     /// A date.
     MYSQL_TIMESTAMP_DATE = 0,
     /// A date and a time of day.
     MYSQL_TIMESTAMP_DATETIME = 1,
-    /// A time, with a sign.
+    /// A time with a sign, without a date.
     MYSQL_TIMESTAMP_TIME = 2,
-    /// A date and a time of day, with the displacement of its zone.
+    /// A date and a time of day, with the displacement of a time zone.
     MYSQL_TIMESTAMP_DATETIME_TZ = 3,
 }
 
 mod text;
 
 use MysqlTimestampType::{MYSQL_TIMESTAMP_DATE, MYSQL_TIMESTAMP_DATETIME, MYSQL_TIMESTAMP_TIME};
+use binlog_base::misc::{DateTimeFields, TimeFields};
 use std::alloc::AllocError;
 use std::fmt::{InlineText, Write};
 use text::TimeText;
 
-// The bytes of the longest text: 26 of a datetime, and 11 of its zone.
+// The length of the longest text, in bytes: 26 for a date and time, and 11 for its zone.
 const LONGEST: usize = 37;
 
-/// A server's time by its fields.
+/// A date, a time, or both, by its fields, as MySQL's `MYSQL_TIME`.
 #[derive(Clone, Debug, PartialEq, Eq, Drop)]
 pub struct MysqlTime {
     pub year: u32,
     pub month: u32,
     pub day: u32,
-    /// Of a time it may be above 23.
+    /// The hour of the day, or all hours of a time without a date, which may be above 23.
     pub hour: u32,
     pub minute: u32,
     pub second: u32,
-    /// Microseconds.
+    /// The fraction of the second, in microseconds.
     pub second_part: u32,
     pub neg: bool,
     pub time_type: MysqlTimestampType,
-    /// The displacement of the zone, in seconds.
+    /// The displacement of the time zone, in seconds.
     pub time_zone_displacement: i32,
 }
 
 impl MysqlTime {
-    /// The time of a packed number: its hours stay one number.
+    /// Reads a time from a number in MySQL's packed TIME format. The hours aren't split into days.
     pub fn from_int64_time_packed(packed_value: i64) -> Self
         ensures { result ≡ time_of packed_value }
     {
-        let size = packed_value.unsigned_abs();
-        let seconds = size / 0x100_0000;
+        let time = TimeFields::of_packed(packed_value);
         MysqlTime {
             year: 0,
             month: 0,
             day: 0,
-            hour: (seconds / 0x1000 % 0x400) as u32,
-            minute: (seconds / 0x40 % 0x40) as u32,
-            second: (seconds % 0x40) as u32,
-            second_part: (size % 0x100_0000) as u32,
-            neg: packed_value < 0,
+            hour: time.hour,
+            minute: u32::from(time.minute),
+            second: u32::from(time.second),
+            second_part: time.microsecond,
+            neg: time.is_negative,
             time_type: MYSQL_TIMESTAMP_TIME,
             time_zone_displacement: 0,
         }
     }
 
-    /// The date of a packed number, with all fields of its date and time.
+    /// Reads a date from a number in MySQL's packed DATETIME format. The fields of the time of day
+    /// are read as well, but the text has only the date.
     pub fn from_int64_date_packed(packed_value: i64) -> Self
         ensures { result ≡ date_of packed_value }
     {
@@ -80,31 +82,34 @@ impl MysqlTime {
         date
     }
 
-    /// The date and time of a packed number.
+    /// Reads a date and a time of day from a number in MySQL's packed DATETIME format.
     pub fn from_int64_datetime_packed(packed_value: i64) -> Self
         ensures { result ≡ datetime_of packed_value }
     {
-        let size = packed_value.unsigned_abs();
-        let seconds = size / 0x100_0000;
-        let months = seconds / 0x40_0000;
+        let date = DateTimeFields::of_packed(packed_value);
         MysqlTime {
-            year: (months / 13) as u32,
-            month: (months % 13) as u32,
-            day: (seconds / 0x2_0000 % 0x20) as u32,
-            hour: (seconds / 0x1000 % 0x20) as u32,
-            minute: (seconds / 0x40 % 0x40) as u32,
-            second: (seconds % 0x40) as u32,
-            second_part: (size % 0x100_0000) as u32,
-            neg: packed_value < 0,
+            year: u32::from(date.year),
+            month: u32::from(date.month),
+            day: u32::from(date.day),
+            hour: u32::from(date.hour),
+            minute: u32::from(date.minute),
+            second: u32::from(date.second),
+            second_part: date.microsecond,
+            neg: date.is_negative,
             time_type: MYSQL_TIMESTAMP_DATETIME,
             time_zone_displacement: 0,
         }
     }
 
-    /// Writes the text at the end of the string, a time's or datetime's with `decimals` digits of its fraction, at most six. Where
-    /// memory is refused, the old text stays.
+    /// Appends the text to a string: `YYYY-MM-DD` for a date, `[-]hh:mm:ss` for a time, and both,
+    /// separated by a space, for a date and time.
+    ///
+    /// The seconds are followed by a point and `decimals` digits of the fraction, at most six; by
+    /// nothing if `decimals` is 0. Fails if memory can't be allocated; the string is then
+    /// unchanged.
     pub fn write_text(&self, decimals: usize, text: &mut String) -> Result<(), AllocError>
-        ensures { text.new.bytes.items ≡ (if is_ok result then text.old.bytes.items ++ text_of decimals self.now else text.old.bytes.items) }
+        ensures { let old = text.old.bytes.items in
+            text.new.bytes.items ≡ (if is_ok result then old ++ text_of decimals self.now else old) }
     {
         let shown = TimeText {
             time: self,

@@ -1,11 +1,13 @@
--- A cover is the only one, and grows by a pair.
+-- Rows data is split into pairs in only one way, and a split can be extended by a pair.
 use Rattle.std.proofs.Common.{◌≡◌, ℕ, List, [], ◌∷◌, ◌++◌, length, Option, Some, None, refl, sym, ap, subst, ◌∙◌, inl, inr, arith, append_assoc}
+use Rattle.std.specs.List.{concat}
 use Rattle.std.proofs.lemmas.List.{length-append, append_cancel_left, append-nil}
+use Rattle.std.proofs.lemmas.List.Folds.{concat-append}
 use Rattle.binlog_base.specs.declared.fault.Fault.{Fault}
 use Rattle.mysql_binlog_rows.specs.Images.{Grammar, Pair, pair}
-use Rattle.mysql_binlog_rows.specs.Cover.{IsPair, RestFault, ArePairs, concat, EndsWith, Covers}
-use Rattle.binlog_base.specs.Exact.{one_spelling, one_fault, refused_no_spelling}
-use Rattle.mysql_binlog_rows.specs.ImagesExact.{IsSound, exact_pair}
+use Rattle.mysql_binlog_rows.specs.Cover.{IsPair, RestFault, ArePairs, EndsWith, Covers}
+use Rattle.binlog_base.specs.Lemmas.Format.{one_spelling, one_fault, refused_no_spelling}
+use Rattle.mysql_binlog_rows.specs.Lemmas.Images.{IsSound, exact_pair}
 
 rest_fault_one : (g : Grammar) → IsSound g → (r : List ℕ) (d e : Fault) → RestFault g r d → RestFault g r e → d ≡ e
 rest_fault_one g sound r d e hd he =
@@ -26,7 +28,7 @@ ends_one g sound r None (Some f) he hf = absurd (omega (arith, ap length he, hf.
 ends_one g sound r (Some e) None he hf = absurd (omega (arith, ap length hf, he.0))
 ends_one g sound r (Some e) (Some f) he hf = ap Some (rest_fault_one g sound r e f he.2 hf.2)
 
--- where a pair stands the data doesn't end
+-- a rest can't start with a pair
 goes_further : (g : Grammar) (r x more : List ℕ) (p : Pair) (e : Option Fault) → EndsWith g r e → r ≡ x ++ more → IsPair g x p → ⊥
 goes_further g r x more p None he front is = omega (arith, ap length he, ap length front, length-append x more, is.0)
 goes_further g r x more p (Some e) he front is = he.1 x more p front is
@@ -59,7 +61,7 @@ covers_one g sound bytes ps qs e f a b =
     let one = parts_one g sound a.parts b.parts a.rest b.rest ps qs e f (sym a.whole ∙ b.whole) a.each b.each a.ending b.ending in
     (one.1, one.2)
 
--- lists of pairs with the same bytes are the same, and no pair is a proper front of another
+-- lists of pairs with the same bytes are the same, and no pair is a proper prefix of another
 pub pairs_one : (g : Grammar) → IsSound g → (xs ys : List (List ℕ)) (ps qs : List Pair) → ArePairs g xs ps → ArePairs g ys qs → concat xs ≡ concat ys → (xs ≡ ys) × (ps ≡ qs)
 pairs_one g sound xs ys ps qs hx hy same =
     let one = parts_one g sound xs ys [] [] ps qs None None (ap (λ (t : List ℕ). t ++ []) same) hx hy refl refl in
@@ -69,10 +71,6 @@ pub no_proper_front : (g : Grammar) → IsSound g → (x more : List ℕ) (p q :
 no_proper_front g sound x more p q hp hq =
     let one = one_spelling (pair g) (exact_pair g sound) x (x ++ more) more [] p q hp.1 hq.1 (sym (append-nil (x ++ more))) in
     append_cancel_left x more [] (sym one.0 ∙ sym (append-nil x))
-
-concat-last : (xs : List (List ℕ)) (x : List ℕ) → concat (xs ++ x ∷ []) ≡ concat xs ++ x
-concat-last [] x = append-nil x
-concat-last (y ∷ ys) x = ap (λ (t : List ℕ). y ++ t) (concat-last ys x) ∙ sym (append_assoc y (concat ys) x)
 
 are-last : (g : Grammar) (xs : List (List ℕ)) (ps : List Pair) (x : List ℕ) (p : Pair) → ArePairs g xs ps → IsPair g x p → ArePairs g (xs ++ x ∷ []) (ps ++ p ∷ [])
 are-last g [] [] x p h is = (is, tt)
@@ -85,7 +83,8 @@ SoFar g bytes ps left = (parts : List (List ℕ)) × (bytes ≡ concat parts ++ 
 
 pub one_pair_more : (g : Grammar) (bytes : List ℕ) (ps : List Pair) (old new x : List ℕ) (p : Pair) → SoFar g bytes ps old → old ≡ x ++ new → IsPair g x p → SoFar g bytes (ps ++ p ∷ []) new
 one_pair_more g bytes ps old new x p h front is =
-    (h.0 ++ x ∷ [], h.1 ∙ ap (λ (t : List ℕ). concat h.0 ++ t) front ∙ sym (append_assoc (concat h.0) x new) ∙ ap (λ (t : List ℕ). t ++ new) (sym (concat-last h.0 x)), are-last g h.0 ps x p h.2 is)
+    let joined : concat (h.0 ++ x ∷ []) ≡ concat h.0 ++ x = rw (concat-append h.0 (x ∷ []), append-nil x) refl in
+    (h.0 ++ x ∷ [], h.1 ∙ ap (λ (t : List ℕ). concat h.0 ++ t) front ∙ sym (append_assoc (concat h.0) x new) ∙ ap (λ (t : List ℕ). t ++ new) (sym joined), are-last g h.0 ps x p h.2 is)
 
 pub covers_from : (g : Grammar) (bytes : List ℕ) (ps : List Pair) (left : List ℕ) (e : Option Fault) → SoFar g bytes ps left → EndsWith g left e → Covers g bytes ps e
 covers_from g bytes ps left e h ending = record { parts = h.0; rest = left; whole = h.1; each = h.2; ending = ending }

@@ -1,4 +1,4 @@
--- Values that are compared are compared as cells.
+-- Comparing two lists of values compares their cells.
 use Rattle.std.proofs.Common.{◌≡◌, List, map, Option, Some, None}
 use mathlib.Core.Path.{refl, ◌∙◌, sym}
 use Rattle.std.specs.Option.{option_map, option_eq}

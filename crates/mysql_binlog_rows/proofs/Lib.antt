@@ -1,3 +1,4 @@
+-- The proofs of this crate.
 pub mod Covers
 pub mod Loop
 pub mod Plans

@@ -1,4 +1,4 @@
--- What a hole of width 6 with zeros writes.
+-- What the format `{:06}` writes for a signed number.
 use Rattle.std.proofs.Common.{◌≡◌, append-nil, ◌++◌, ℕ, ◌^◌, ◌-◌, length, replicate, Bool, true, false, arith}
 use Rattle.std.specs.Prelude.{ℤ, ◌∷◌, [], unsigned_abs}
 use Rattle.std.specs.Int.{is_negative}

@@ -1,10 +1,10 @@
--- The columns so far and those that are left.
+-- The loop that makes a plan: the columns so far, and those that are left.
 use Rattle.std.proofs.Common.{◌≡◌, ℕ, ◌+◌, ◌<◌, ◌≤◌, List, [], ◌∷◌, ◌++◌, Bool, true, false, length, drop, get_or, Some, None, Ok, Err, refl, ap, sym, ◌∙◌, append_assoc, arith, add-one, drop-cons, Option, Result}
 use Rattle.std.specs.Prelude.{slice_get}
 use Rattle.std.proofs.lemmas.List.{drop_all, append-nil, map-append}
 use Rattle.std.proofs.lemmas.List.Elements.{filter-append}
 use Rattle.binlog_base.specs.declared.fault.Fault.{Fault}
-use Rattle.binlog_base.specs.Values.{ColumnParts}
+use Rattle.binlog_base.specs.Values.{ColumnView}
 use Rattle.binlog_table.specs.TableMap.{TableMap}
 use Rattle.binlog_table.specs.Chunks.{chunk_at}
 use Rattle.binlog_table.specs.ColumnTypes.{raw_type_of, real_type_of}
@@ -48,14 +48,14 @@ columns_more t ss s p = rw (filter-append (λ (u : Slot). u.present) ss (s ∷ [
 pub columns_same : (t : TableMap) (ss : List Slot) (s : Slot) → s.present ≡ false → columns_of t (ss ++ s ∷ []) ≡ columns_of t ss
 columns_same t ss s p = rw (filter-append (λ (u : Slot). u.present) ss (s ∷ []), p, append-nil) refl
 
-abbrev image_with : Slots → ℕ → List ColumnParts → Image
+abbrev image_with : Slots → ℕ → List ColumnView → Image
 image_with ss n cs = record { slots = ss; count = n; columns = cs }
 
--- the parts of a plan make the image
-pub image_is : (t : TableMap) (total : Slots) (ss : Slots) (m n : ℕ) (cs : List ColumnParts) → total ≡ ss → m ≡ n → cs ≡ columns_of t ss.typed → image_with ss m cs ≡ image_with total n (columns_of t total.typed)
+-- a plan with these parts is the layout of the image
+pub image_is : (t : TableMap) (total : Slots) (ss : Slots) (m n : ℕ) (cs : List ColumnView) → total ≡ ss → m ≡ n → cs ≡ columns_of t ss.typed → image_with ss m cs ≡ image_with total n (columns_of t total.typed)
 image_is t total ss m n cs p q r = rw (p, q, r) refl
 
--- what is made of the next chunk is the column
+-- the column made from the next chunk of metadata is the column at that index
 pub slot_is : (t : TableMap) (i : ℕ) (ps : List Bool) (present : Bool) (metadata : Option (List ℕ)) (r : Result Slot Fault)
     → metadata ≡ chunk_at t.types t.metadata (i + 0) → present ≡ get_or ps i false
     → r ≡ typed_slot (real_type_of (raw_type_of (slice_get t.types i)) metadata) metadata present i

@@ -1,36 +1,29 @@
--- The whole run: the events are one, and so are their pairs.
-use Rattle.std.proofs.Common.{◌≡◌, ℕ, List, [], Option, None, Result, Ok, Err, sym, ap, subst, refl, ◌∙◌, inl, inr}
-use Rattle.std.specs.Prelude.{IfOk, IfErr}
+-- Decoding both events: the bytes allow only one table map event, one rows event and one list of
+-- pairs.
+use Rattle.std.proofs.Common.{◌≡◌, ℕ, List, [], Option, None, Result, Err, sym, ap, subst, refl, ◌∙◌, inl, inr}
+use Rattle.std.specs.List.{concat}
 use Rattle.std.proofs.lemmas.List.{append-nil}
 use Rattle.binlog_base.specs.declared.fault.Fault.{Fault}
-use Rattle.binlog_base.specs.Exact.{ok_is, err_is, ok_or_err}
+use Rattle.binlog_base.specs.Lemmas.Format.{ok_is, err_is, ok_or_err}
 use Rattle.binlog_table.specs.TableMap.{TableMap, table_map}
-use Rattle.binlog_table.specs.TableMapExact.{exact_table_map}
+use Rattle.binlog_table.specs.Lemmas.TableMap.{exact_table_map}
 use Rattle.mysql_binlog_rows.specs.RowsEvent.{RowsEvent, rows_event}
-use Rattle.mysql_binlog_rows.specs.RowsEventExact.{exact_rows_event}
+use Rattle.mysql_binlog_rows.specs.Lemmas.RowsEvent.{exact_rows_event}
 use Rattle.mysql_binlog_rows.specs.Images.{Pair, grammar_of}
-use Rattle.mysql_binlog_rows.specs.ImagesExact.{grammar_sound}
-use Rattle.mysql_binlog_rows.specs.Cover.{Covers, concat}
+use Rattle.mysql_binlog_rows.specs.Lemmas.Images.{grammar_sound}
+use Rattle.mysql_binlog_rows.specs.Cover.{Covers}
 use Rattle.mysql_binlog_rows.specs.Decodes.{Input, IsTable, IsEvent, Decodes, IsAllPairs, IsRefused}
 use Rattle.mysql_binlog_rows.proofs.Covers.{covers_one}
-
-pub if_ok : {A : Type 0} (r : Result A Fault) (P Q : A → Type 0) → ((a : A) → P a → Q a) → IfOk r P → IfOk r Q
-if_ok (Ok a) P Q f h = f a h
-if_ok (Err e) P Q f h = tt
-
-pub if_err : {A : Type 0} (r : Result A Fault) (P Q : Fault → Type 0) → ((e : Fault) → P e → Q e) → IfErr r P → IfErr r Q
-if_err (Ok a) P Q f h = tt
-if_err (Err e) P Q f h = f e h
 
 table_one : (i : Input) (t u : TableMap) → IsTable i t → IsTable i u → t ≡ u
 table_one i t u ht hu =
     let ef = exact_table_map i.table_post_header_len in
-    ap (λ (p : TableMap × List ℕ). p.0) (ok_is (t, []) (u, []) (sym (ef.again i.table t ht) ∙ ef.again i.table u hu))
+    ap (λ (p : TableMap × List ℕ). p.0) (ok_is (t, []) (u, []) (sym (ef.complete i.table t ht) ∙ ef.complete i.table u hu))
 
 event_one : (i : Input) (d e : RowsEvent) → IsEvent i d → IsEvent i e → d ≡ e
 event_one i d e hd he =
-    let ef = exact_rows_event i.ctx.event_type i.ctx.post_header_len i.ctx.write_rows_post_header_len in
-    ap (λ (p : RowsEvent × List ℕ). p.0) (ok_is (d, []) (e, []) (sym (ef.again i.rows d hd) ∙ ef.again i.rows e he))
+    let ef = exact_rows_event i.ctx in
+    ap (λ (p : RowsEvent × List ℕ). p.0) (ok_is (d, []) (e, []) (sym (ef.complete i.rows d hd) ∙ ef.complete i.rows e he))
 
 pub decoded_one : (i : Input) (ps qs : List Pair) (e f : Option Fault) → Decodes i ps e → Decodes i qs f → (ps ≡ qs) × (e ≡ f)
 decoded_one i ps qs e f a b =
@@ -40,7 +33,7 @@ decoded_one i ps qs e f a b =
     let other = subst (λ (t : TableMap). Covers (grammar_of t a.event) a.event.rows_data qs f) t-is with_event in
     covers_one (grammar_of a.table a.event) (grammar_sound a.table a.event) a.event.rows_data ps qs e f a.covers other
 
--- pairs that are together the rows data cover it
+-- if the rows data is exactly a list of pairs, it is decoded to them without a fault
 pub all_decode : (i : Input) (parts : List (List ℕ)) (ps : List Pair) → IsAllPairs i parts ps → Decodes i ps None
 all_decode i parts ps h = record {
   table = h.table;
@@ -50,13 +43,13 @@ all_decode i parts ps h = record {
   covers = record { parts = parts; rest = []; whole = h.whole ∙ sym (append-nil (concat parts)); each = h.each; ending = refl };
 }
 
--- ---- a refused event isn't read, and its fault is one
+-- ---- a refused event can't be read, and has only one fault
 
 abbrev table_at : Input → Result (TableMap × List ℕ) Fault
-table_at i = (table_map i.table_post_header_len).at i.table
+table_at i = (table_map i.table_post_header_len).parse i.table
 
 abbrev event_at : Input → Result (RowsEvent × List ℕ) Fault
-event_at i = (rows_event i.ctx.event_type i.ctx.post_header_len i.ctx.write_rows_post_header_len).at i.rows
+event_at i = (rows_event i.ctx).parse i.rows
 
 abbrev refusal : {A : Type 0} → Fault → Result A Fault
 refusal e = Err e
@@ -65,24 +58,24 @@ pub table_refused : {A : Type 0} (i : Input) (d e : Fault) → table_at i ≡ Er
 table_refused {A} i d e h r =
     let ef = exact_table_map i.table_post_header_len in
     elim r [
-      | inl l ↦ ap (refusal {A = A}) (err_is d e (sym h ∙ ef.only i.table e l))
-      | inr o ↦ absurd (ok_or_err (table_at i) (o.0, []) d (ef.again i.table o.0 o.1) h)
+      | inl l ↦ ap (refusal {A = A}) (err_is d e (sym h ∙ ef.refused_complete i.table e l))
+      | inr o ↦ absurd (ok_or_err (table_at i) (o.0, []) d (ef.complete i.table o.0 o.1) h)
     ]
 
 pub event_refused : {A : Type 0} (i : Input) (t : TableMap) (d e : Fault) → IsTable i t → event_at i ≡ Err d → IsRefused i e → refusal {A = A} d ≡ refusal e
 event_refused {A} i t d e is h r =
     let tf = exact_table_map i.table_post_header_len in
-    let ef = exact_rows_event i.ctx.event_type i.ctx.post_header_len i.ctx.write_rows_post_header_len in
+    let ef = exact_rows_event i.ctx in
     elim r [
-      | inl l ↦ absurd (ok_or_err (table_at i) (t, []) e (tf.again i.table t is) (tf.only i.table e l))
-      | inr o ↦ ap (refusal {A = A}) (err_is d e (sym h ∙ ef.only i.rows e o.2))
+      | inl l ↦ absurd (ok_or_err (table_at i) (t, []) e (tf.complete i.table t is) (tf.refused_complete i.table e l))
+      | inr o ↦ ap (refusal {A = A}) (err_is d e (sym h ∙ ef.refused_complete i.rows e o.2))
     ]
 
 pub none_refused : (i : Input) (t : TableMap) (v : RowsEvent) (e : Fault) → IsTable i t → IsEvent i v → IsRefused i e → ⊥
 none_refused i t v e is_table is_event r =
     let tf = exact_table_map i.table_post_header_len in
-    let ef = exact_rows_event i.ctx.event_type i.ctx.post_header_len i.ctx.write_rows_post_header_len in
+    let ef = exact_rows_event i.ctx in
     elim r [
-      | inl l ↦ ok_or_err (table_at i) (t, []) e (tf.again i.table t is_table) (tf.only i.table e l)
-      | inr o ↦ ok_or_err (event_at i) (v, []) e (ef.again i.rows v is_event) (ef.only i.rows e o.2)
+      | inl l ↦ ok_or_err (table_at i) (t, []) e (tf.complete i.table t is_table) (tf.refused_complete i.table e l)
+      | inr o ↦ ok_or_err (event_at i) (v, []) e (ef.complete i.rows v is_event) (ef.refused_complete i.rows e o.2)
     ]

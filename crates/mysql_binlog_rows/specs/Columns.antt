@@ -1,4 +1,5 @@
--- What the pairs of an iterator are read by, before and after its first pair.
+-- The layout by which an iterator reads pairs: the same before and after its first pair. It is a
+-- module of its own because `Columns`, a type of the code, is declared by means of Rows and Images.
 use Rattle.mysql_binlog_rows.specs.declared.rows_event.rows.Columns.{Columns}
 use Rattle.mysql_binlog_rows.specs.declared.rows_event.rows.Columns.TheVariants.{Events, Plans}
 use Rattle.mysql_binlog_rows.specs.Images.{Grammar}

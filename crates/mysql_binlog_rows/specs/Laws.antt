@@ -1,19 +1,20 @@
--- What follows of the grammar of the pairs, stated by the laws of the crate.
+-- The statements that the functions of `laws.rt` prove about pairs of rows.
 use Rattle.std.specs.Prelude.{◌≡◌, ℕ, List, [], ◌++◌, Option}
+use Rattle.std.specs.List.{concat}
 use Rattle.binlog_base.specs.declared.fault.Fault.{Fault}
 use Rattle.binlog_table.specs.TableMap.{TableMap}
 use Rattle.mysql_binlog_rows.specs.RowsEvent.{RowsEvent}
 use Rattle.mysql_binlog_rows.specs.Images.{Pair, grammar_of}
-use Rattle.mysql_binlog_rows.specs.Cover.{IsPair, ArePairs, concat, Covers}
+use Rattle.mysql_binlog_rows.specs.Cover.{IsPair, ArePairs, Covers}
 
--- pairs of a table and an event whose bytes together are the same are the same pairs
+-- two lists of pairs of an event that have the same bytes are the same list
 abbrev pub OneListOfPairs : Type 0
 OneListOfPairs = (t : TableMap) (e : RowsEvent) (xs ys : List (List ℕ)) (ps qs : List Pair) → ArePairs (grammar_of t e) xs ps → ArePairs (grammar_of t e) ys qs → concat xs ≡ concat ys → (xs ≡ ys) × (ps ≡ qs)
 
--- no pair is a proper front of another
+-- no pair is a proper prefix of another
 abbrev pub NoProperFront : Type 0
 NoProperFront = (t : TableMap) (e : RowsEvent) (x more : List ℕ) (p q : Pair) → IsPair (grammar_of t e) x p → IsPair (grammar_of t e) (x ++ more) q → more ≡ []
 
--- rows data has one cover
+-- rows data has only one list of pairs up to its first fault, and only one such fault
 abbrev pub OneCover : Type 0
 OneCover = (t : TableMap) (e : RowsEvent) (rows_data : List ℕ) (ps qs : List Pair) (end other : Option Fault) → Covers (grammar_of t e) rows_data ps end → Covers (grammar_of t e) rows_data qs other → (ps ≡ qs) × (end ≡ other)

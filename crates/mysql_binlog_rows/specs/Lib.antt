@@ -1,13 +1,12 @@
+-- The definitions that the contracts of this crate use.
 pub mod RowsEvent
-pub mod RowsEventExact
 pub mod Cells
-pub mod CellsExact
 pub mod OldTimes
 pub mod Images
-pub mod ImagesExact
 pub mod Cover
 pub mod Laws
 pub mod Rows
 pub mod Columns
 pub mod Decodes
 pub mod Equality
+pub mod Lemmas

@@ -1,15 +1,17 @@
--- The layout of a rows event.
+-- The layout of a rows event of MySQL's binary log.
 use Rattle.std.specs.Prelude.{ℕ, ◌+◌, ◌-◌, ◌^◌, ◌==◌, min, Bool, true, false, List, [], length, Option, Some, None}
 use Rattle.std.specs.Option.{option_map}
 use Rattle.binlog_base.specs.declared.bits.BitOrder.TheVariants.{LeastSignificantFirst}
-use Rattle.binlog_base.specs.Format.{Format, bytes, done, both, as_value, choice, rest}
-use Rattle.binlog_base.specs.Numbers.{little, lenenc, lenenc_bytes}
+use Rattle.binlog_base.specs.Format.{Format, take_bytes, no_bytes, sequence, map_value, choice, all_left}
+use Rattle.binlog_base.specs.Numbers.{little_endian, lenenc, lenenc_bytes}
 use Rattle.binlog_base.specs.Bits.{bits_of, bitmap_len}
 use Rattle.binlog_consts.specs.declared.consts.event_type.EventType.{EventType}
+use Rattle.mysql_binlog_rows.specs.declared.rows_event.event.RowsEventCtx.{RowsEventCtx}
 use Rattle.binlog_consts.specs.declared.consts.event_type.EventType.TheVariants as event
 use Rattle.binlog_table.specs.TableMap.{table_id}
 
--- which images an event of a type has: both for updates, the one before for deletes, the one after for all others
+-- which images an event of a type has: both for updates, only the one before the change for
+-- deletes, and only the one after the change for all others
 abbrev pub has_before : EventType → Bool
 has_before event.UPDATE_ROWS_EVENT = true
 has_before event.UPDATE_ROWS_EVENT_V1 = true
@@ -23,7 +25,7 @@ has_after event.DELETE_ROWS_EVENT = false
 has_after event.DELETE_ROWS_EVENT_V1 = false
 has_after _ = true
 
--- an event without where it lies in memory
+-- a rows event, whatever its place in memory
 pub record RowsEvent : Type 0 where
   pub event_type : EventType
   pub table_id : ℕ
@@ -34,27 +36,29 @@ pub record RowsEvent : Type 0 where
   pub after : Option (List ℕ)
   pub rows_data : List ℕ
 
--- extra data: a number of two bytes, and that many bytes less those two
+-- the extra data: its length in two bytes, which counts these two bytes as well, and the data
 unfoldable pub extra_data : Format (List ℕ)
-extra_data = both (little 2) (λ n. bytes (n - 2))
+extra_data = sequence (little_endian 2) (λ n. take_bytes (n - 2))
 
--- a bit for each column, where the event has the image
+-- the bitmap of an image, a bit for each column, if the event has the image
 unfoldable pub bitmap : Bool → ℕ → Format (Option (List ℕ))
-bitmap is_there count = choice is_there (as_value (bytes (bitmap_len count)) Some) (done None)
+bitmap is_there count = choice is_there (map_value (take_bytes (bitmap_len count)) Some) (no_bytes None)
 
--- Its parts, one behind the other: table id by the event's own post-header length, flags, extra data where that length is the one of
--- WRITE_ROWS_EVENT, the count of the columns, the bitmaps that the type has, and the rows data to the end.
-unfoldable pub rows_event : EventType → ℕ → ℕ → Format RowsEvent
-rows_event event_type post_header_len write_rows_post_header_len =
-    both (table_id post_header_len) (λ id.
-    both (little 2) (λ flags.
-    both (choice (post_header_len == write_rows_post_header_len) extra_data (done [])) (λ extra.
-    both lenenc (λ count.
-    both (bitmap (has_before event_type) count) (λ before.
-    both (bitmap (has_after event_type) count) (λ after.
-    as_value rest (λ rows. record { event_type = event_type; table_id = id; flags = flags; extra_data = extra; num_columns = count; before = before; after = after; rows_data = rows })))))))
+-- The parts of a rows event: the table id, whose length follows from the event's own post-header
+-- length; the flags; the extra data if that post-header length is the one of WRITE_ROWS_EVENT; the
+-- number of columns; the bitmaps of the images that the type has; and the rows data to the end.
+unfoldable pub rows_event : RowsEventCtx → Format RowsEvent
+rows_event ctx =
+    sequence (table_id ctx.post_header_len) (λ id.
+    sequence (little_endian 2) (λ flags.
+    sequence (choice (ctx.post_header_len == ctx.write_rows_post_header_len) extra_data (no_bytes [])) (λ extra.
+    sequence lenenc (λ count.
+    sequence (bitmap (has_before ctx.event_type) count) (λ before.
+    sequence (bitmap (has_after ctx.event_type) count) (λ after.
+    map_value all_left (λ rows.
+    record { event_type = ctx.event_type; table_id = id; flags = flags; extra_data = extra; num_columns = count; before = before; after = after; rows_data = rows })))))))
 
--- the columns of an image: a bit for each column of the event
+-- which columns are in an image: a bit for each column of the event
 abbrev pub image_columns : ℕ → Option (List ℕ) → Option (List Bool)
 image_columns count bitmap = option_map (bits_of LeastSignificantFirst count) bitmap
 
@@ -62,8 +66,8 @@ abbrev pub bitmap_length : Option (List ℕ) → ℕ
 bitmap_length None = 0
 bitmap_length (Some bytes) = length bytes
 
--- The length of an event's body: id, flags and the length of extra data take 6, 2 and 2 bytes. It is at most what the header's length
--- field can tell, less the header.
+-- The length of an event's body: the table id, the flags and the length of the extra data take 6, 2
+-- and 2 bytes. It is at most the greatest length that an event header can give, less the header.
 abbrev pub event_len : RowsEvent → ℕ
 event_len e =
     min (6 + 2 + 2 + length e.extra_data + length (lenenc_bytes e.num_columns) + bitmap_length e.before + bitmap_length e.after + length e.rows_data) (2 ^ 32 - 1 - 19)

@@ -1,4 +1,4 @@
-//! Rows events: the event by its written layout, and its pairs of rows.
+//! Reads the rows events of MySQL's binary log, and their pairs of rows.
 #![tactic(auto)]
 
 pub mod laws;

@@ -1,4 +1,4 @@
-//! Rows: the images of a rows event.
+//! Rows as they were before or after a change: the images of a rows event.
 
 mod binlog_row;
 mod plan;

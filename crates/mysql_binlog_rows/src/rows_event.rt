@@ -1,4 +1,4 @@
-//! The rows event and its pairs of rows.
+//! The rows event of MySQL's binary log, and its pairs of rows.
 
 mod decode;
 mod event;

@@ -1,3 +1,5 @@
+//! Tests of rows events and their pairs of rows.
+
 use crate::laws::pairs_are_unambiguous;
 use crate::row::BinlogRow;
 use crate::rows_event::{Decoded, RowPair, RowsEvent, RowsEventCtx, decode_pairs};
@@ -10,7 +12,8 @@ use std::alloc::Global;
 use std::rc::RcSlice;
 use std::test::Fail;
 
-/// An event of this type, whose post-header has this length, where that of `WRITE_ROWS_EVENT` has 10.
+/// Reads an event of this type, whose post-header has this length. The post-header length of
+/// `WRITE_ROWS_EVENT` is 10.
 fn read(bytes: &[u8], event_type: EventType, post_header_len: u8) -> Result<RowsEvent<'_>, Fault> {
     ParseBuf(bytes).parse(RowsEventCtx {
         event_type,
@@ -32,7 +35,8 @@ fn has_parts(event: &RowsEvent<'_>, table_id: u64, columns: u64, rows: &[u8]) ->
     event.table_id() == table_id && event.num_columns() == columns && event.rows_data() == rows
 }
 
-/// How many columns the images have, before and after; none for an image that isn't there.
+/// Returns how many columns the images before and after the change have; none for an image that
+/// isn't there.
 fn image_counts(event: &RowsEvent<'_>) -> (Option<usize>, Option<usize>) {
     let before = event.columns_before_image();
     let after = event.columns_after_image();
@@ -77,7 +81,7 @@ fn images_by_type(rt: HostRuntime) -> Result<(), Fail> {
 
 #[test]
 fn first_version(rt: HostRuntime) -> Result<(), Fail> {
-    // The own post-header has 6 bytes: the table id has 4, and there is no extra data.
+    // The event's own post-header has 6 bytes: the table id has 4, and there is no extra data.
     let bytes = [1, 0, 0, 0, 1, 0, 2, 3, 3];
     let event = read(&bytes, EventType::WRITE_ROWS_EVENT_V1, 6)?;
     assert!(rt; has_parts(&event, 1, 2, &[3]));
@@ -194,7 +198,7 @@ fn inserted(rt: &HostRuntime, table: &[u8], rows: &[u8]) -> Result<Decoded, Faul
     decode(rt, table, rows, EventType::WRITE_ROWS_EVENT, 10)
 }
 
-/// Whether the value of a place is this number; none stands for NULL.
+/// Returns whether the value at an index is this number, or NULL if `number` is none.
 fn is_number(row: &BinlogRow, index: usize, number: Option<i64>) -> bool {
     match row.as_ref(index) {
         Some(BinlogValue::Value(Value::Int(other))) => number == Some(*other),
@@ -203,7 +207,7 @@ fn is_number(row: &BinlogRow, index: usize, number: Option<i64>) -> bool {
     }
 }
 
-/// Whether the value of a place is this text; none stands for NULL.
+/// Returns whether the value at an index is this text, or NULL if `text` is none.
 fn is_text(row: &BinlogRow, index: usize, text: Option<&[u8]>) -> bool {
     match row.as_ref(index) {
         Some(BinlogValue::Value(Value::Bytes(other))) => text == Some(other.as_slice()),
@@ -220,7 +224,7 @@ fn is_inserted(pair: &RowPair, number: Option<i64>, text: Option<&[u8]>) -> bool
     }
 }
 
-/// Whether there are this many pairs, and this fault behind them.
+/// Whether there are this many pairs, and this fault after them.
 fn ends(decoded: &Result<Decoded, Fault>, pairs: usize, fault: Option<Fault>) -> bool {
     match decoded {
         Ok(decoded) => decoded.pairs.len() == pairs && decoded.fault == fault,
@@ -412,7 +416,7 @@ fn refused_runs(rt: HostRuntime) {
         1, 0, 0, 0, 0, 0, 1, 0, 2, 0, 0xfe, 0xff, 0xff, 0xff, 0xff, 0xff, 0xff, 0xff, 0xff,
     ];
     assert!(rt; refuses(&inserted(&rt, &two_columns(), &long), Fault::UnexpectedEof));
-    // Both events are refused: the table map event tells.
+    // Both events are refused: the fault is that of the table map event.
     assert!(rt;
         refuses(
             &inserted(&rt, &two_columns()[..20], &count),
@@ -422,7 +426,7 @@ fn refused_runs(rt: HostRuntime) {
 }
 
 #[test]
-fn what_is_not_carried(rt: HostRuntime) {
+fn what_is_not_supported(rt: HostRuntime) {
     // A deleted row, and a table with optional metadata.
     let rows = two_rows();
     let deleted = decode(&rt, &two_columns(), &rows, EventType::DELETE_ROWS_EVENT, 10);

@@ -9,11 +9,11 @@ mod tests;
 mod times;
 
 ghost use Rattle.std.specs.Prelude.{◌≡◌, true, false};
-ghost use Rattle.binlog_base.specs.Format.{Parses};
-ghost use Rattle.mysql_binlog_rows.specs.Cells.{Cell, PlainCell, cell_of, cell_by, cell};
-ghost use Rattle.mysql_binlog_rows.specs.CellsExact.{exact_cell};
-ghost use Rattle.mysql_binlog_rows.specs.Equality.{same_cell, same_cell_is_equivalence};
-ghost use Rattle.binlog_base.specs.Values.{plain_of};
+ghost use Rattle.binlog_base.specs.Format.{ParsesAs, OrMemory};
+ghost use Rattle.mysql_binlog_rows.specs.Cells.{Cell, cell_of, cell_by, cell};
+ghost use Rattle.mysql_binlog_rows.specs.Lemmas.Cells.{exact_cell};
+ghost use Rattle.mysql_binlog_rows.specs.Equality.{same_cell};
+ghost use Rattle.mysql_binlog_rows.specs.Lemmas.Equality.{same_cell_is_equivalence};
 ghost use Rattle.std.specs.Ordering.{on};
 ghost use Rattle.std.specs.Cmp.{on_per, partial_equiv_from_equiv};
 
@@ -21,7 +21,7 @@ use self::bytes::{read_fixed, read_text};
 use self::decimals::read_decimal;
 pub(crate) use self::form::{Form, form_of};
 use self::numbers::{read_double, read_float, read_integer, read_long_integer, read_variant};
-pub use self::times::negative_time;
+pub use self::times::signed_old_time;
 use self::times::{
     read_date, read_datetime, read_datetime2, read_time, read_time2, read_timestamp,
     read_timestamp2, read_year,
@@ -38,13 +38,6 @@ pub enum BinlogValue {
     Value(Value),
 }
 
-// Whether two plain values are the same.
-fn same_value(a: &Value, b: &Value) -> bool
-    ensures { result ≡ same_cell (PlainCell (plain_of a.now)) (PlainCell (plain_of b.now)) }
-{
-    a == b
-}
-
 /// Two are equal where their cells are the same.
 impl PartialEq for BinlogValue {
     ghost eq = { on cell_of same_cell };
@@ -53,7 +46,7 @@ impl PartialEq for BinlogValue {
 
     fn eq(&self, other: &Self) -> bool {
         match (self, other) {
-            (BinlogValue::Value(value), BinlogValue::Value(others)) => same_value(value, others),
+            (BinlogValue::Value(value), BinlogValue::Value(others)) => value == others,
         }
     }
 }
@@ -76,7 +69,7 @@ pub(crate) fn read_by(
     form: Form,
     buf: &mut ParseBuf<'_>,
 ) -> Result<BinlogValue, Fault>
-    ensures { Parses true cell_of result buf.new.0.now (cell_by form) buf.old.0.now }
+    ensures { OrMemory result (ParsesAs cell_of (cell_by form) result buf.old.0.now buf.new.0.now) }
 {
     match form {
         Form::Integer(width, unsigned) => read_integer(width, unsigned, buf),
@@ -107,7 +100,8 @@ fn read_cell(
     unsigned: bool,
     buf: &mut ParseBuf<'_>,
 ) -> Result<BinlogValue, Fault>
-    ensures { Parses true cell_of result buf.new.0.now (cell column_type metadata.now unsigned) buf.old.0.now }
+    ensures { OrMemory result (ParsesAs cell_of (cell column_type metadata.now unsigned) result
+        buf.old.0.now buf.new.0.now) }
 {
     read_by(alloc, form_of(column_type, metadata, unsigned)?, buf)
 }

@@ -1,2 +1,3 @@
+-- The proofs of this program.
 pub mod SixWords
 pub mod Digits

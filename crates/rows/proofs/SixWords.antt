@@ -1,4 +1,4 @@
--- Six words, one by one.
+-- A slice of six words has exactly these six items.
 use Rattle.std.proofs.Common.{arith, ◌≡◌, List, [], ◌∷◌, length, get_or}
 
 module _ {S : Type 0} where

@@ -1,2 +1,3 @@
+-- The definitions that the contracts of this program use.
 pub mod Words
 pub mod Lines

@@ -1,4 +1,4 @@
-//! The lines that the program prints.
+//! The lines that the program prints, one for each pair of rows.
 
 ghost use Rattle.std.specs.Prelude.{◌≤◌, Some, length};
 ghost use Rattle.std.specs.Fmt.{WritesOnOk};
@@ -15,7 +15,7 @@ use mysql_binlog_rows::rows_event::RowPair;
 use mysql_binlog_rows::value::BinlogValue;
 use std::fmt;
 
-// How many bytes are made digits at a time.
+// How many bytes are converted to digits at a time.
 const CHUNK: usize = 32;
 
 // Writes at most `CHUNK` bytes as hexadecimal digits.
@@ -52,7 +52,7 @@ impl fmt::Display for Hex<'_> {
     }
 }
 
-// A plain value.
+// The text of a plain value.
 #[derive(Drop)]
 struct Plain<'a>(&'a Value);
 
@@ -90,7 +90,7 @@ impl fmt::Display for Plain<'_> {
     }
 }
 
-// A cell; nothing where the value was taken.
+// The text of a cell; empty if the value was taken from its row.
 #[derive(Drop)]
 struct Cell<'a>(Option<&'a BinlogValue>);
 
@@ -108,7 +108,7 @@ impl fmt::Display for Cell<'_> {
     }
 }
 
-// The name of a column as lossy text; nothing where there is no column.
+// The name of a column, with invalid UTF-8 replaced; empty if there is no column.
 #[derive(Drop)]
 struct Name<'a>(Option<&'a Column>);
 
@@ -126,7 +126,7 @@ impl fmt::Display for Name<'_> {
     }
 }
 
-// The place `index` of a row: its column's name and its cell.
+// The column at `index` of a row, as `name=cell`, with a comma before it unless it is the first.
 #[derive(Drop)]
 struct Field<'a> {
     row: &'a BinlogRow,
@@ -144,7 +144,7 @@ impl fmt::Display for Field<'_> {
     }
 }
 
-// The places of a row, one behind the other.
+// All columns of a row, in order.
 #[derive(Drop)]
 struct Fields<'a>(&'a BinlogRow);
 
@@ -161,7 +161,7 @@ impl fmt::Display for Fields<'_> {
     }
 }
 
-// An image of a pair.
+// One row of a pair, in braces; `-` if it isn't there.
 #[derive(Drop)]
 struct Image<'a>(&'a Option<BinlogRow>);
 
@@ -179,12 +179,15 @@ impl fmt::Display for Image<'_> {
     }
 }
 
-/// Pairs of rows, a line each: `BEFORE -> AFTER`. An image that isn't there is `-`; else it is `{`, each place as `name=cell` (the
-/// name as lossy text), joined by `, `, and `}`.
+/// Displays pairs of rows, each as a line `BEFORE -> AFTER`.
 ///
-/// A cell is `NULL`, a whole number, `x` and lower-case hexadecimal for bytes, `f32:` or `f64:` and the bits of a float,
-/// `date(year,month,day,hour,minute,second,microseconds)`, or `time(negative,days,hours,minutes,seconds,microseconds)`. Of a value that
-/// was taken nothing is written.
+/// A row that isn't there is `-`. Any other row is its columns in braces, each as `name=cell`,
+/// separated by `, `. Invalid UTF-8 in a name is replaced.
+///
+/// A cell is `NULL`, a whole number, `x` and lower-case hexadecimal for bytes, `f32:` or `f64:` and
+/// the bits of a float in hexadecimal, `date(year,month,day,hour,minute,second,microseconds)`, or
+/// `time(negative,days,hours,minutes,seconds,microseconds)`. If the value was taken from the row,
+/// nothing is written for it.
 #[derive(Drop)]
 pub struct Lines<'a>(pub &'a [RowPair]);
 

@@ -20,17 +20,17 @@ fn main(rt: HostRuntime) -> ExitCode {
     }
 }
 
-// Runs on the arguments, and answers the status.
+// Runs the program on its arguments, and returns the exit status.
 fn print<O: io::Write>(rt: &HostRuntime, out: &mut O) -> u8 {
     match arguments(rt) {
         Ok(words) => run(rt.alloc(), &words, out, &mut rt.stderr()),
         Err(error) if error.kind() == ErrorKind::OutOfMemory => fail(out, Fault::Memory),
-        // An argument that isn't UTF-8: no words, so the usage is printed.
+        // If the arguments can't be read, treat them as none: the usage is printed.
         Err(_) => run(rt.alloc(), &[], out, &mut rt.stderr()),
     }
 }
 
-// The words after the program's name.
+// Returns the arguments after the program's name.
 fn arguments(rt: &HostRuntime) -> io::Result<Vec<String>> {
     let mut words = Vec::new(rt.alloc());
     for word in env::args(rt)?.skip(1) {

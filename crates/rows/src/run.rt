@@ -1,4 +1,4 @@
-//! The body of the program.
+//! Runs the program on its arguments.
 
 ghost use Rattle.std.specs.Prelude.{◌≡◌, ◌≢◌, ◌≤◌, map, length, OnOk, List, None};
 ghost use Rattle.std.specs.String.{string_bytes};
@@ -6,7 +6,7 @@ ghost use Rattle.std.specs.Io.KnownBytes.{Appends, Keeps};
 ghost use Rattle.mysql_binlog_rows.specs.Images.{Pair};
 ghost use Rattle.mysql_binlog_rows.specs.Decodes.{Input, Decodes};
 ghost use Rattle.rows.specs.Lines.{lines_text};
-ghost use Rattle.rows.specs.Words.{Say};
+ghost use Rattle.rows.specs.Words.{AreArguments};
 
 use crate::lines::Lines;
 use crate::words::{Words, WordsError};
@@ -16,19 +16,27 @@ use std::alloc::Global;
 use std::io;
 use std::io::Write;
 
-/// Runs on the words behind the program's name, `MLEN TYPE PLEN WLEN MAPHEX ROWSHEX`, and answers the exit status.
+/// Runs the program on the arguments after its name, `MLEN TYPE PLEN WLEN MAPHEX ROWSHEX`, and
+/// returns the exit status.
 ///
-/// MLEN, PLEN and WLEN are the post-header lengths of the table map event, of the rows event and of WRITE_ROWS_EVENT, decimal; TYPE is
-/// the rows event's type, in two hexadecimal digits; MAPHEX and ROWSHEX are the events' bodies, in hexadecimal digits.
+/// MLEN, PLEN and WLEN are the post-header lengths of the table map event, of the rows event and of
+/// WRITE_ROWS_EVENT, in decimal. TYPE is the rows event's type, in two hexadecimal digits. MAPHEX
+/// and ROWSHEX are the events' bodies, in hexadecimal digits.
 ///
-/// Each pair of rows is a line of `out`, as `Lines` writes it. Then, where there is a fault, comes the line `fault NAME`, with its
-/// number or cause in parentheses where it has one. The status is 0 without a fault, and 1 with one or where the output fails. Words
-/// out of their form are found before anything is decoded: one line to `err`, nothing to `out`, status 2.
+/// Each pair of rows is written to `out` as a line, in the form of `Lines`. If there is a fault,
+/// the line `fault NAME` follows, with the fault's number or cause in parentheses if it has one.
+/// The status is 0 if there is no fault, and 1 if there is one or if the output fails.
+///
+/// If there aren't six arguments, or one isn't in its form, nothing is decoded: one line is written
+/// to `err` and nothing to `out`, and the status is 2.
 pub fn run<O: Write, E: Write>(alloc: Global, words: &[String], out: &mut O, err: &mut E) -> u8
-    // Status 0: the words say two events, the pairs cover the rows data without a fault, and their lines were written.
-    ensures pairs { result ≡ 0 → (i : Input) × Say (map string_bytes words.now) i × ((pairs : List Pair) × Decodes i pairs None × Appends (O.contents out.old) (O.contents out.new) (lines_text pairs)) }
-    // Status 2: they say none, and nothing was written.
-    ensures usage { result ≡ 2 → (i : Input) → Say (map string_bytes words.now) i → ⊥ }
+    // Status 0: the arguments mean two events, the pairs cover the rows data without a fault, and
+    // their lines were written.
+    ensures pairs { result ≡ 0 → (i : Input) × AreArguments (map string_bytes words.now) i
+        × ((pairs : List Pair) × Decodes i pairs None
+        × Appends (O.contents out.old) (O.contents out.new) (lines_text pairs)) }
+    // Status 2: the arguments mean no two events, and nothing was written to the output.
+    ensures usage { result ≡ 2 → (i : Input) → AreArguments (map string_bytes words.now) i → ⊥ }
     ensures quiet { result ≡ 2 → out.new ≡ out.old }
     ensures count { length words.now ≢ 6 → result ≡ 2 }
     ensures status { result ≤ 2 }
@@ -51,7 +59,7 @@ pub fn run<O: Write, E: Write>(alloc: Global, words: &[String], out: &mut O, err
     }
 }
 
-/// Writes the line of a fault and answers the status that goes with it, 1, whether or not the line was written.
+/// Writes the line `fault NAME`, and returns the exit status 1, even if the line can't be written.
 pub(crate) fn fail<O: Write>(out: &mut O, fault: Fault) -> u8
     ensures { result ≡ 1 }
 {
@@ -64,9 +72,10 @@ fn print_fault<O: Write>(out: &mut O, fault: Fault) -> io::Result<()> {
     out.flush()
 }
 
-// The lines of the pairs, and that of the fault, if there is one.
+// Writes the lines of the pairs, and the line of the fault if there is one.
 fn print<O: Write>(out: &mut O, decoded: &Decoded) -> io::Result<()>
-    ensures { decoded.now.fault ≡ None → OnOk result (Appends (O.contents out.old) (O.contents out.new) (lines_text decoded.now.pairs.items)) }
+    ensures { decoded.now.fault ≡ None → OnOk result
+        (Appends (O.contents out.old) (O.contents out.new) (lines_text decoded.now.pairs.items)) }
 {
     let lines = Lines(&decoded.pairs);
     write!(out, "{lines}")?;

@@ -1,3 +1,5 @@
+//! Tests of the program's output and exit status.
+
 use crate::run::{fail, run};
 use crate::words::WordsError;
 use binlog_base::below::Value;
@@ -33,7 +35,8 @@ fn prints(
     Ok(answer == status && out.as_slice() == text.as_bytes() && err.as_slice() == usage.as_bytes())
 }
 
-/// The same of a WRITE_ROWS_EVENT over the table d.t.
+/// Returns whether the program, on a WRITE_ROWS_EVENT over the table d.t, ends with the status and
+/// writes the text.
 fn prints_rows(alloc: Global, rows: &str, status: u8, text: &str) -> Result<bool, AllocError> {
     prints(
         alloc,
@@ -83,7 +86,7 @@ fn rows_of_a_table(rt: HostRuntime) -> Result<(), Fail> {
 fn other_tables(rt: HostRuntime) -> Result<(), Fail> {
     let rows = "010000000000010002000203002A0000000261620200000000";
     let cases = [
-        // A deleted row, and optional metadata, aren't carried.
+        // A deleted row, and optional metadata, aren't supported.
         ("20", TABLE, 1, "fault Unhandled\n"),
         (
             "1E",
@@ -91,7 +94,8 @@ fn other_tables(rt: HostRuntime) -> Result<(), Fail> {
             1,
             "fault Unhandled\n",
         ),
-        // VARCHAR without metadata, an unknown type, and a string that is none.
+        // VARCHAR without metadata, an unknown type, and a STRING column whose metadata names
+        // another type.
         (
             "1E",
             "010000000000010001640001740002030F0002",
@@ -147,7 +151,7 @@ fn other_tables(rt: HostRuntime) -> Result<(), Fail> {
     Ok(())
 }
 
-/// Inserts that a MariaDB 10.11 server wrote, and what its tables then held.
+/// Inserts that a MariaDB 10.11 server wrote, and the rows that its tables held afterwards.
 #[test]
 fn real_inserts(rt: HostRuntime) -> Result<(), Fail> {
     let cases = [
@@ -355,7 +359,7 @@ fn forms_of_cells(rt: HostRuntime) -> Result<(), Fail> {
     Ok(())
 }
 
-/// A text of 70 bytes, which are made digits in three parts.
+/// A text of 70 bytes, which are converted to digits in three parts.
 #[test]
 fn long_bytes(rt: HostRuntime) -> Result<(), Fail> {
     let mut rows = String::from_str(rt.alloc(), "010000000000010002000202FE46")?;
@@ -401,7 +405,7 @@ fn usage(rt: HostRuntime) -> Result<(), Fail> {
     assert!(rt; prints(rt.alloc(), &good[..5], 2, "", USAGE)?);
     let seven = ["8", "1E", "10", "10", TABLE, "00", "00"];
     assert!(rt; prints(rt.alloc(), &seven, 2, "", USAGE)?);
-    // Each word out of its form, in its place.
+    // Each argument in turn isn't in its form.
     let bad = [
         (0, "256"),
         (0, ""),

@@ -1,9 +1,9 @@
-//! The words of the command line.
+//! Reads the arguments of the program.
 
 ghost use Rattle.std.specs.Prelude.{◌≡◌, ◌≢◌, ◌⊎◌, map, length, IfOk, IfErr, List, ℕ};
 ghost use Rattle.std.specs.String.{string_bytes};
 ghost use Rattle.mysql_binlog_rows.specs.Decodes.{Input};
-ghost use Rattle.rows.specs.Words.{IsByteNumber, IsHex, IsHexByte, IsEventType, SaySix, Say};
+ghost use Rattle.rows.specs.Words.{IsByteNumber, IsHex, IsHexByte, IsEventType, AreSixArguments, AreArguments, input_of};
 ghost use Rattle.rows.specs.declared.words.WordsError.TheVariants as WordsError;
 
 use binlog_consts::consts::EventType;
@@ -12,18 +12,18 @@ use mysql_binlog_rows::rows_event::RowsEventCtx;
 use std::alloc::Global;
 use thiserror::Error;
 
-/// Why the words are refused.
+/// Why the arguments are refused.
 #[derive(Clone, Copy, Debug, PartialEq, Eq, Error)]
 pub enum WordsError {
-    /// They are not six, or one is out of its form.
+    /// There aren't six arguments, or one isn't in its form.
     #[error("usage: rows MLEN TYPE PLEN WLEN MAPHEX ROWSHEX")]
     Usage,
-    /// Memory was refused.
+    /// Memory could not be allocated.
     #[error("out of memory")]
     Memory,
 }
 
-/// What the words say: the bodies of both events, and what they are read with.
+/// What the arguments mean: the bodies of both events, and what is needed to read them.
 #[derive(Drop)]
 pub struct Words {
     pub table_post_header_len: u8,
@@ -32,12 +32,12 @@ pub struct Words {
     pub rows: Vec<u8>,
 }
 
-// The number that one to three decimal digits write, from 0 to 255.
+// Reads a number from 0 to 255, written as one to three decimal digits.
 fn byte_number(word: &str) -> Result<u8, WordsError>
     ensures ok { IfOk result (λ n. IsByteNumber word.now n) }
     ensures err { IfErr result (λ e. (e ≡ WordsError.Usage) × ((n : ℕ) → IsByteNumber word.now n → ⊥)) }
 {
-    // `parse` takes a plus before the digits.
+    // `parse` accepts a plus before the digits, so it is refused here.
     if word.len() > 3 || matches!(word.as_bytes(), [b'+', ..]) {
         return Err(WordsError::Usage);
     }
@@ -47,7 +47,7 @@ fn byte_number(word: &str) -> Result<u8, WordsError>
     }
 }
 
-// The byte that two hexadecimal digits write.
+// Reads a byte, written as two hexadecimal digits.
 fn hex_byte(word: &str) -> Result<u8, WordsError>
     ensures ok { IfOk result (λ n. IsHexByte word.now n) }
     ensures err { IfErr result (λ e. (e ≡ WordsError.Usage) × ((n : ℕ) → IsHexByte word.now n → ⊥)) }
@@ -59,10 +59,11 @@ fn hex_byte(word: &str) -> Result<u8, WordsError>
     }
 }
 
-// The event type of the number that two hexadecimal digits write.
+// Reads an event type, written as its number in two hexadecimal digits.
 fn event_type(word: &str) -> Result<EventType, WordsError>
     ensures ok { IfOk result (λ type. IsEventType word.now type) }
-    ensures err { IfErr result (λ e. (e ≡ WordsError.Usage) × ((type : EventType) → IsEventType word.now type → ⊥)) }
+    ensures err { IfErr result (λ e. (e ≡ WordsError.Usage) × ((type : EventType) → IsEventType word.now type
+        → ⊥)) }
 {
     let number = hex_byte(word)?;
     match EventType::try_from(number) {
@@ -71,7 +72,7 @@ fn event_type(word: &str) -> Result<EventType, WordsError>
     }
 }
 
-// The bytes that two hexadecimal digits each write.
+// Reads bytes, each written as two hexadecimal digits.
 fn hex_bytes(alloc: Global, word: &str) -> Result<Vec<u8>, WordsError>
     ensures ok { IfOk result (λ bytes. IsHex word.now bytes.items) }
     ensures err { IfErr result (λ e. (e ≡ WordsError.Memory) ⊎ ((bytes : List ℕ) → IsHex word.now bytes → ⊥)) }
@@ -82,7 +83,7 @@ fn hex_bytes(alloc: Global, word: &str) -> Result<Vec<u8>, WordsError>
     })
 }
 
-// What six words say.
+// Reads the six arguments, in the order of the command line.
 fn six_words(
     alloc: Global,
     table_len: &str,
@@ -92,8 +93,10 @@ fn six_words(
     table: &str,
     rows: &str,
 ) -> Result<Words, WordsError>
-    ensures ok { IfOk result (λ w. SaySix table_len.now event.now len.now write_len.now table.now rows.now (record { table = w.table.items; table_post_header_len = w.table_post_header_len; rows = w.rows.items; ctx = w.ctx })) }
-    ensures err { IfErr result (λ e. (e ≡ WordsError.Memory) ⊎ ((i : Input) → SaySix table_len.now event.now len.now write_len.now table.now rows.now i → ⊥)) }
+    ensures ok { IfOk result (λ w. AreSixArguments
+        table_len.now event.now len.now write_len.now table.now rows.now (input_of w)) }
+    ensures err { IfErr result (λ e. (e ≡ WordsError.Memory) ⊎ ((i : Input) → AreSixArguments
+        table_len.now event.now len.now write_len.now table.now rows.now i → ⊥)) }
 {
     let table_post_header_len = byte_number(table_len)?;
     let event_type = event_type(event)?;
@@ -115,12 +118,14 @@ fn six_words(
 }
 
 impl Words {
-    /// What the six words say: `MLEN TYPE PLEN WLEN MAPHEX ROWSHEX`.
+    /// Reads the arguments `MLEN TYPE PLEN WLEN MAPHEX ROWSHEX`.
     ///
-    /// `Usage` where they are not six or one is out of its form, `Memory` where memory was refused.
+    /// The error is `Usage` if there aren't six arguments or one isn't in its form, and `Memory` if
+    /// memory can't be allocated.
     pub fn read(alloc: Global, words: &[String]) -> Result<Words, WordsError>
-        ensures ok { IfOk result (λ w. Say (map string_bytes words.now) (record { table = w.table.items; table_post_header_len = w.table_post_header_len; rows = w.rows.items; ctx = w.ctx })) }
-        ensures err { IfErr result (λ e. (e ≡ WordsError.Memory) ⊎ ((i : Input) → Say (map string_bytes words.now) i → ⊥)) }
+        ensures ok { IfOk result (λ w. AreArguments (map string_bytes words.now) (input_of w)) }
+        ensures err { IfErr result (λ e. (e ≡ WordsError.Memory)
+            ⊎ ((i : Input) → AreArguments (map string_bytes words.now) i → ⊥)) }
         ensures count { length words.now ≢ 6 → result ≡ Err WordsError.Usage }
     {
         if words.len() != 6 {

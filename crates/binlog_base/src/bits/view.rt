@@ -1,11 +1,17 @@
-ghost use Rattle.std.specs.Prelude.{◌≡◌, ℕ, min, ◌*◌, ◌≤◌, ◌<◌, Bool, List, length, slice_get, count_by, false, IsTrue, ◌↔◌};
+//! Bits over borrowed bytes, and the iterator over them.
+
+ghost use Rattle.std.specs.Prelude.{◌≡◌, ℕ, min, ◌*◌, ◌≤◌, ◌<◌, Bool, List, length, slice_get, false, IsTrue, ◌↔◌};
 ghost use Rattle.std.specs.Iterator.{YieldsFirst, item_count};
-ghost use Rattle.binlog_base.specs.Bits.{bits_of, bit_at, bits_from, same_bit, bit_list, bitmap_len};
-ghost use Rattle.binlog_base.specs.BitsExact.{exact_bit_list};
+ghost use Rattle.std.specs.Bool.{beq};
+ghost use Rattle.std.specs.Cmp.{bool_eq_equiv, partial_equiv_from_equiv};
+ghost use Rattle.std.specs.Cmp.Lexicographic.{pointwise, lists_equiv, lists_per};
+ghost use Rattle.binlog_base.specs.Bits.{bits_of, bit_at, bits_from, count_set, bit_list, bitmap_len};
+ghost use Rattle.binlog_base.specs.Lemmas.Bits.{exact_bit_list};
 
 use super::BitOrder;
 use crate::below::{MyDeserialize, ParseBuf};
 use crate::fault::Fault;
+use std::fmt;
 use std::marker::Model;
 
 /// A list of bits over borrowed bytes. Contracts see it as a list of booleans.
@@ -66,7 +72,7 @@ impl<'a> BitView<'a> {
         self.len == 0
     }
 
-    /// The bit of place `i`; none at or behind the count.
+    /// The bit of place `i`; none at or after the count.
     #[tactic(auto, using(crate::proofs::BitLists::get_bits, crate::proofs::BitLists::no_bits))]
     pub fn get(&self, i: usize) -> Option<bool>
         ensures { result ≡ slice_get self.now i }
@@ -92,7 +98,7 @@ impl<'a> BitView<'a> {
 
     /// How many bits are set.
     pub fn count_ones(&self) -> usize
-        ensures { result ≡ count_by same_bit self.now }
+        ensures { result ≡ count_set self.now }
     {
         let mut ones = 0;
         for i in 0..self.len {
@@ -101,6 +107,27 @@ impl<'a> BitView<'a> {
             }
         }
         ones
+    }
+}
+
+/// Two are equal where their bits are, whatever bytes hold them.
+impl<'a> PartialEq for BitView<'a> {
+    ghost eq = { pointwise beq };
+
+    ghost laws = { lists_per (partial_equiv_from_equiv bool_eq_equiv) };
+
+    fn eq(&self, other: &Self) -> bool {
+        self.iter().eq(other.iter())
+    }
+}
+
+impl<'a> Eq for BitView<'a> {
+    ghost laws = { lists_equiv bool_eq_equiv };
+}
+
+impl<'a> fmt::Debug for BitView<'a> {
+    fn fmt<W: fmt::Write>(&self, f: &mut fmt::Formatter<W>) -> fmt::Result {
+        f.debug_list().entries(self.iter()).finish()
     }
 }
 
@@ -149,7 +176,8 @@ pub fn bitmap_len(len: usize) -> usize
     len.div_ceil(8)
 }
 
-/// A bitmap is read with its order and the count of its bits; what stands in its last byte behind them says nothing.
+/// A bitmap is read with its order and the count of its bits. The bits of its last byte after these
+/// are ignored.
 impl<'de> MyDeserialize<'de> for BitView<'de> {
     ghost Seen = { List Bool };
 
@@ -163,10 +191,10 @@ impl<'de> MyDeserialize<'de> for BitView<'de> {
 
     type Ctx = (BitOrder, usize);
 
-    #[tactic(auto, using(crate::specs::BitsExact::all_there), unfolding(crate::specs::Bits::bit_list))]
+    #[tactic(auto, using(crate::specs::Lemmas::Bits::all_there), unfolding(crate::specs::Bits::bit_list))]
     fn deserialize(ctx: (BitOrder, usize), buf: &mut ParseBuf<'de>) -> Result<Self, Fault> {
         let (order, len) = ctx;
-        let bytes = buf.checked_eat(bitmap_len(len))?;
+        let bytes = buf.eat(bitmap_len(len))?;
         Ok(BitView::new(bytes, len, order))
     }
 }

@@ -1,19 +1,31 @@
+//! Writers with a limit on the count of bytes.
+
 ghost use Rattle.std.specs.Prelude.{◌≡◌, ◌+◌, IfOk, OnErr, min, length, take};
 ghost use Rattle.std.specs.Io.{WritesAtMost};
 ghost use Rattle.std.specs.Io.KnownBytes.{Keeps, WriteAppends};
 
 use crate::below::WriteOnce;
 use std::io::{self, Write};
+use std::marker::Model;
 
-/// A writer that takes no more bytes than a limit, and lowers it by those that the inner writer took. At the limit it takes none.
+/// A writer that passes no more bytes than a limit to its inner writer. Each write lowers the limit
+/// by the bytes that the inner writer took. At a limit of 0, no more bytes are passed.
 #[derive(Drop)]
 pub struct LimitedWrite<T> {
     write: T,
     limit: usize,
 }
 
+impl<T> Model for LimitedWrite<T> {
+    ghost use Rattle.binlog_base.specs.Writing.{LimitedState};
+
+    ghost Value = { LimitedState T };
+
+    ghost view = { λ w. record { write = w.write; limit = w.limit } };
+}
+
 impl<T> LimitedWrite<T> {
-    /// Takes at most `limit` bytes for the inner writer.
+    /// Wraps a writer, to which at most `limit` bytes are passed.
     pub fn new(write: T, limit: usize) -> Self
         ensures write { result.write ≡ write }
         ensures limit { result.limit ≡ limit }
@@ -25,13 +37,15 @@ impl<T> LimitedWrite<T> {
 impl<T: WriteOnce> Write for LimitedWrite<T> {
     ghost contents = { λ w. T.contents w.write };
 
-    /// Hands the inner writer the front of the bytes that the limit allows, in one write, and answers what it answers. An error
-    /// keeps the limit.
+    /// Writes as many of the first bytes as the limit allows, in one write of the inner writer, and
+    /// returns the result of that write. An error leaves the limit as it is.
     fn write(&mut self, buf: &[u8]) -> io::Result<usize>
         ensures bound { WritesAtMost result buf.now }
         ensures bytes { WriteAppends (T.contents self.old.write) (T.contents self.new.write) result buf.now }
-        // The answer, the error too, and the inner writer after it are those of its own write of the first bytes.
-        ensures handed { T.writes self.old.write (take (min (length buf.now) self.old.limit) buf.now) result self.new.write }
+        // The result, an error included, and the inner writer after it are those of its own write
+        // of the first bytes.
+        ensures handed { T.writes self.old.write (take (min (length buf.now) self.old.limit) buf.now) result
+            self.new.write }
         ensures lowered { IfOk result (λ n. self.new.limit + n ≡ self.old.limit) }
         ensures kept { OnErr result (self.new.limit ≡ self.old.limit) }
     {
@@ -41,7 +55,7 @@ impl<T: WriteOnce> Write for LimitedWrite<T> {
         Ok(count)
     }
 
-    /// Flushes the inner writer, and answers what it answers.
+    /// Flushes the inner writer, and returns the result of that flush.
     fn flush(&mut self) -> io::Result<()>
         ensures bytes { Keeps (T.contents self.old.write) (T.contents self.new.write) }
         ensures flushed { T.flushes self.old.write result self.new.write }
@@ -51,9 +65,9 @@ impl<T: WriteOnce> Write for LimitedWrite<T> {
     }
 }
 
-/// Every writer can be limited.
+/// Gives every writer the method `limit`.
 pub trait LimitWrite: Write + Sized {
-    /// Takes at most `limit` bytes for this writer.
+    /// Returns a writer that passes at most `limit` bytes to this one.
     final fn limit(&mut self, limit: usize) -> LimitedWrite<&mut Self>
         ensures write { result.write.now ≡ self.old }
         ensures limit { result.limit ≡ limit }

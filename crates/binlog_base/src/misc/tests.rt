@@ -1,16 +1,18 @@
+//! Tests of packed times, sources, sinks and limited writers.
+
 ghost use Rattle.std.specs.Prelude.{false};
-ghost use Rattle.binlog_base.specs.Format.{Parses, as_value};
-ghost use Rattle.binlog_base.specs.Failures.{same};
+ghost use Rattle.binlog_base.specs.Format.{Parses, ParsesAs, map_value};
 ghost use Rattle.binlog_base.specs.Values.{plain_of};
 ghost use Rattle.binlog_base.specs.PackedTimes.{time2, datetime2, timestamp2, time_value, datetime_value};
 
 use crate::below::{Counted, Failed, ParseBuf, Sink, Source, Value, read_exact, write_all};
 use crate::fault::Fault;
+use crate::laws;
 use crate::misc::{
     DATETIMEF_INT_OFS, LimitWrite, LimitedWrite, TIMEF_INT_OFS, TIMEF_OFS, datetime_from_packed,
     my_datetime_packed_from_binary, my_packed_time_get_frac_part, my_packed_time_get_int_part,
     my_packed_time_make, my_packed_time_make_int, my_time_packed_from_binary,
-    my_timestamp_from_binary, packed_times_are_exact, time_from_packed,
+    my_timestamp_from_binary, time_from_packed,
 };
 use std::io::{self, ErrorKind, Read, Write};
 use std::test::Fail;
@@ -63,7 +65,7 @@ fn timestamp2(mut bytes: &[u8], dec: u8) -> Result<(i32, i32), Fault> {
     my_timestamp_from_binary(&mut bytes, dec)
 }
 
-// What a source answers that gives one byte a call, with its failures.
+// What is read from a source that gives one byte a call, and the count of its failures.
 fn dripped(bytes: &[u8], calls: u64) -> (Result<i64, Fault>, u64) {
     let mut source = Dripping {
         bytes,
@@ -167,21 +169,22 @@ fn an_interruption_is_a_failure(rt: HostRuntime) {
     assert_eq!(rt; source.failures(), 2);
 }
 
-// What the cells of an event are read by: the whole format of a cell is known to the caller.
+// Reads a cell as a rows event's reader does: its contract gives the whole format of the cell.
 fn time_cell(buf: &mut ParseBuf<'_>, decimals: u32) -> Result<Value, Fault>
-    ensures { Parses false plain_of result buf.new.0.now (as_value (time2 decimals) time_value) buf.old.0.now }
+    ensures { ParsesAs plain_of (map_value (time2 decimals) time_value) result buf.old.0.now buf.new.0.now }
 {
     Ok(time_from_packed(my_time_packed_from_binary(buf, decimals)?))
 }
 
 fn datetime_cell(buf: &mut ParseBuf<'_>, decimals: u32) -> Result<Value, Fault>
-    ensures { Parses false plain_of result buf.new.0.now (as_value (datetime2 decimals) datetime_value) buf.old.0.now }
+    ensures { ParsesAs plain_of (map_value (datetime2 decimals) datetime_value) result buf.old.0.now
+        buf.new.0.now }
 {
     Ok(datetime_from_packed(my_datetime_packed_from_binary(buf, decimals)?))
 }
 
 fn timestamp_cell(buf: &mut ParseBuf<'_>, decimals: u8) -> Result<(i32, i32), Fault>
-    ensures { Parses false same result buf.new.0.now (timestamp2 decimals) buf.old.0.now }
+    ensures { Parses (timestamp2 decimals) result buf.old.0.now buf.new.0.now }
 {
     my_timestamp_from_binary(buf, decimals)
 }
@@ -199,7 +202,7 @@ fn cells_in_a_row(rt: HostRuntime) {
 
 #[test]
 fn formats_are_exact(rt: HostRuntime) {
-    packed_times_are_exact();
+    laws::packed_times_are_exact();
     assert_eq!(rt; TIMEF_INT_OFS, 1 << 23);
     assert_eq!(rt; DATETIMEF_INT_OFS, 1 << 39);
     assert_eq!(rt; TIMEF_OFS, 1 << 47);

@@ -1,4 +1,4 @@
-//! Numbers in the bodies of single events: how duplicates are handled, incidents, and integer variables.
+//! Numbers in the bodies of events: the handling of duplicates, incidents, and integer variables.
 
 ghost use Rattle.std.specs.Prelude.{◌≡◌, Ok};
 ghost use Rattle.binlog_base.specs.Tables.{from_table};
@@ -12,13 +12,13 @@ use thiserror::Error;
 pub enum LoadDuplicateHandling {
     /// The statement fails.
     LOAD_DUP_ERROR = 0,
-    /// The new row is left out.
+    /// The new row is skipped.
     LOAD_DUP_IGNORE = 1,
-    /// The new row takes the place of the old one.
+    /// The new row replaces the old one.
     LOAD_DUP_REPLACE = 2,
 }
 
-/// A number that no handling of duplicates has.
+/// The error for a number that no handling of duplicates has.
 #[derive(Clone, Copy, Debug, PartialEq, Eq, Hash, Error)]
 #[error("no handling of duplicates has number {0}")]
 pub struct UnknownDuplicateHandling(pub u8);
@@ -38,7 +38,7 @@ impl TryFrom<u8> for LoadDuplicateHandling {
     }
 }
 
-/// The number of a handling: the one that `try_from` takes back to it.
+/// Converts a handling to its number, which `try_from` converts back.
 impl From<LoadDuplicateHandling> for u8 {
     ghost from_gives = { λ h n. from_table load_duplicate_handlings (λ k. k) n ≡ Ok h };
 
@@ -47,7 +47,7 @@ impl From<LoadDuplicateHandling> for u8 {
     }
 }
 
-/// The number that was refused.
+/// Converts the error to the number that was refused.
 impl From<UnknownDuplicateHandling> for u8 {
     ghost from_gives = { λ e n. n ≡ e.0 };
 
@@ -66,7 +66,7 @@ pub enum IncidentType {
     INCIDENT_LOST_EVENTS = 1,
 }
 
-/// A number that no incident has.
+/// The error for a number that no incident has.
 #[derive(Clone, Copy, Debug, PartialEq, Eq, Hash, Error)]
 #[error("no incident has number {0}")]
 pub struct UnknownIncidentType(pub u16);
@@ -85,7 +85,7 @@ impl TryFrom<u16> for IncidentType {
     }
 }
 
-/// The number of an incident: the one that `try_from` takes back to it.
+/// Converts an incident to its number, which `try_from` converts back.
 impl From<IncidentType> for u16 {
     ghost from_gives = { λ t n. from_table incident_types (λ k. k) n ≡ Ok t };
 
@@ -94,7 +94,7 @@ impl From<IncidentType> for u16 {
     }
 }
 
-/// The number that was refused.
+/// Converts the error to the number that was refused.
 impl From<UnknownIncidentType> for u16 {
     ghost from_gives = { λ e n. n ≡ e.0 };
 
@@ -107,15 +107,15 @@ impl From<UnknownIncidentType> for u16 {
 #[allow(non_camel_case_types)]
 #[derive(Clone, Copy, Debug, PartialEq, Eq, Hash)]
 pub enum IntvarEventType {
-    /// Nothing: no event is written with it.
+    /// Invalid: no event is written with it.
     INVALID_INT_EVENT = 0,
-    /// It is what `LAST_INSERT_ID()` gives in the next statement.
+    /// It is what `LAST_INSERT_ID()` returns in the next statement.
     LAST_INSERT_ID_EVENT = 1,
     /// It is what an `AUTO_INCREMENT` column gets in the next statement.
     INSERT_ID_EVENT = 2,
 }
 
-/// A number that no kind of integer variable has.
+/// The error for a number that no kind of integer variable has.
 #[derive(Clone, Copy, Debug, PartialEq, Eq, Hash, Error)]
 #[error("no kind of integer variable has number {0}")]
 pub struct UnknownIntvarEventType(pub u8);
@@ -135,7 +135,7 @@ impl TryFrom<u8> for IntvarEventType {
     }
 }
 
-/// The number of a kind: the one that `try_from` takes back to it.
+/// Converts a kind to its number, which `try_from` converts back.
 impl From<IntvarEventType> for u8 {
     ghost from_gives = { λ t n. from_table intvar_event_types (λ k. k) n ≡ Ok t };
 
@@ -144,7 +144,7 @@ impl From<IntvarEventType> for u8 {
     }
 }
 
-/// The number that was refused.
+/// Converts the error to the number that was refused.
 impl From<UnknownIntvarEventType> for u8 {
     ghost from_gives = { λ e n. n ≡ e.0 };
 

@@ -1,4 +1,4 @@
-//! Event types, by their numbers.
+//! The event types of MySQL's binary log and their numbers.
 
 ghost use Rattle.std.specs.Prelude.{◌≡◌, ◌⊎◌, Ok};
 ghost use Rattle.binlog_consts.specs.declared.consts.event_type.EventType.TheVariants as event;
@@ -7,15 +7,16 @@ ghost use Rattle.binlog_consts.specs.EventTypes.{event_types};
 
 use thiserror::Error;
 
-/// The type of an event, as the event's header tells it.
+/// The type of an event: one byte of the event's header (MySQL's `Log_event_type`).
 #[allow(non_camel_case_types)]
 #[derive(Clone, Copy, Debug, PartialEq, Eq, Hash)]
 pub enum EventType {
-    /// An event that the reader passes over.
+    /// An event that a reader skips.
     UNKNOWN_EVENT = 0x00,
-    /// The first event of a log of version 1 to 3; from MySQL 5.0.0 on `FORMAT_DESCRIPTION_EVENT` stands in its place.
+    /// The first event of a log of version 1 to 3. From MySQL 5.0.0 on, `FORMAT_DESCRIPTION_EVENT`
+    /// takes its place.
     START_EVENT_V3 = 0x01,
-    /// A statement that changed the database, as its text.
+    /// The text of a statement that changed the database.
     QUERY_EVENT = 0x02,
     /// The server has stopped.
     STOP_EVENT = 0x03,
@@ -23,33 +24,33 @@ pub enum EventType {
     ROTATE_EVENT = 0x04,
     /// An integer that the next statement uses.
     INTVAR_EVENT = 0x05,
-    /// LOAD DATA, as MySQL 3.23 wrote it.
+    /// A LOAD DATA statement, in the form of MySQL 3.23.
     LOAD_EVENT = 0x06,
-    /// An event that the reader passes over.
+    /// An event that a reader skips.
     SLAVE_EVENT = 0x07,
     /// The first block of a file for LOAD DATA.
     CREATE_FILE_EVENT = 0x08,
     /// A further block of a file for LOAD DATA.
     APPEND_BLOCK_EVENT = 0x09,
-    /// The file of a LOAD DATA is whole, and the statement runs.
+    /// The file of a LOAD DATA is complete, and the statement runs.
     EXEC_LOAD_EVENT = 0x0A,
     /// The file of a LOAD DATA is dropped.
     DELETE_FILE_EVENT = 0x0B,
-    /// `LOAD_EVENT` with separators of more than one character.
+    /// A `LOAD_EVENT` whose separators may have more than one character.
     NEW_LOAD_EVENT = 0x0C,
     /// The seeds that `RAND()` uses in the next statement.
     RAND_EVENT = 0x0D,
     /// A user variable that the next statement uses.
     USER_VAR_EVENT = 0x0E,
-    /// The first event of a log of version 4: the layout of the events that follow.
+    /// The first event of a log of version 4. It describes the layout of the events after it.
     FORMAT_DESCRIPTION_EVENT = 0x0F,
     /// A transaction has been committed.
     XID_EVENT = 0x10,
     /// The first block of a file for `EXECUTE_LOAD_QUERY_EVENT`.
     BEGIN_LOAD_QUERY_EVENT = 0x11,
-    /// LOAD DATA, as the text of the statement.
+    /// The text of a LOAD DATA statement.
     EXECUTE_LOAD_QUERY_EVENT = 0x12,
-    /// The table and the columns of the row events that follow.
+    /// The table and the columns of the rows events after it.
     TABLE_MAP_EVENT = 0x13,
     /// `WRITE_ROWS_EVENT` before MySQL 5.1.16.
     PRE_GA_WRITE_ROWS_EVENT = 0x14,
@@ -67,9 +68,9 @@ pub enum EventType {
     INCIDENT_EVENT = 0x1A,
     /// The server is alive, and has no event to send.
     HEARTBEAT_EVENT = 0x1B,
-    /// An event that a reader may pass over.
+    /// An event that a reader may skip.
     IGNORABLE_EVENT = 0x1C,
-    /// The text of the statement behind the row events that follow.
+    /// The text of the statement that made the rows events after it.
     ROWS_QUERY_EVENT = 0x1D,
     /// Rows that were inserted.
     WRITE_ROWS_EVENT = 0x1E,
@@ -77,7 +78,7 @@ pub enum EventType {
     UPDATE_ROWS_EVENT = 0x1F,
     /// Rows that were deleted.
     DELETE_ROWS_EVENT = 0x20,
-    /// The identifier of the transaction that follows.
+    /// The identifier (GTID) of the transaction that follows.
     GTID_EVENT = 0x21,
     /// The transaction that follows has no identifier.
     ANONYMOUS_GTID_EVENT = 0x22,
@@ -89,17 +90,17 @@ pub enum EventType {
     VIEW_CHANGE_EVENT = 0x25,
     /// A transaction of the XA protocol has been prepared.
     XA_PREPARE_LOG_EVENT = 0x26,
-    /// `UPDATE_ROWS_EVENT` that may hold changes of JSON values in the place of whole ones.
+    /// An `UPDATE_ROWS_EVENT` that may hold changes of JSON values instead of whole values.
     PARTIAL_UPDATE_ROWS_EVENT = 0x27,
     /// The events of a transaction, which may be compressed.
     TRANSACTION_PAYLOAD_EVENT = 0x28,
-    /// `GTID_EVENT` whose identifier may have a tag, from MySQL 8.4 on.
+    /// A `GTID_EVENT` whose identifier may have a tag, from MySQL 8.4 on.
     GTID_TAGGED_LOG_EVENT = 0x2A,
-    /// The mark after the last event type: its number is no event's, and `try_from` refuses it.
+    /// The mark after the last event type. No event has its number, and `try_from` refuses it.
     ENUM_END_EVENT = 0x2B,
 }
 
-/// A number that no event type has.
+/// The error for a number that no event type has.
 #[derive(Clone, Copy, Debug, PartialEq, Eq, Hash, Error)]
 #[error("no event type has number {0}")]
 pub struct UnknownEventType(pub u8);
@@ -158,7 +159,7 @@ impl TryFrom<u8> for EventType {
     }
 }
 
-/// The number that was refused.
+/// Converts the error to the number that was refused.
 impl From<UnknownEventType> for u8 {
     ghost from_gives = { λ e n. n ≡ e.0 };
 
@@ -167,7 +168,8 @@ impl From<UnknownEventType> for u8 {
     }
 }
 
-/// The number of an event type: the one that `try_from` takes back to it, but for `ENUM_END_EVENT`, whose number is 2B.
+/// Converts an event type to its number, which `try_from` converts back. `ENUM_END_EVENT`, whose
+/// number is 2B, is the exception: `try_from` refuses it.
 impl From<EventType> for u8 {
     ghost from_gives = { λ t n. (from_table event_types (λ k. k) n ≡ Ok t) ⊎ ((t ≡ event.ENUM_END_EVENT) × (n ≡ 0x2B)) };
 

@@ -1,4 +1,4 @@
-//! Flags that events hold, each type with its named bits.
+//! The types of flags in events, and the names of their bits.
 
 ghost use Rattle.std.specs.Prelude.{◌≡◌, ⊤};
 ghost use Rattle.binlog_consts.specs.Flags.{event_flags, event_flags_of, semi_sync_flags, semi_sync_flags_of, gtid_flags, gtid_flags_of, rows_event_flags, rows_event_flags_of, user_var_flags, user_var_flags_of, known_flags};
@@ -12,25 +12,26 @@ pub struct EventFlags(u16);
 
 bitflag_items! {
     impl EventFlags: u16 {
-        /// The file has not been closed: the flag is cleared in its `FORMAT_DESCRIPTION_EVENT` when it is.
+        /// The log file is not closed. When it is closed, the flag is cleared in its
+        /// `FORMAT_DESCRIPTION_EVENT`.
         const LOG_EVENT_BINLOG_IN_USE_F = 0x0001;
         /// Unused.
         const LOG_EVENT_FORCED_ROTATE_F = 0x0002;
-        /// The statement depends on its thread, as one on a temporary table does.
+        /// The statement depends on its thread, such as one on a temporary table.
         const LOG_EVENT_THREAD_SPECIFIC_F = 0x0004;
-        /// The statement needs no default database, as `CREATE DATABASE` does not.
+        /// The statement needs no default database, such as `CREATE DATABASE`.
         const LOG_EVENT_SUPPRESS_USE_F = 0x0008;
         /// Unused.
         const LOG_EVENT_UPDATE_TABLE_MAP_VERSION_F = 0x0010;
-        /// The event was made up, and moves no position in the source's log.
+        /// The event isn't in the source's log, and doesn't advance the position in that log.
         const LOG_EVENT_ARTIFICIAL_F = 0x0020;
-        /// The event was written to a relay log by the thread that receives events.
+        /// The event was written to a relay log by the replica's receiver thread.
         const LOG_EVENT_RELAY_LOG_F = 0x0040;
-        /// A reader that does not know the event's type may pass over it.
+        /// A reader that doesn't know the event's type may skip the event.
         const LOG_EVENT_IGNORABLE_F = 0x0080;
-        /// The event is written whatever the filters say.
+        /// The event is written to the log whatever the filters are.
         const LOG_EVENT_NO_FILTER_F = 0x0100;
-        /// The event's group is run apart from all others.
+        /// The event's group is applied alone, with no other group in parallel.
         const LOG_EVENT_MTS_ISOLATE_F = 0x0200;
     }
 }
@@ -57,7 +58,7 @@ impl Flags for EventFlags {
     }
 }
 
-/// A number with a bit that no flag of an event has.
+/// The error for a number with a bit that no flag of an event has.
 #[derive(Clone, Copy, Debug, PartialEq, Eq, Hash, Error)]
 #[error("{0:#x} has a bit that no flag of an event has")]
 pub struct UnknownEventFlags(pub u16);
@@ -72,13 +73,13 @@ impl TryFrom<u16> for EventFlags {
     }
 }
 
-/// The flags before an event under semi-synchronous replication.
+/// The flags that come before an event under semi-synchronous replication.
 #[derive(Clone, Copy, Debug, PartialEq, Eq, Hash)]
 pub struct SemiSyncFlags(u8);
 
 bitflag_items! {
     impl SemiSyncFlags: u8 {
-        /// The source waits for an answer before it sends the next event.
+        /// The source waits until the replica acknowledges the event.
         const SEMI_SYNC_ACK_REQ = 0x01;
     }
 }
@@ -105,7 +106,7 @@ impl Flags for SemiSyncFlags {
     }
 }
 
-/// A number with a bit that no flag of semi-synchronous replication has.
+/// The error for a number with a bit that no flag of semi-synchronous replication has.
 #[derive(Clone, Copy, Debug, PartialEq, Eq, Hash, Error)]
 #[error("{0:#x} has a bit that no flag of semi-synchronous replication has")]
 pub struct UnknownSemiSyncFlags(pub u8);
@@ -126,7 +127,7 @@ pub struct GtidFlags(u8);
 
 bitflag_items! {
     impl GtidFlags: u8 {
-        /// The transaction may hold statements, beside changes of rows.
+        /// The transaction may hold statements, besides changes of rows.
         const MAY_HAVE_SBR = 0x01;
     }
 }
@@ -153,7 +154,7 @@ impl Flags for GtidFlags {
     }
 }
 
-/// A number with a bit that no flag of a GTID event has.
+/// The error for a number with a bit that no flag of a GTID event has.
 #[derive(Clone, Copy, Debug, PartialEq, Eq, Hash, Error)]
 #[error("{0:#x} has a bit that no flag of a GTID event has")]
 pub struct UnknownGtidFlags(pub u8);
@@ -168,7 +169,7 @@ impl TryFrom<u8> for GtidFlags {
     }
 }
 
-/// The flags of a row event.
+/// The flags of a rows event.
 #[derive(Clone, Copy, Debug, PartialEq, Eq, Hash)]
 pub struct RowsEventFlags(u16);
 
@@ -207,7 +208,7 @@ impl Flags for RowsEventFlags {
     }
 }
 
-/// A number with a bit that no flag of a row event has.
+/// The error for a number with a bit that no flag of a rows event has.
 #[derive(Clone, Copy, Debug, PartialEq, Eq, Hash, Error)]
 #[error("{0:#x} has a bit that no flag of a row event has")]
 pub struct UnknownRowsEventFlags(pub u16);
@@ -255,7 +256,7 @@ impl Flags for UserVarFlags {
     }
 }
 
-/// A number with a bit that no flag of a user variable has.
+/// The error for a number with a bit that no flag of a user variable has.
 #[derive(Clone, Copy, Debug, PartialEq, Eq, Hash, Error)]
 #[error("{0:#x} has a bit that no flag of a user variable has")]
 pub struct UnknownUserVarFlags(pub u8);

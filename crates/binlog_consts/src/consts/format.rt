@@ -1,4 +1,4 @@
-//! What a format description event fixes for the events after it: the version and the checksum.
+//! What a format description event says about the events after it: the version and the checksum.
 
 ghost use Rattle.std.specs.Prelude.{◌≡◌, Ok};
 ghost use Rattle.binlog_base.specs.Tables.{from_table};
@@ -19,7 +19,7 @@ pub enum BinlogVersion {
     Version4 = 4,
 }
 
-/// A number that no version of the binary log has.
+/// The error for a number that no version of the binary log has.
 #[derive(Clone, Copy, Debug, PartialEq, Eq, Hash, Error)]
 #[error("no binary log has version {0}")]
 pub struct UnknownBinlogVersion(pub u16);
@@ -40,7 +40,7 @@ impl TryFrom<u16> for BinlogVersion {
     }
 }
 
-/// The number of a version: the one that `try_from` takes back to it.
+/// Converts a version to its number, which `try_from` converts back.
 impl From<BinlogVersion> for u16 {
     ghost from_gives = { λ v n. from_table binlog_versions (λ k. k) n ≡ Ok v };
 
@@ -49,7 +49,7 @@ impl From<BinlogVersion> for u16 {
     }
 }
 
-/// The number that was refused.
+/// Converts the error to the number that was refused.
 impl From<UnknownBinlogVersion> for u16 {
     ghost from_gives = { λ e n. n ≡ e.0 };
 
@@ -68,7 +68,7 @@ pub enum BinlogChecksumAlg {
     BINLOG_CHECKSUM_ALG_CRC32 = 1,
 }
 
-/// A number that no checksum algorithm has.
+/// The error for a number that no checksum algorithm has.
 #[derive(Clone, Copy, Debug, PartialEq, Eq, Hash, Error)]
 #[error("no checksum algorithm has number {0}")]
 pub struct UnknownChecksumAlg(pub u8);
@@ -87,7 +87,7 @@ impl TryFrom<u8> for BinlogChecksumAlg {
     }
 }
 
-/// The number that was refused.
+/// Converts the error to the number that was refused.
 impl From<UnknownChecksumAlg> for u8 {
     ghost from_gives = { λ e n. n ≡ e.0 };
 
@@ -96,7 +96,7 @@ impl From<UnknownChecksumAlg> for u8 {
     }
 }
 
-/// The number of a checksum algorithm: the one that `try_from` takes back to it.
+/// Converts a checksum algorithm to its number, which `try_from` converts back.
 impl From<BinlogChecksumAlg> for u8 {
     ghost from_gives = { λ t n. from_table checksum_algs (λ k. k) n ≡ Ok t };
 

@@ -1,4 +1,4 @@
-//! The number of a transaction within its group of transactions.
+//! The number of a transaction within a GTID.
 
 ghost use Rattle.std.specs.Prelude.{◌≡◌, ℕ, IsTrue, if◌then◌else◌, Ok, Err};
 ghost use Rattle.binlog_consts.specs.GroupNumbers.{is_group_number};
@@ -6,7 +6,8 @@ ghost use Rattle.binlog_consts.specs.GroupNumbers.{is_group_number};
 use std::marker::Model;
 use thiserror::Error;
 
-/// The group number of a GTID: 0 in the event of an anonymous transaction, else at least `MIN_GNO` and below `MAX_GNO`.
+/// The group number of a GTID, which comes after the source's UUID. It is 0 in the event of an
+/// anonymous transaction, else at least `MIN_GNO` and below `MAX_GNO`.
 #[derive(Clone, Copy, Debug, PartialEq, Eq, PartialOrd, Ord, Hash)]
 pub struct Gno(u64);
 
@@ -24,10 +25,10 @@ impl Gno {
     /// The lowest number of a transaction that has a GTID.
     pub const MIN_GNO: u64 = 1;
 
-    /// The bound of group numbers: no transaction has it, nor a higher one.
+    /// The upper bound of group numbers, which all of them are below.
     pub const MAX_GNO: u64 = i64::MAX as u64;
 
-    /// The number.
+    /// Returns the number.
     pub fn get(self) -> u64
         ensures value { result ≡ self }
         ensures in_range { IsTrue (is_group_number result) }
@@ -36,7 +37,7 @@ impl Gno {
     }
 }
 
-/// A number that is no group number.
+/// The error for a number that isn't a group number.
 #[derive(Clone, Copy, Debug, PartialEq, Eq, Hash, Error)]
 #[error("{0} is neither 0 nor a group number from {min} up to, but not including, {max}", min = Gno::MIN_GNO, max = Gno::MAX_GNO)]
 pub struct InvalidGno(pub u64);
@@ -55,7 +56,7 @@ impl TryFrom<u64> for Gno {
     }
 }
 
-/// The number that was refused.
+/// Converts the error to the number that was refused.
 impl From<InvalidGno> for u64 {
     ghost from_gives = { λ e n. n ≡ e.0 };
 

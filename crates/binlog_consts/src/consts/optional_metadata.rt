@@ -1,4 +1,4 @@
-//! The optional metadata of a `TABLE_MAP_EVENT`, by the numbers of its fields.
+//! The fields of the optional metadata of a `TABLE_MAP_EVENT`, and their numbers.
 
 ghost use Rattle.std.specs.Prelude.{◌≡◌, Ok};
 ghost use Rattle.binlog_base.specs.Tables.{from_table};
@@ -6,39 +6,41 @@ ghost use Rattle.binlog_consts.specs.OptionalMetadata.{optional_metadata_field_t
 
 use thiserror::Error;
 
-/// What a field of optional metadata tells of the columns, in the order of the columns.
+/// The type of a field of optional metadata: what the field says about the columns, in their order.
 #[allow(non_camel_case_types)]
 #[derive(Clone, Copy, Debug, PartialEq, Eq, Hash)]
 pub enum OptionalMetadataFieldType {
     /// For each numeric column, a bit that says whether it is unsigned.
     SIGNEDNESS = 1,
-    /// The character set of most character columns, then the columns with another and theirs.
+    /// The default character set of the character columns, then each column with another one, and
+    /// that one.
     DEFAULT_CHARSET = 2,
     /// The character set of each character column.
     COLUMN_CHARSET = 3,
     /// The name of each column.
     COLUMN_NAME = 4,
-    /// The variants of each SET column.
+    /// The names of the members of each SET column.
     SET_STR_VALUE = 5,
-    /// The variants of each ENUM column.
+    /// The names of the values of each ENUM column.
     ENUM_STR_VALUE = 6,
     /// The type of each geometry column.
     GEOMETRY_TYPE = 7,
-    /// The columns of a primary key that has no prefixes.
+    /// The columns of a primary key that has only whole columns.
     SIMPLE_PRIMARY_KEY = 8,
-    /// The columns of a primary key, each with the characters of its prefix, or 0 for all.
+    /// The columns of a primary key, each with the length of its prefix, or 0 for the whole column.
     PRIMARY_KEY_WITH_PREFIX = 9,
-    /// The character set of most ENUM and SET columns, then the columns with another and theirs.
+    /// The default character set of the ENUM and SET columns, then each column with another one,
+    /// and that one.
     ENUM_AND_SET_DEFAULT_CHARSET = 10,
     /// The character set of each ENUM and SET column.
     ENUM_AND_SET_COLUMN_CHARSET = 11,
     /// For each column, a bit that says whether it is visible.
     COLUMN_VISIBILITY = 12,
-    /// The dimensions of each vector column.
+    /// The number of dimensions of each vector column.
     VECTOR_DIMENSIONALITY = 13,
 }
 
-/// A number that no field of optional metadata has.
+/// The error for a number that no field of optional metadata has.
 #[derive(Clone, Copy, Debug, PartialEq, Eq, Error)]
 #[error("no field of optional metadata has number {0}")]
 pub struct UnknownOptionalMetadataFieldType(pub u8);
@@ -68,7 +70,7 @@ impl TryFrom<u8> for OptionalMetadataFieldType {
     }
 }
 
-/// The number that was refused.
+/// Converts the error to the number that was refused.
 impl From<UnknownOptionalMetadataFieldType> for u8 {
     ghost from_gives = { λ e n. n ≡ e.0 };
 
@@ -77,7 +79,7 @@ impl From<UnknownOptionalMetadataFieldType> for u8 {
     }
 }
 
-/// The number of a field type: the one that `try_from` takes back to it.
+/// Converts a field type to its number, which `try_from` converts back.
 impl From<OptionalMetadataFieldType> for u8 {
     ghost from_gives = { λ t n. from_table optional_metadata_field_types (λ k. k) n ≡ Ok t };
 

@@ -1,4 +1,5 @@
-//! The fields and the compression of a `TRANSACTION_PAYLOAD_EVENT`, as MySQL's documentation of the event lists them.
+//! The fields and the compression of a `TRANSACTION_PAYLOAD_EVENT`, as MySQL's documentation of the
+//! event lists them.
 
 ghost use Rattle.std.specs.Prelude.{◌≡◌, Ok};
 ghost use Rattle.binlog_base.specs.Tables.{from_table};
@@ -16,11 +17,11 @@ pub enum TransactionPayloadFields {
     OTW_PAYLOAD_SIZE_FIELD = 1,
     /// How the payload is compressed.
     OTW_PAYLOAD_COMPRESSION_TYPE_FIELD = 2,
-    /// How many bytes the payload has once it is expanded.
+    /// How many bytes the payload has after decompression.
     OTW_PAYLOAD_UNCOMPRESSED_SIZE_FIELD = 3,
 }
 
-/// A number that no field of a transaction payload has.
+/// The error for a number that no field of a transaction payload has.
 #[derive(Clone, Copy, Debug, PartialEq, Eq, Hash, Error)]
 #[error("no field of a transaction payload has number {0}")]
 pub struct UnknownTransactionPayloadFields(pub u64);
@@ -51,7 +52,7 @@ impl TryFrom<u8> for TransactionPayloadFields {
     }
 }
 
-/// The number of a field: the one that `try_from` takes back to it.
+/// Converts a field to its number, which `try_from` converts back.
 impl From<TransactionPayloadFields> for u8 {
     ghost from_gives = { λ f n. from_table payload_fields (λ k. k) n ≡ Ok f };
 
@@ -60,7 +61,7 @@ impl From<TransactionPayloadFields> for u8 {
     }
 }
 
-/// The number of a field: the one that `try_from` takes back to it.
+/// Converts a field to its number, which `try_from` converts back.
 impl From<TransactionPayloadFields> for u64 {
     ghost from_gives = { λ f n. from_table payload_fields (λ k. k) n ≡ Ok f };
 
@@ -73,13 +74,13 @@ impl From<TransactionPayloadFields> for u64 {
 #[allow(non_camel_case_types)]
 #[derive(Clone, Copy, Debug, PartialEq, Eq, Hash)]
 pub enum TransactionPayloadCompressionType {
-    /// By Zstandard.
+    /// With Zstandard.
     ZSTD = 0,
-    /// It is not.
+    /// Not at all.
     NONE = 255,
 }
 
-/// A number that no compression of a transaction payload has.
+/// The error for a number that no compression of a transaction payload has.
 #[derive(Clone, Copy, Debug, PartialEq, Eq, Hash, Error)]
 #[error("no compression of a transaction payload has number {0}")]
 pub struct UnknownTransactionPayloadCompressionType(pub u64);
@@ -112,7 +113,7 @@ impl TryFrom<u8> for TransactionPayloadCompressionType {
     }
 }
 
-/// The number of a compression: the one that `try_from` takes back to it.
+/// Converts a compression to its number, which `try_from` converts back.
 impl From<TransactionPayloadCompressionType> for u8 {
     ghost from_gives = { λ t n. from_table payload_compressions (λ k. k) n ≡ Ok t };
 

@@ -1,4 +1,4 @@
-//! The status variables of a `QUERY_EVENT`, by their keys.
+//! The status variables of a `QUERY_EVENT` and their keys.
 
 ghost use Rattle.std.specs.Prelude.{◌≡◌, Ok};
 ghost use Rattle.binlog_base.specs.Tables.{from_table};
@@ -6,7 +6,8 @@ ghost use Rattle.binlog_consts.specs.StatusVars.{status_var_keys};
 
 use thiserror::Error;
 
-/// The key of a status variable, which says what follows it. Numbers are unsigned, their lowest byte first.
+/// The key of a status variable, which says what value follows it. Numbers are unsigned, with the
+/// lowest byte first.
 #[derive(Clone, Copy, Debug, PartialEq, Eq, Hash)]
 pub enum StatusVarKey {
     /// Options of the session, as 4 bytes of flags.
@@ -27,23 +28,24 @@ pub enum StatusVarKey {
     LcTimeNames = 7,
     /// The database's collation, as 2 bytes.
     CharsetDatabase = 8,
-    /// The tables that an update of several changes, as 8 bytes of bits.
+    /// The tables that a multi-table update changes, as a bitmap of 8 bytes.
     TableMapForUpdate = 9,
     /// The event's length on the source, as 4 bytes.
     MasterDataWritten = 10,
     /// The user and the host, each as a byte for its length and its bytes.
     Invoker = 11,
-    /// The databases that were changed, as a byte for their count and names that end in a zero byte.
+    /// The databases that were changed, as a byte for their count, and names that each end in a
+    /// zero byte.
     UpdatedDbNames = 12,
     /// The microseconds of the event's time, as 3 bytes.
     Microseconds = 13,
-    /// A key that MySQL writes no more.
+    /// A key that MySQL no longer writes.
     CommitTs = 14,
-    /// A key that MySQL writes no more.
+    /// A key that MySQL no longer writes.
     CommitTs2 = 15,
     /// The variable `explicit_defaults_for_timestamp`, as 1 byte.
     ExplicitDefaultsForTimestamp = 16,
-    /// The transaction of a statement that changes a schema, as 8 bytes.
+    /// The number of the transaction of a DDL statement, as 8 bytes.
     DdlLoggedWithXid = 17,
     /// The default collation of utf8mb4, as 2 bytes.
     DefaultCollationForUtf8mb4 = 18,
@@ -53,7 +55,7 @@ pub enum StatusVarKey {
     DefaultTableEncryption = 20,
 }
 
-/// A number that no status variable has as its key.
+/// The error for a number that no status variable has as its key.
 #[derive(Clone, Copy, Debug, PartialEq, Eq, Hash, Error)]
 #[error("no status variable has key {0}")]
 pub struct UnknownStatusVarKey(pub u8);
@@ -91,7 +93,7 @@ impl TryFrom<u8> for StatusVarKey {
     }
 }
 
-/// The number of a status variable: the one that `try_from` takes back to it.
+/// Converts a status variable to its number, which `try_from` converts back.
 impl From<StatusVarKey> for u8 {
     ghost from_gives = { λ t n. from_table status_var_keys (λ k. k) n ≡ Ok t };
 

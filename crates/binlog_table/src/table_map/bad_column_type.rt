@@ -1,3 +1,5 @@
+//! The error for a column that has no type.
+
 ghost use Rattle.std.specs.Prelude.{◌≡◌};
 ghost use Rattle.binlog_base.specs.declared.fault.Fault.TheVariants as fault;
 ghost use Rattle.binlog_table.specs.ColumnTypes.{fault_of};
@@ -7,13 +9,13 @@ use binlog_base::below::UnknownColumnType;
 use binlog_base::fault::Fault;
 use thiserror::Error;
 
-/// Why a column has no type.
+/// The error for a column that has no type.
 #[derive(Clone, Copy, Debug, PartialEq, Eq, Error)]
 pub enum BadColumnType {
-    /// Its raw number stands for no type.
+    /// The column's type byte is a number that no column type has.
     #[error("{0}")]
     Unknown(UnknownColumnType),
-    /// The metadata of a STRING column names this number, which is none of STRING, ENUM and SET.
+    /// The metadata of a STRING column gives this number, which isn't that of STRING, ENUM or SET.
     #[error("unexpected column type {0}")]
     Unexpected(u8),
 }

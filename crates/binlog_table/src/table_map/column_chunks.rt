@@ -1,3 +1,5 @@
+//! A walk over the metadata of a table's columns.
+
 ghost use Rattle.std.specs.Prelude.{◌≡◌, ℕ, suc};
 ghost use Rattle.std.specs.Option.{option_map};
 ghost use Rattle.binlog_table.specs.Chunks.{ChunksLeft, chunk_left};
@@ -6,7 +8,8 @@ use super::metadata::eat_chunk;
 use binlog_base::below::ParseBuf;
 use std::marker::Model;
 
-/// The chunks of a table's columns, one after the other: what `get_column_metadata` answers for each, at one walk over the metadata.
+/// The metadata of a table's columns, column by column: what `get_column_metadata` returns for
+/// each, in one walk over the columns' metadata.
 #[derive(Drop)]
 pub struct ColumnChunks<'a> {
     types: &'a [u8],
@@ -25,7 +28,7 @@ impl<'a> Model for ColumnChunks<'a> {
 impl<'a> ColumnChunks<'a> {
     ghost use Rattle.std.specs.Prelude.{Some};
 
-    /// The chunks of columns of these raw types, with this metadata.
+    /// Makes the walk over the columns with these type bytes and this metadata.
     pub(super) fn new(types: &'a [u8], metadata: &'a [u8]) -> Self
         ensures { result ≡ record { types = types.now; metadata = Some metadata.now } }
     {
@@ -35,8 +38,10 @@ impl<'a> ColumnChunks<'a> {
         }
     }
 
-    /// The chunk of the next column. None past the table, where a column up to this one has an unknown type, or where its chunk or one
-    /// before it is cut.
+    /// Returns the metadata of the next column: its chunk of the columns' metadata.
+    ///
+    /// Returns `None` after the last column, where this column or one before it has an unknown
+    /// type, and where the chunk of this column or of one before it is cut.
     pub fn next_chunk(&mut self) -> Option<&'a [u8]>
         ensures first { option_map (λ c. c.now) result ≡ chunk_left self.old 0 }
         ensures others { (i : ℕ) → chunk_left self.new i ≡ chunk_left self.old (suc i) }

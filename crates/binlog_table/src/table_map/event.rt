@@ -1,3 +1,5 @@
+//! The table map event.
+
 use super::bad_column_type::BadColumnType;
 use super::column_chunks::ColumnChunks;
 use super::metadata::{column_chunk, real_type};
@@ -12,9 +14,8 @@ use std::alloc::{AllocError, Global};
 use std::borrow::CowStr;
 use std::marker::Model;
 
-/// The table map event of the MySQL binlog: a table's name and columns, which the rows events behind it refer to by its table id.
-///
-/// Its optional metadata is kept as bytes.
+/// MySQL's table map event: a table's name and columns. The rows events after it refer to it by its
+/// table id. The optional metadata is kept as bytes.
 #[derive(Debug, PartialEq, Eq, Drop)]
 pub struct TableMapEvent<'a> {
     table_id: TableId,
@@ -34,19 +35,38 @@ impl<'a> Model for TableMapEvent<'a> {
 
     ghost Value = { TableMap };
 
-    ghost view = { λ t. record { table_id = t.table_id; flags = t.flags; database = t.database_name; table = t.table_name; columns_count = t.columns_count; types = t.columns_type; metadata = t.columns_metadata; null_bits = t.null_bitmask; optional_metadata = t.optional_metadata } };
+    ghost view = { λ t. record {
+      table_id = t.table_id;
+      flags = t.flags;
+      database = t.database_name;
+      table = t.table_name;
+      columns_count = t.columns_count;
+      types = t.columns_type;
+      metadata = t.columns_metadata;
+      null_bits = t.null_bitmask;
+      optional_metadata = t.optional_metadata;
+    } };
 
     ghost invariant = { λ t. (t.columns_count ≡ length t.columns_type) × (t.columns_count ≤ 8 * length t.null_bitmask) };
 
-    ghost inverse = { λ t. record { table_id = t.table_id; flags = t.flags; database_name = t.database; table_name = t.table; columns_count = t.columns_count; columns_type = t.types; columns_metadata = t.metadata; null_bitmask = t.null_bits; optional_metadata = t.optional_metadata } };
+    ghost inverse = { λ t. record {
+      table_id = t.table_id;
+      flags = t.flags;
+      database_name = t.database;
+      table_name = t.table;
+      columns_count = t.columns_count;
+      columns_type = t.types;
+      columns_metadata = t.metadata;
+      null_bitmask = t.null_bits;
+      optional_metadata = t.optional_metadata;
+    } };
 }
 
 impl<'a> TableMapEvent<'a> {
-    ghost use Rattle.std.specs.Prelude.{◌≡◌, ◌↔◌, false, ℕ, List, Some, IfOk};
+    ghost use Rattle.std.specs.Prelude.{◌≡◌, ◌↔◌, ℕ, List, Some, IfOk, slice_get};
     ghost use Rattle.std.specs.Option.{option_map};
     ghost use Rattle.std.specs.Cow.{cow_str_bytes};
     ghost use Rattle.std.specs.Str.Lossy.{utf8_lossy};
-    ghost use Rattle.std.specs.Prelude.{slice_get};
     ghost use Rattle.binlog_base.specs.declared.bits.BitOrder.TheVariants.{LeastSignificantFirst};
     ghost use Rattle.binlog_base.specs.Bits.{bits_of};
     ghost use Rattle.binlog_base.specs.Format.{Parses};
@@ -54,10 +74,10 @@ impl<'a> TableMapEvent<'a> {
     ghost use Rattle.binlog_table.specs.Chunks.{chunk_at, HasChunk};
     ghost use Rattle.binlog_table.specs.ColumnTypes.{raw_type_of, real_type_of, column_type_at, json_count};
 
-    // All parts of the event, one behind the other.
+    // Reads all parts of the event, one after the other.
     #[tactic(auto, unfolding(crate::specs::TableMap::table_map))]
     fn read(post_header_len: u8, buf: &mut ParseBuf<'a>) -> Result<Self, Fault>
-        ensures { Parses false (λ t. t) result buf.new.0.now (table_map post_header_len) buf.old.0.now }
+        ensures { Parses (table_map post_header_len) result buf.old.0.now buf.new.0.now }
     {
         let table_id = buf.parse(post_header_len)?;
         let flags = LeU16::deserialize(buf)?;
@@ -83,32 +103,32 @@ impl<'a> TableMapEvent<'a> {
         })
     }
 
-    /// The number by which rows events refer to the table.
+    /// Returns the table id: the number by which rows events refer to the table.
     pub fn table_id(&self) -> u64
         ensures { result ≡ self.now.table_id }
     {
         self.table_id.get()
     }
 
-    /// The count of the table's columns.
+    /// Returns how many columns the table has.
     pub fn columns_count(&self) -> u64
         ensures { result ≡ self.now.columns_count }
     {
         self.columns_count
     }
 
-    /// How many columns have the raw type JSON.
+    /// Returns how many columns have the raw type JSON.
     pub fn json_column_count(&self) -> usize
         ensures { result ≡ json_count self.now.types }
     {
         self.columns_type
             .as_bytes()
             .iter()
-            .filter(|number| **number == 245)
+            .filter(|number| **number == ColumnType::MYSQL_TYPE_JSON as u8)
             .count()
     }
 
-    /// A bit for each column, set where the column may be NULL.
+    /// Returns a bit for each column, which is set where the column may be NULL.
     pub fn null_bitmask(&self) -> BitView<'_>
         ensures { result ≡ bits_of LeastSignificantFirst self.now.columns_count self.now.null_bits }
     {
@@ -119,42 +139,48 @@ impl<'a> TableMapEvent<'a> {
         )
     }
 
-    /// The database's name.
+    /// Returns the bytes of the database's name.
     pub fn database_name_raw(&self) -> &[u8]
         ensures { result.now ≡ self.now.database }
     {
         self.database_name.as_bytes()
     }
 
-    /// The database's name as lossy text. It takes memory where the name isn't UTF-8.
+    /// Returns the database's name as text, with `U+FFFD` in place of what isn't UTF-8.
+    ///
+    /// A name that isn't UTF-8 takes memory, and the call fails where that is refused.
     pub fn database_name(&self, alloc: Global) -> Result<CowStr<'_>, AllocError>
         ensures { IfOk result (λ text. cow_str_bytes text ≡ utf8_lossy self.now.database) }
     {
         self.database_name.as_str(alloc)
     }
 
-    /// The table's name.
+    /// Returns the bytes of the table's name.
     pub fn table_name_raw(&self) -> &[u8]
         ensures { result.now ≡ self.now.table }
     {
         self.table_name.as_bytes()
     }
 
-    /// The table's name as lossy text. It takes memory where the name isn't UTF-8.
+    /// Returns the table's name as text, with `U+FFFD` in place of what isn't UTF-8.
+    ///
+    /// A name that isn't UTF-8 takes memory, and the call fails where that is refused.
     pub fn table_name(&self, alloc: Global) -> Result<CowStr<'_>, AllocError>
         ensures { IfOk result (λ text. cow_str_bytes text ≡ utf8_lossy self.now.table) }
     {
         self.table_name.as_str(alloc)
     }
 
-    /// The optional metadata, as it stands behind the null bits.
+    /// Returns the bytes of the optional metadata: all bytes after the null bits.
     pub fn optional_metadata_raw(&self) -> &[u8]
         ensures { result.now ≡ self.now.optional_metadata }
     {
         self.optional_metadata.as_bytes()
     }
 
-    /// The raw type of column `index`, as its type byte tells it; `Ok(None)` past the table.
+    /// Returns the raw type of column `index`, counted from 0: the type that its type byte gives.
+    /// `Ok(None)` where the table has no such column. Fails where no column type has the number of
+    /// the type byte.
     pub fn get_raw_column_type(&self, index: usize) -> Result<Option<ColumnType>, UnknownColumnType>
         ensures { result ≡ raw_type_of (slice_get self.now.types index) }
     {
@@ -164,20 +190,27 @@ impl<'a> TableMapEvent<'a> {
         }
     }
 
-    /// The real type of column `index`: DATE is NEWDATE, and the metadata of STRING may say ENUM or SET; `Ok(None)` past the table.
+    /// Returns the real type of column `index`, counted from 0: the raw type, but NEWDATE for DATE,
+    /// and ENUM or SET for STRING where its metadata says so.
+    ///
+    /// `Ok(None)` where the table has no such column. Fails with `Unknown` where no column type has
+    /// the number of the type byte, and with `Unexpected` where the metadata of a STRING column
+    /// gives a type other than STRING, ENUM and SET.
     pub fn get_column_type(&self, index: usize) -> Result<Option<ColumnType>, BadColumnType>
         ensures { result ≡ column_type_at self.now.types self.now.metadata index }
     {
         self.real_column_type(index, self.get_column_metadata(index))
     }
 
-    /// The real type of column `index`, whose metadata is known already.
+    /// Returns the real type of column `index`, as `get_column_type` does, from the given metadata
+    /// of that column.
     pub fn real_column_type(
         &self,
         index: usize,
         metadata: Option<&[u8]>,
     ) -> Result<Option<ColumnType>, BadColumnType>
-        ensures { result ≡ real_type_of (raw_type_of (slice_get self.now.types index)) (option_map (λ c. c.now) metadata.entry) }
+        ensures { result ≡ real_type_of (raw_type_of (slice_get self.now.types index))
+            (option_map (λ c. c.now) metadata.entry) }
     {
         match self.get_raw_column_type(index)? {
             None => Ok(None),
@@ -185,7 +218,7 @@ impl<'a> TableMapEvent<'a> {
         }
     }
 
-    /// The metadata of each column, one after the other.
+    /// Returns the metadata of the columns, column by column from the first.
     pub fn column_chunks(&self) -> ColumnChunks<'_>
         ensures { result ≡ record { types = self.now.types; metadata = Some self.now.metadata } }
     {
@@ -195,12 +228,16 @@ impl<'a> TableMapEvent<'a> {
         )
     }
 
-    /// The metadata of column `index`: its chunk of the columns' metadata. None past the table, where a column up to it has an unknown
-    /// type, or where its chunk or one before it is cut.
+    /// Returns the metadata of column `index`, counted from 0: its chunk of the columns' metadata.
+    ///
+    /// `None` where the table has no such column, where this column or one before it has an unknown
+    /// type, and where the chunk of this column or of one before it is cut.
     pub fn get_column_metadata(&self, index: usize) -> Option<&[u8]>
         ensures chunk { option_map (λ c. c.now) result ≡ chunk_at self.now.types self.now.metadata index }
-        // The metadata begins with the chunks of the columns up to this one, of which it is the last.
-        ensures stands { (c : List ℕ) → (option_map (λ c. c.now) result ≡ Some c) ↔ HasChunk self.now.types self.now.metadata index c }
+        // The columns' metadata begins with the chunks of the columns up to this one, and the
+        // result is the last of them.
+        ensures stands { (c : List ℕ) → (option_map (λ c. c.now) result ≡ Some c)
+            ↔ HasChunk self.now.types self.now.metadata index c }
     {
         column_chunk(
             self.columns_type.as_bytes(),
@@ -211,10 +248,10 @@ impl<'a> TableMapEvent<'a> {
 }
 
 impl<'de> MyDeserialize<'de> for TableMapEvent<'de> {
-    ghost use Rattle.std.specs.Prelude.{true, false};
-    ghost use Rattle.binlog_base.specs.Format.{Parses, Reads};
+    ghost use Rattle.std.specs.Prelude.{true};
+    ghost use Rattle.binlog_base.specs.Format.{Parses, ReadsAll};
     ghost use Rattle.binlog_table.specs.TableMap as Spec;
-    ghost use Rattle.binlog_table.specs.TableMapExact.{exact_table_map};
+    ghost use Rattle.binlog_table.specs.Lemmas.TableMap.{exact_table_map};
 
     ghost Seen = { Spec.TableMap };
 
@@ -230,14 +267,17 @@ impl<'de> MyDeserialize<'de> for TableMapEvent<'de> {
 
     type Ctx = u8;
 
-    /// Reads the event from its body, all of it, with the post-header length of table map events.
+    /// Reads the event from its body, which it takes to the end. `post_header_len` is the
+    /// post-header length of table map events, as the format description event gives it.
     ///
-    /// It takes no memory. `UnexpectedEof` where a part is cut, `BadLenEnc` where the columns' count or their metadata's length begins with
-    /// FB or FF.
+    /// The layout is that of MySQL's table map event, without the event header and the checksum. It
+    /// takes no memory. Fails with `UnexpectedEof` where a part is cut, and with `BadLenEnc` where
+    /// the count of the columns or the length of their metadata begins with FB or FF.
     fn deserialize(post_header_len: u8, buf: &mut ParseBuf<'de>) -> Result<Self, Fault>
-        ensures parses { Parses false (λ t. t) result buf.new.0.now (Spec.table_map post_header_len) buf.old.0.now }
-        // An event comes out exactly where the layout stands, with those very parts; else the layout's fault.
-        ensures reads { Reads true false (λ t. t) result buf.new.0.now (Spec.table_map post_header_len) buf.old.0.now }
+        ensures parses { Parses (Spec.table_map post_header_len) result buf.old.0.now buf.new.0.now }
+        // By the layout: all of the bytes spell the event, or they are refused with the layout's
+        // fault.
+        ensures reads { ReadsAll (Spec.table_map post_header_len) result buf.old.0.now buf.new.0.now }
     {
         TableMapEvent::read(post_header_len, buf)
     }

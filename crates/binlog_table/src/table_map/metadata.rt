@@ -1,5 +1,7 @@
+//! The metadata of columns, and the types that it gives.
+
 ghost use Rattle.std.specs.Prelude.{◌≡◌, false, ℕ, List, Option, option_map, ◌<◌, length};
-ghost use Rattle.binlog_base.specs.Format.{Parses};
+ghost use Rattle.binlog_base.specs.Format.{ParsesAs};
 ghost use Rattle.binlog_table.specs.Chunks.{metadata_len, inner_metadata, array_chunk, chunk, chunk_at};
 ghost use Rattle.binlog_table.specs.ColumnTypes.{string_type, real_type};
 ghost use Rattle.binlog_base.specs.ColumnTypes.{column_type_of};
@@ -8,7 +10,8 @@ use super::bad_column_type::BadColumnType;
 use binlog_base::below::{ColumnType, Constant, IntRepr, ParseBuf, U8};
 use binlog_base::fault::Fault;
 
-// How many bytes of metadata a type has, TYPED_ARRAY aside.
+// Returns how many bytes of metadata a column of this type has; 0 for TYPED_ARRAY, whose metadata
+// has no fixed length.
 fn metadata_len(column_type: ColumnType) -> usize
     ensures { result ≡ metadata_len column_type }
 {
@@ -36,20 +39,20 @@ fn metadata_len(column_type: ColumnType) -> usize
     }
 }
 
-// The metadata of the type inside a TYPED_ARRAY.
+// Takes the metadata of the type inside a TYPED_ARRAY.
 fn eat_inner<'a>(inner: ColumnType, buf: &mut ParseBuf<'a>) -> Result<&'a [u8], Fault>
-    ensures { Parses false (λ x. x.now) result buf.new.0.now (inner_metadata inner) buf.old.0.now }
+    ensures { ParsesAs (λ x. x.now) (inner_metadata inner) result buf.old.0.now buf.new.0.now }
 {
     match inner {
-        ColumnType::MYSQL_TYPE_VARCHAR => buf.checked_eat(3),
+        ColumnType::MYSQL_TYPE_VARCHAR => buf.eat(3),
         ColumnType::MYSQL_TYPE_TYPED_ARRAY => Err(Fault::Unhandled),
-        _ => buf.checked_eat(metadata_len(inner)),
+        _ => buf.eat(metadata_len(inner)),
     }
 }
 
-// The chunk of a TYPED_ARRAY: the inner type's byte and its metadata.
+// Takes the chunk of a TYPED_ARRAY: the type byte of the inner type and the inner type's metadata.
 fn eat_array<'a>(buf: &mut ParseBuf<'a>) -> Result<&'a [u8], Fault>
-    ensures { Parses false (λ x. x.now) result buf.new.0.now array_chunk buf.old.0.now }
+    ensures { ParsesAs (λ x. x.now) array_chunk result buf.old.0.now buf.new.0.now }
 {
     let whole = buf.0;
     let inner = U8::deserialize(buf)?;
@@ -57,18 +60,21 @@ fn eat_array<'a>(buf: &mut ParseBuf<'a>) -> Result<&'a [u8], Fault>
     Ok(&whole[..1 + metadata.len()])
 }
 
-/// Takes the chunk of a column of this raw type.
+/// Takes the chunk of metadata of a column with this type byte. Fails with `UnexpectedEof` where
+/// the chunk is cut, with `UnknownColumnType` for an unknown type, also inside a TYPED_ARRAY, and
+/// with `Unhandled` for a TYPED_ARRAY of TYPED_ARRAY.
 #[tactic(auto, unfolding(crate::specs::Chunks::chunk))]
 pub(super) fn eat_chunk<'a>(raw_type: u8, buf: &mut ParseBuf<'a>) -> Result<&'a [u8], Fault>
-    ensures { Parses false (λ x. x.now) result buf.new.0.now (chunk raw_type) buf.old.0.now }
+    ensures { ParsesAs (λ x. x.now) (chunk raw_type) result buf.old.0.now buf.new.0.now }
 {
     match ColumnType::from_number(raw_type)? {
         ColumnType::MYSQL_TYPE_TYPED_ARRAY => eat_array(buf),
-        column_type => buf.checked_eat(metadata_len(column_type)),
+        column_type => buf.eat(metadata_len(column_type)),
     }
 }
 
-/// The chunk of column `index` of columns of these raw types, with this metadata.
+/// Returns the chunk of column `index`, where the columns have these type bytes and this metadata;
+/// `None` where there is none.
 pub(super) fn column_chunk<'a>(types: &[u8], metadata: &'a [u8], index: usize) -> Option<&'a [u8]>
     ensures { option_map (λ c. c.now) result ≡ chunk_at types.now metadata.now index }
 {
@@ -83,7 +89,7 @@ pub(super) fn column_chunk<'a>(types: &[u8], metadata: &'a [u8], index: usize) -
     None
 }
 
-// The type that the metadata of a STRING column says.
+// Returns the type that the metadata of a STRING column gives: STRING, ENUM or SET.
 fn string_type(chunk: Option<&[u8]>) -> Result<ColumnType, BadColumnType>
     ensures { result ≡ string_type (option_map (λ c. c.now) chunk.entry) }
 {
@@ -101,7 +107,8 @@ fn string_type(chunk: Option<&[u8]>) -> Result<ColumnType, BadColumnType>
     }
 }
 
-/// The real type of a column by its raw type and its chunk of metadata.
+/// Returns the real type of a column from its raw type and its chunk of metadata: NEWDATE for DATE,
+/// the type that the metadata gives for STRING, and else the raw type.
 pub(super) fn real_type(
     raw_type: ColumnType,
     chunk: Option<&[u8]>,

@@ -1,16 +1,20 @@
+//! The id of a table in table map events and rows events.
+
 ghost use Rattle.std.specs.Prelude.{◌≡◌, ℕ, ◌<◌, ◌^◌};
 ghost use Rattle.binlog_base.specs.Endian.{little_bytes};
 ghost use Rattle.binlog_table.specs.TableMap.{table_id};
-ghost use Rattle.binlog_table.specs.TableMapExact.{exact_table_id};
+ghost use Rattle.binlog_table.specs.Lemmas.TableMap.{exact_table_id};
 
 use binlog_base::below::{IntRepr, LeU32, LeU48, MyDeserialize, MySerialize, ParseBuf};
 use binlog_base::fault::Fault;
 use std::alloc::AllocError;
 use std::marker::Model;
 
-/// The number that identifies a table to the rows events behind its table map event.
+/// The number by which rows events refer to the table of a table map event before them.
 ///
-/// It is read with the post-header length of the event that it stands in: 4 bytes where that is 6, else 6 bytes. It is written in 6 bytes.
+/// It is read with the post-header length of the event that holds it: it takes 4 bytes where that
+/// length is 6, else 6 bytes, the lowest first. Reading fails with `UnexpectedEof` where fewer
+/// bytes are left. It is written in 6 bytes.
 #[derive(Debug, PartialEq, Eq, Drop)]
 pub struct TableId {
     id: u64,
@@ -27,7 +31,7 @@ impl Model for TableId {
 }
 
 impl TableId {
-    /// The number.
+    /// Returns the number.
     pub fn get(&self) -> u64
         ensures { result ≡ self.now }
     {

@@ -1,14 +1,14 @@
-//! Groups of digits, and their numbers.
+//! Groups of at most nine decimal digits, and the numbers that they form.
 
 ghost use Rattle.std.specs.Prelude.{◌≡◌, ◌≤◌, ◌<◌, ◌^◌, ◌++◌, length, OnOk};
 ghost use Rattle.std.specs.Int.Digits.{AllBelowBase, number_from_digits};
 ghost use Rattle.binlog_values.specs.Decimals.{group_width, digits_size};
-ghost use Rattle.binlog_values.specs.DecimalCuts.{places};
+ghost use Rattle.binlog_values.specs.DecimalGroups.{low_digits};
 
 use super::{DIG_PER_DEC, DIG_TO_BYTES, POWERS_10};
 use std::alloc::AllocError;
 
-// The bytes of a group of that many digits.
+// Returns how many bytes a group of that many digits takes.
 pub(super) fn group_width(digits: usize) -> usize
     requires { digits ≤ 9 }
     ensures { result ≡ group_width digits }
@@ -16,7 +16,7 @@ pub(super) fn group_width(digits: usize) -> usize
     usize::from(DIG_TO_BYTES[digits])
 }
 
-// The bytes of that many digits.
+// Returns how many bytes that many digits before the point, or after it, take.
 pub(super) fn digits_size(digits: usize) -> usize
     ensures size { result ≡ digits_size digits }
     ensures within { result ≤ digits }
@@ -24,7 +24,7 @@ pub(super) fn digits_size(digits: usize) -> usize
     digits / DIG_PER_DEC * 4 + group_width(digits % DIG_PER_DEC)
 }
 
-// The number that a group of that many digits doesn't reach.
+// Returns ten to the power of `digits`: the least number with more than that many digits.
 pub(super) fn power_of_10(digits: usize) -> u64
     requires { digits ≤ 9 }
     ensures { result ≡ 10 ^ digits }
@@ -32,7 +32,7 @@ pub(super) fn power_of_10(digits: usize) -> u64
     POWERS_10[digits] as u64
 }
 
-// The number of digits to a base, the highest first.
+// Returns the number that the digits form in a base, the highest digit first.
 pub(super) fn number_of(digits: &[u8], base: u64) -> u64
     requires below { AllBelowBase base digits.now }
     requires fits { base ^ length digits.now ≤ 2 ^ 32 }
@@ -47,9 +47,9 @@ pub(super) fn number_of(digits: &[u8], base: u64) -> u64
     number
 }
 
-// Writes the lowest `count` digits of a number behind the others.
+// Appends the lowest `count` decimal digits of a number to `digits`, the highest of them first.
 pub(super) fn push_digits(number: u64, count: usize, digits: &mut Vec<u8>) -> Result<(), AllocError>
-    ensures { OnOk result (digits.new.items ≡ digits.old.items ++ places 10 count number) }
+    ensures { OnOk result (digits.new.items ≡ digits.old.items ++ low_digits 10 count number) }
 {
     if count > 0 {
         push_digits(number / 10, count - 1, digits)?;

@@ -1,9 +1,10 @@
-//! The bits that packed decimals invert and flip.
+//! The sign encoding of the packed DECIMAL format: all bits of a negative decimal are inverted, and
+//! then the first bit of every decimal is flipped.
 
 ghost use Rattle.std.specs.Prelude.{◌≡◌, ◌-◌, ◌==◌, ◌&&◌, length, map};
 ghost use Rattle.std.specs.Int.Digits.{AllBelowBase};
-ghost use Rattle.binlog_values.specs.Decimals.{inverted, flipped};
-ghost use Rattle.binlog_values.specs.DecimalMasks.{masked, is_minus};
+ghost use Rattle.binlog_values.specs.Decimals.{inverted_bytes, flipped_bytes};
+ghost use Rattle.binlog_values.specs.DecimalMasks.{masked_bytes, is_minus};
 
 // Inverts all bits.
 fn invert(bytes: &mut [u8])
@@ -14,25 +15,27 @@ fn invert(bytes: &mut [u8])
     }
 }
 
-// Flips the first bit.
+// Flips the highest bit of the first byte, if there is one.
 fn flip(bytes: &mut [u8])
-    ensures { bytes.new ≡ flipped bytes.old }
+    ensures { bytes.new ≡ flipped_bytes bytes.old }
 {
     if let Some(byte) = bytes.first_mut() {
         *byte = byte.wrapping_add(128);
     }
 }
 
-// Whether bytes behind those of these digits still stand at the front.
+// Returns whether the bytes after those of `digits` are at the start of the packed form: those of
+// `digits` are (`first`), and there are no digits.
 pub(super) fn still_first(first: bool, digits: &[u8]) -> bool
     ensures { result ≡ (first && (length digits.now == 0)) }
 {
     first && digits.is_empty()
 }
 
-// Makes bytes of groups as they are written; the very first bit is flipped where they stand at the front.
+// Applies the sign encoding to the bytes of groups. `first` says that they are at the start of the
+// packed form, where the first bit is flipped.
 pub(super) fn mask(negative: bool, first: bool, bytes: &mut [u8])
-    ensures { bytes.new ≡ masked negative first bytes.old }
+    ensures { bytes.new ≡ masked_bytes negative first bytes.old }
 {
     if negative {
         invert(bytes);
@@ -42,7 +45,8 @@ pub(super) fn mask(negative: bool, first: bool, bytes: &mut [u8])
     }
 }
 
-// Whether written bytes are of a minus.
+// Returns whether packed bytes are those of a negative decimal: their first bit is 0. This is also
+// true of no bytes.
 pub(super) fn is_negative(bytes: &[u8]) -> bool
     ensures sign { result ≡ is_minus bytes.now }
     ensures below { AllBelowBase 256 bytes.now }
@@ -53,9 +57,9 @@ pub(super) fn is_negative(bytes: &[u8]) -> bool
     }
 }
 
-// Makes written bytes what they were before.
+// Undoes the sign encoding of all bytes of a packed form.
 pub(super) fn unmask(negative: bool, written: &mut [u8])
-    ensures { written.new ≡ inverted negative (flipped written.old) }
+    ensures { written.new ≡ inverted_bytes negative (flipped_bytes written.old) }
 {
     flip(written);
     if negative {

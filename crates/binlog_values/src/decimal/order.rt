@@ -1,16 +1,16 @@
-//! The order of decimals: that of their packed bytes.
+//! Compares decimals by their packed bytes.
 
 ghost use Rattle.std.specs.Prelude.{◌≡◌, Some, IfOk};
 ghost use Rattle.std.specs.Ordering.{nat_cmp};
 ghost use Rattle.std.specs.Cmp.Lexicographic.{slice_cmp};
-ghost use Rattle.binlog_values.specs.Decimals.{packed};
+ghost use Rattle.binlog_values.specs.Decimals.{packed_bytes};
 
 use super::Decimal;
 use binlog_base::below::{Failed, Sink};
 use std::alloc::{AllocError, Global};
 use std::cmp::Ordering;
 
-// Bytes that grow, and how often memory was refused.
+// A sink that keeps all bytes in memory, and counts the allocations that failed.
 #[derive(Drop)]
 struct Buffer {
     bytes: Vec<u8>,
@@ -34,9 +34,9 @@ impl Sink for Buffer {
 }
 
 impl Decimal {
-    // Its packed form.
+    // Returns the bytes of the decimal in the packed DECIMAL format.
     fn packed_bytes(&self, alloc: Global) -> Result<Vec<u8>, AllocError>
-        ensures { IfOk result (λ bytes. bytes.items ≡ packed self.now) }
+        ensures { IfOk result (λ bytes. bytes.items ≡ packed_bytes self.now) }
     {
         let mut buffer = Buffer {
             bytes: Vec::new(alloc),
@@ -48,10 +48,14 @@ impl Decimal {
         }
     }
 
-    /// The order of the packed forms, byte by byte, and that of their lengths where one begins the other. It is the order of the numbers
-    /// only where both have the same counts of digits.
+    /// Compares the packed forms of two decimals, byte by byte. If one form is a prefix of the
+    /// other, the shorter one is the lesser.
+    ///
+    /// This is the order of the numbers only if both decimals have the same number of digits before
+    /// the point and the same number of digits after it. Fails if memory can't be allocated.
     pub fn try_cmp(&self, alloc: Global, other: &Decimal) -> Result<Ordering, AllocError>
-        ensures { IfOk result (λ order. order ≡ slice_cmp nat_cmp (packed self.now) (packed other.now)) }
+        ensures { IfOk result (λ order. order ≡ slice_cmp nat_cmp (packed_bytes self.now) (packed_bytes
+            other.now)) }
     {
         let mine = self.packed_bytes(alloc)?;
         let theirs = other.packed_bytes(alloc)?;

@@ -1,23 +1,24 @@
-//! Reading decimals from text.
+//! Reads decimals from text.
 
-ghost use Rattle.std.specs.Prelude.{◌≡◌, ◌≤◌, ◌<◌, ◌==◌, ◌++◌, length, IfOk, IfSome, Err};
-ghost use Rattle.std.specs.List.{list_all, before_first, after_first, take_while, position};
+ghost use Rattle.std.specs.Prelude.{◌≡◌, ◌<◌, ◌++◌, length, IfOk, IfSome, Err};
+ghost use Rattle.std.specs.List.{list_all, before_first, after_first, position};
 ghost use Rattle.std.specs.Str.{IsUtf8, trim};
 ghost use Rattle.binlog_values.specs.declared.decimal.parse.ParseDecimalError.TheVariants as refusal;
-ghost use Rattle.binlog_values.specs.DecimalText.{are_digits, decimal_of_text, decimal_with, without_leading_zeros, has_minus, unsigned, digits_of, is_digit, is_zero, is_point};
-ghost use Rattle.binlog_values.specs.DecimalParses.{ReadsText};
+ghost use Rattle.binlog_values.specs.DecimalText.{are_digits, decimal_of_text, decimal_with, without_leading_zeros, has_minus, without_sign, digits_of, is_digit, is_zero, is_point};
+ghost use Rattle.binlog_values.specs.DecimalText.{ReadsText};
 
 use super::Decimal;
+use crate::digits::{all_zeros, leading_zeros};
 use std::alloc::{AllocError, Global};
 use thiserror::Error;
 
-/// Why a text is no decimal.
+/// Why a text was not read as a decimal.
 #[derive(Clone, Copy, Debug, Error)]
 pub enum ParseDecimalError {
-    /// It is none of the accepted texts.
+    /// The text is not in the accepted form.
     #[error("not a decimal")]
     Invalid,
-    /// Memory was refused.
+    /// Memory could not be allocated.
     #[error("out of memory")]
     Memory,
 }
@@ -30,34 +31,26 @@ impl From<AllocError> for ParseDecimalError {
     }
 }
 
-// The count of zeros at the start.
-fn leading_zeros(text: &[u8]) -> usize
-    ensures zeros { result ≡ length (take_while is_zero text.now) }
-    ensures within { result ≤ length text.now }
-{
-    text.iter().take_while(|c| **c == b'0').count()
-}
-
-// Of two or more zeros at the start one stays.
+// Returns the text without the zeros at its start, except for the last of them.
 fn without_leading_zeros(text: &[u8]) -> &[u8]
     ensures { result.now ≡ without_leading_zeros text.now }
 {
-    &text[leading_zeros(text).saturating_sub(1)..]
+    &text[leading_zeros(text, b'0').saturating_sub(1)..]
 }
 
-// Whether a minus is written, and what stands behind the sign.
+// Returns whether the text starts with a minus, and the text after its optional sign.
 fn split_sign(text: &[u8]) -> (bool, &[u8])
     ensures minus { result.0 ≡ has_minus text.now }
-    ensures behind { result.1.now ≡ unsigned text.now }
+    ensures after { result.1.now ≡ without_sign text.now }
 {
     match text.split_first() {
-        Some((b'-', behind)) => (true, behind),
-        Some((b'+', behind)) => (false, behind),
+        Some((b'-', after)) => (true, after),
+        Some((b'+', after)) => (false, after),
         _ => (false, text),
     }
 }
 
-// The place of the first point.
+// Returns the index of the first point.
 fn point_place(text: &[u8]) -> Option<usize>
     ensures place { result ≡ position is_point text.now }
     ensures within { IfSome result (λ at. at < length text.now) }
@@ -65,10 +58,11 @@ fn point_place(text: &[u8]) -> Option<usize>
     text.iter().position(|c| *c == b'.')
 }
 
-// What stands before the first point, and behind it.
+// Returns the text before the first point and the text after it, which is empty if there is no
+// point.
 fn split_point(text: &[u8]) -> (&[u8], &[u8])
     ensures before { result.0.now ≡ before_first is_point text.now }
-    ensures behind { result.1.now ≡ after_first is_point text.now }
+    ensures after { result.1.now ≡ after_first is_point text.now }
 {
     match point_place(text) {
         Some(at) => (&text[..at], &text[at + 1..]),
@@ -82,48 +76,44 @@ fn all_digits(text: &[u8]) -> bool
     text.iter().all(|c| *c >= b'0' && *c <= b'9')
 }
 
-fn all_zeros(text: &[u8]) -> bool
-    ensures { result ≡ list_all is_zero text.now }
+// Returns whether both texts hold only digits, and at least one of them isn't empty.
+fn are_digits(before: &[u8], after: &[u8]) -> bool
+    ensures { result ≡ are_digits before.now after.now }
 {
-    text.iter().all(|c| *c == b'0')
+    let some = !before.is_empty() || !after.is_empty();
+    all_digits(before) && all_digits(after) && some
 }
 
-// Whether both texts are digits, and there is one.
-fn are_digits(before: &[u8], behind: &[u8]) -> bool
-    ensures { result ≡ are_digits before.now behind.now }
+// Returns whether both texts hold only zeros.
+fn are_zeros(before: &[u8], after: &[u8]) -> bool
+    ensures { result ≡ list_all is_zero (before.now ++ after.now) }
 {
-    let some = !before.is_empty() || !behind.is_empty();
-    all_digits(before) && all_digits(behind) && some
+    all_zeros(before, b'0') && all_zeros(after, b'0')
 }
 
-fn are_zeros(before: &[u8], behind: &[u8]) -> bool
-    ensures { result ≡ list_all is_zero (before.now ++ behind.now) }
-{
-    all_zeros(before) && all_zeros(behind)
-}
-
-// The numbers of digits.
+// Returns the digits as numbers from 0 to 9.
 fn digits_of(alloc: Global, text: &[u8]) -> Result<Vec<u8>, AllocError>
     ensures { IfOk result (λ digits. digits.items ≡ digits_of text.now) }
 {
     text.iter().map(|c| c.saturating_sub(b'0')).collect(alloc)
 }
 
-// The decimal with those texts before and behind the point.
+// Makes a decimal of the texts before and after the point. It is negative if `minus` is true and
+// some digit isn't 0.
 fn decimal_with(
     alloc: Global,
     minus: bool,
     before: &[u8],
-    behind: &[u8],
+    after: &[u8],
 ) -> Result<Decimal, ParseDecimalError>
-    ensures { ReadsText result (decimal_with minus before.now behind.now) }
+    ensures { ReadsText result (decimal_with minus before.now after.now) }
 {
-    if !are_digits(before, behind) {
+    if !are_digits(before, after) {
         return Err(ParseDecimalError::Invalid);
     }
-    let negative = minus && !are_zeros(before, behind);
+    let negative = minus && !are_zeros(before, after);
     let integer = digits_of(alloc, before)?;
-    let fraction = digits_of(alloc, behind)?;
+    let fraction = digits_of(alloc, after)?;
     Ok(Decimal {
         negative,
         integer,
@@ -132,25 +122,40 @@ fn decimal_with(
 }
 
 impl Decimal {
-    /// The decimal of a whole text: of two or more zeros at its start one stays; then come an optional sign, and digits with an
-    /// optional point, at least one digit. All zeros are positive. Other texts are `Invalid`.
+    /// Reads a decimal from a whole text.
+    ///
+    /// Of the zeros at the start of the text, only the last is kept. What is left is an optional
+    /// sign (`+` or `-`) and digits, at least one, with an optional point before, between or after
+    /// them. If all digits are 0, the decimal is positive. The error is `Invalid` for any other
+    /// text, and `Memory` if memory can't be allocated.
     pub fn parse_str_bytes(alloc: Global, bytes: &[u8]) -> Result<Decimal, ParseDecimalError>
         ensures { ReadsText result (decimal_of_text bytes.now) }
     {
         let text = without_leading_zeros(bytes);
         let (minus, digits) = split_sign(text);
-        let (before, behind) = split_point(digits);
-        decimal_with(alloc, minus, before, behind)
+        let (before, after) = split_point(digits);
+        decimal_with(alloc, minus, before, after)
     }
 
-    /// The same of a text without the white space at both ends (`char::is_whitespace`).
+    /// Reads a decimal from a text, without the white space at its ends (`char::is_whitespace`).
+    ///
+    /// Of the zeros at the start of the trimmed text, only the last is kept. What is left is an
+    /// optional sign (`+` or `-`) and digits, at least one, with an optional point before, between
+    /// or after them. If all digits are 0, the decimal is positive. The error is `Invalid` for any
+    /// other text, and `Memory` if memory can't be allocated.
     pub fn from_str(alloc: Global, text: &str) -> Result<Decimal, ParseDecimalError>
         ensures { ReadsText result (decimal_of_text (trim text.now)) }
     {
         Decimal::parse_str_bytes(alloc, text.trim().as_bytes())
     }
 
-    /// The same of bytes; those that aren't UTF-8 are `Invalid`.
+    /// Reads a decimal from UTF-8 bytes, without the white space at their ends
+    /// (`char::is_whitespace`).
+    ///
+    /// Of the zeros at the start of the trimmed text, only the last is kept. What is left is an
+    /// optional sign (`+` or `-`) and digits, at least one, with an optional point before, between
+    /// or after them. If all digits are 0, the decimal is positive. The error is `Invalid` for any
+    /// other text and for bytes that aren't UTF-8, and `Memory` if memory can't be allocated.
     pub fn parse_bytes(alloc: Global, bytes: &[u8]) -> Result<Decimal, ParseDecimalError>
         ensures text { IsUtf8 bytes.now → ReadsText result (decimal_of_text (trim bytes.now)) }
         ensures other { ¬ IsUtf8 bytes.now → result ≡ Err refusal.Invalid }

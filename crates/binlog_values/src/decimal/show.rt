@@ -1,32 +1,24 @@
-//! The text of decimals.
+//! Writes decimals as text.
 
-ghost use Rattle.std.specs.Prelude.{◌≡◌, ◌≤◌, ◌==◌, length, Some};
-ghost use Rattle.std.specs.List.{take_while};
+ghost use Rattle.std.specs.Prelude.{◌≡◌, Some};
 ghost use Rattle.std.specs.Fmt.{WritesOnOk};
 ghost use Rattle.std.specs.Int.Digits.{AllBelowBase};
-ghost use Rattle.binlog_values.specs.DecimalText.{decimal_text, integer_text, fraction_digits_text, shown_digits};
+ghost use Rattle.binlog_values.specs.DecimalText.{decimal_text, integer_text, shown_digits};
 
 use super::{DIG_PER_DEC, Decimal};
-use crate::digits::write_digits;
+use crate::digits::{leading_zeros, write_digits, write_fraction};
 use std::fmt;
 
-// The count of zeros at the start.
-fn leading_zeros(digits: &[u8]) -> usize
-    ensures zeros { result ≡ length (take_while (λ d. d == 0) digits.now) }
-    ensures within { result ≤ length digits.now }
-{
-    digits.iter().take_while(|digit| **digit == 0).count()
-}
-
-// The digits without the leading zeros of the first group, but for its last digit.
+// Returns the digits without the leading zeros of their first group. The last digit of that group
+// is kept.
 fn shown_digits(digits: &[u8]) -> &[u8]
     ensures { result.now ≡ shown_digits digits.now }
 {
     let most = digits.len().saturating_sub(1) % DIG_PER_DEC;
-    &digits[leading_zeros(digits).min(most)..]
+    &digits[leading_zeros(digits, 0).min(most)..]
 }
 
-// Writes the digits before the point.
+// Writes the digits before the point, or `0` if there are none.
 fn write_integer<W: fmt::Write>(f: &mut fmt::Formatter<W>, digits: &[u8]) -> fmt::Result
     requires { AllBelowBase 10 digits.now }
     ensures { WritesOnOk W.write_str_gives f.old result (integer_text digits.now) f.new }
@@ -38,21 +30,11 @@ fn write_integer<W: fmt::Write>(f: &mut fmt::Formatter<W>, digits: &[u8]) -> fmt
     }
 }
 
-// Writes the point and the digits after it, if there are any.
-fn write_fraction<W: fmt::Write>(f: &mut fmt::Formatter<W>, digits: &[u8]) -> fmt::Result
-    requires { AllBelowBase 10 digits.now }
-    ensures { WritesOnOk W.write_str_gives f.old result (fraction_digits_text digits.now) f.new }
-{
-    if digits.is_empty() {
-        Ok(())
-    } else {
-        f.write_str(".")?;
-        write_digits(f, digits)
-    }
-}
-
-/// A minus, the digits before the point without the leading zeros of the first group of digits (its last digit stays; `0` for no digit),
-/// and a point with all digits behind it, where there are any.
+/// Writes `-` for a negative decimal, the digits before the point, and, if there are digits after
+/// the point, a `.` and all of those digits.
+///
+/// The leading zeros of the first group before the point are left out, except for the last digit of
+/// that group. If there are no digits before the point, `0` is written for them.
 impl fmt::Display for Decimal {
     ghost output = { λ d. Some (decimal_text d) };
 

@@ -1,3 +1,5 @@
+//! Tests of decimals: their text, their packed bytes, and their order.
+
 use super::{
     DIG_BASE, DIG_PER_DEC, DIG_TO_BYTES, Decimal, Digit, POWERS_10, ParseDecimalError,
     decimal_bin_size,
@@ -15,7 +17,7 @@ const MINUS: [u8; 7] = [0x7e, 0xf2, 0x04, 0xc7, 0x2d, 0xfb, 0x2d];
 
 const COUNTED: [u8; 9] = [0x0e, 0x04, 0x81, 0x0d, 0xfb, 0x38, 0xd2, 0x04, 0xd2];
 
-// A sink that takes nothing.
+// A sink that fails on each call.
 #[derive(Drop)]
 struct Broken {
     failures: u64,
@@ -30,7 +32,7 @@ impl Sink for Broken {
     }
 }
 
-// A source that gives one byte a call, and fails once it was called often enough.
+// A source that gives one byte per call, and fails after `calls` calls.
 #[derive(Drop)]
 struct Dripping {
     calls: u64,
@@ -54,7 +56,8 @@ impl Source for Dripping {
     }
 }
 
-// What such a source makes of a decimal of two digits, both behind the point, and its failures.
+// Reads a decimal of two digits, both after the point, from a `Dripping` source. Returns the result
+// and the number of the source's failures.
 fn dripped(alloc: Global, calls: u64) -> (Result<Decimal, Fault>, u64) {
     let mut source = Dripping { calls, failures: 0 };
     let answer = Decimal::read_packed(alloc, &mut source, true);

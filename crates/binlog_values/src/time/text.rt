@@ -1,12 +1,14 @@
+//! The text of dates and times.
+
 ghost use Rattle.std.specs.Prelude.{◌≡◌, ◌<◌, Some};
 ghost use Rattle.std.specs.Int.Digits.{AllBelowBase};
 ghost use Rattle.binlog_values.specs.TimeText.{two_digits, hours_text, signed_hours_text, date_text, minutes_text, six_digits, fraction_text, zone_text, datetime_text, text_of};
 
 use super::{MysqlTime, MysqlTimestampType};
-use crate::digits::write_digits;
+use crate::digits::write_fraction;
 use std::fmt;
 
-// Two digits; 00 for 100 or more.
+// A number as two digits; `00` if it is 100 or more.
 #[derive(Drop)]
 struct TwoDigits(u32);
 
@@ -25,7 +27,7 @@ impl fmt::Display for TwoDigits {
     }
 }
 
-// Two digits at least.
+// A number as at least two digits.
 #[derive(Drop)]
 struct Hours(u32);
 
@@ -42,7 +44,7 @@ impl fmt::Display for Hours {
     }
 }
 
-// Two digits at least, where a minus counts as one.
+// A signed number as at least two characters, including the minus.
 #[derive(Drop)]
 struct SignedHours(i32);
 
@@ -60,7 +62,7 @@ impl fmt::Display for SignedHours {
     }
 }
 
-// Year, month and day.
+// A date as `YYYY-MM-DD`.
 #[derive(Drop)]
 struct Date {
     year: u32,
@@ -92,7 +94,7 @@ fn date_of(time: &MysqlTime) -> Date
     }
 }
 
-// What stands behind the hour.
+// The text after the hour: `:mm:ss`.
 #[derive(Drop)]
 struct Minutes {
     minute: u32,
@@ -119,7 +121,7 @@ fn minutes_of(time: &MysqlTime) -> Minutes
     }
 }
 
-// The six digits of microseconds.
+// Returns the six decimal digits of the microseconds.
 fn six_digits(microseconds: u32) -> [u8; 6]
     requires { microseconds < 1000000 }
     ensures digits { result ≡ six_digits microseconds }
@@ -135,7 +137,8 @@ fn six_digits(microseconds: u32) -> [u8; 6]
     ]
 }
 
-// A point and the first digits of the microseconds, at most six.
+// A point and the first `decimals` digits of the microseconds, at most six; nothing if `decimals`
+// is 0.
 #[derive(Drop)]
 struct Fraction {
     decimals: usize,
@@ -146,12 +149,8 @@ impl fmt::Display for Fraction {
     ghost output = { λ p. Some (fraction_text p.decimals p.microseconds) };
 
     fn fmt<W: fmt::Write>(&self, f: &mut fmt::Formatter<W>) -> fmt::Result {
-        if self.decimals == 0 {
-            return Ok(());
-        }
         let six = six_digits(self.microseconds % 1_000_000);
-        f.write_str(".")?;
-        write_digits(f, &six[..self.decimals.min(6)])
+        write_fraction(f, &six[..self.decimals.min(6)])
     }
 }
 
@@ -165,7 +164,7 @@ fn fraction_of(time: &MysqlTime, decimals: usize) -> Fraction
     }
 }
 
-// The displacement of a zone, in seconds.
+// The displacement of a time zone, in seconds; written as `+`, the signed hours, and the minutes.
 #[derive(Drop)]
 struct Zone(i32);
 
@@ -179,7 +178,7 @@ impl fmt::Display for Zone {
     }
 }
 
-// Date and time of day, with as many digits of the fraction as are asked for.
+// A date and a time of day, with `decimals` digits of the fraction.
 #[derive(Drop)]
 struct DateTime<'a> {
     time: &'a MysqlTime,
@@ -198,7 +197,7 @@ impl fmt::Display for DateTime<'_> {
     }
 }
 
-// A time with as many digits of its fraction as are asked for.
+// A date or time of any kind, with `decimals` digits of its fraction.
 #[derive(Drop)]
 pub(super) struct TimeText<'a> {
     pub(super) time: &'a MysqlTime,

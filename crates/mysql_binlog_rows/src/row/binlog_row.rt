@@ -1,12 +1,15 @@
+//! A row of an event.
+
 ghost use Rattle.std.specs.Prelude.{◌≡◌, length, map, IsTrue, ◌↔◌, IfOk};
 ghost use Rattle.std.specs.Option.{option_map};
 ghost use Rattle.std.specs.Rc.{rc_slice_items};
 ghost use Rattle.mysql_binlog_rows.specs.Cells.{cell_of};
 ghost use Rattle.binlog_base.specs.Values.{value_at};
-ghost use Rattle.mysql_binlog_rows.specs.Equality.{same_cell, same_cell_is_equivalence};
+ghost use Rattle.mysql_binlog_rows.specs.Equality.{same_cell};
+ghost use Rattle.mysql_binlog_rows.specs.Lemmas.Equality.{same_cell_is_equivalence};
 ghost use Rattle.std.specs.Option.{option_eq};
 ghost use Rattle.std.specs.Ordering.{on, eq_of_both};
-ghost use Rattle.binlog_base.specs.contracts.below.column.ColumnPartialEq.TheImpl.Laws.{laws-law};
+ghost use Rattle.binlog_base.specs.contracts.below.columns.column.ColumnPartialEq.TheImpl.Laws.{laws-law};
 ghost use Rattle.std.specs.Cmp.{and_per, on_per, partial_equiv_from_equiv};
 ghost use Rattle.std.specs.Cmp.Lexicographic.{pointwise, lists_per, options_equiv};
 
@@ -16,16 +19,8 @@ use std::alloc::{AllocError, Global};
 use std::marker::Model;
 use std::rc::RcSlice;
 
-// Whether the values are the same, place by place.
-#[tactic(auto, using(crate::proofs::Equality::same_values))]
-fn same_values(values: &[Option<BinlogValue>], others: &[Option<BinlogValue>]) -> bool
-    ensures { result ≡ pointwise (option_eq same_cell) (map (option_map cell_of) values.now) (map (option_map cell_of) others.now) }
-{
-    values == others
-}
-
-/// A row of an event: a value for each of its columns, `Value::NULL` for NULL, and none where the value was taken. Rows of one event
-/// share their columns.
+/// A row of an event: a value for each of its columns, `Value::NULL` for NULL, and `None` where the
+/// value was taken. Rows of one event share their columns.
 #[derive(Debug, Drop)]
 pub struct BinlogRow {
     values: Vec<Option<BinlogValue>>,
@@ -41,7 +36,10 @@ impl Model for BinlogRow {
 
     ghost Value = { Spec.BinlogRow };
 
-    ghost view = { λ r. record { columns = rc_slice_items r.columns; values = map (option_map cell_of) r.values.items } };
+    ghost view = { λ r. record {
+      columns = rc_slice_items r.columns;
+      values = map (option_map cell_of) r.values.items;
+    } };
 }
 
 /// Two rows are equal where their columns are, and their values in order.
@@ -50,16 +48,20 @@ impl PartialEq for BinlogRow {
 
     ghost laws = { and_per (on_per (λ r. r.columns) (lists_per laws-law)) (on_per (λ r. r.values) (lists_per (partial_equiv_from_equiv (options_equiv same_cell_is_equivalence)))) };
 
+    #[tactic(auto, using(crate::proofs::Equality::same_values))]
     fn eq(&self, other: &Self) -> bool {
-        self.columns.as_slice() == other.columns.as_slice()
-            && same_values(&self.values, &other.values)
+        self.columns.as_slice() == other.columns.as_slice() && self.values == other.values
     }
 }
 
 impl BinlogRow {
     /// The row of these values and columns.
     pub fn new(values: Vec<Option<BinlogValue>>, columns: RcSlice<Column>) -> Self
-        ensures { result ≡ record { columns = rc_slice_items columns; values = map (option_map cell_of) values.items } }
+        ensures { result ≡ record {
+          columns = rc_slice_items columns;
+          values = map (option_map cell_of)
+              values.items;
+        } }
     {
         BinlogRow { values, columns }
     }

@@ -1,8 +1,10 @@
+//! Reads the images of rows, by a plan that is made once for an event.
+
 ghost use Rattle.std.specs.Prelude.{◌≡◌, true, false, MatchResult, map, slice_get, slice_index_or};
 ghost use Rattle.std.specs.Option.{option_map};
 ghost use Rattle.std.specs.Rc.{rc_slice_items};
 ghost use Rattle.binlog_base.specs.declared.fault.Fault.TheVariants as Fault;
-ghost use Rattle.binlog_base.specs.Format.{Parses};
+ghost use Rattle.binlog_base.specs.Format.{Parses, ParsesAs, OrMemory};
 ghost use Rattle.binlog_table.specs.ColumnTypes.{raw_type_of, real_type_of};
 ghost use Rattle.mysql_binlog_rows.specs.Cells.{cell_of};
 ghost use Rattle.mysql_binlog_rows.specs.Images.{image, image_of, slot_at, typed_slot, column_of, nullable_cell, cells};
@@ -17,7 +19,7 @@ use std::alloc::Global;
 use std::marker::Model;
 use std::rc::RcSlice;
 
-/// A column of the event that has a type. How its cells are read is made once.
+/// A column of the event that has a type. `form`, how its cells are read, is found out once.
 #[derive(Drop)]
 struct Slot<'a> {
     column_type: ColumnType,
@@ -34,12 +36,17 @@ impl<'a> Model for Slot<'a> {
 
     ghost Value = { Spec.Slot };
 
-    ghost view = { λ s. record { column_type = s.column_type; metadata = s.metadata.now; present = s.present; index = s.index } };
+    ghost view = { λ s. record {
+      column_type = s.column_type;
+      metadata = s.metadata.now;
+      present = s.present;
+      index = s.index;
+    } };
 
     ghost invariant = { λ s. s.form ≡ form_of s.column_type s.metadata.now false };
 }
 
-/// What the images of one bitmap are read by, made once for an event.
+/// How images with the same bitmap of columns are read. A plan is made once for an event.
 #[derive(Drop)]
 pub(crate) struct Plan<'a> {
     slots: Vec<Slot<'a>>,
@@ -54,10 +61,15 @@ impl<'a> Model for Plan<'a> {
 
     ghost Value = { Image };
 
-    ghost view = { λ p. record { slots = record { typed = p.slots.items; fault = p.fault }; count = p.count; columns = rc_slice_items p.columns } };
+    ghost view = { λ p. record {
+      slots = record { typed = p.slots.items; fault = p.fault };
+      count = p.count;
+      columns = rc_slice_items p.columns;
+    } };
 }
 
-// The column at a place: its type, and its metadata, which is read as empty where there is none.
+// Returns the column at an index, with its type and its metadata, which is empty if there is none.
+// `NoColumnType` if the table has no such column.
 #[tactic(auto, unfolding(crate::specs::Images::slot_at))]
 fn slot_of<'a>(
     table: &'a TableMapEvent<'_>,
@@ -65,7 +77,9 @@ fn slot_of<'a>(
     metadata: Option<&'a [u8]>,
     present: bool,
 ) -> Result<Slot<'a>, Fault>
-    ensures { result ≡ typed_slot (real_type_of (raw_type_of (slice_get table.now.types index)) (option_map (λ c. c.now) metadata.entry)) (option_map (λ c. c.now) metadata.entry) present index }
+    ensures { result ≡ typed_slot (real_type_of (raw_type_of (slice_get table.now.types index))
+        (option_map (λ c. c.now) metadata.entry))
+        (option_map (λ c. c.now) metadata.entry) present index }
 {
     match table.real_column_type(index, metadata)? {
         None => Err(Fault::NoColumnType),
@@ -82,7 +96,8 @@ fn slot_of<'a>(
     }
 }
 
-// The column of a row that stands for a column in the image.
+// Returns the description of a column in a row: its type, its database, its table, and the name `@`
+// with its index.
 fn column_of(alloc: Global, table: &TableMapEvent<'_>, slot: &Slot<'_>) -> Result<Column, Fault>
     ensures { MatchResult result (λ c. c ≡ column_of table.now slot.now) (λ e. e ≡ Fault.Memory) }
 {
@@ -96,7 +111,8 @@ fn column_of(alloc: Global, table: &TableMapEvent<'_>, slot: &Slot<'_>) -> Resul
 }
 
 impl<'a> Plan<'a> {
-    /// The plan of images with these columns of the table. `Memory` where memory was refused.
+    /// Makes the plan for images with the columns of the table whose bits are set in `present`.
+    /// `Memory` if memory can't be allocated.
     pub fn make(
         alloc: Global,
         table: &'a TableMapEvent<'_>,
@@ -133,10 +149,10 @@ impl<'a> Plan<'a> {
         })
     }
 
-    /// Reads one image.
+    /// Reads one image: the null bits, and then the cells that aren't NULL.
     #[tactic(auto, unfolding(crate::specs::Images::image))]
     pub fn read(&self, alloc: Global, buf: &mut ParseBuf<'_>) -> Result<BinlogRow, Fault>
-        ensures { Parses true (λ r. r) result buf.new.0.now (image self.now) buf.old.0.now }
+        ensures { OrMemory result (Parses (image self.now) result buf.old.0.now buf.new.0.now) }
     {
         let nulls: BitView<'_> = buf.parse((BitOrder::LeastSignificantFirst, self.count))?;
         let values = read_cells(alloc, &self.slots, self.fault, &nulls, buf)?;
@@ -144,7 +160,8 @@ impl<'a> Plan<'a> {
     }
 }
 
-// A value for each column in the image, up to the fault of the first column without a type.
+// Reads a value for each column in the image. If `end` is the fault of a column without a type, it
+// is returned after the cells before that column are read.
 fn read_cells(
     alloc: Global,
     slots: &[Slot<'_>],
@@ -152,7 +169,8 @@ fn read_cells(
     nulls: &BitView<'_>,
     buf: &mut ParseBuf<'_>,
 ) -> Result<Vec<Option<BinlogValue>>, Fault>
-    ensures { Parses true (λ v. map (option_map cell_of) v.items) result buf.new.0.now (cells slots.now end nulls.now) buf.old.0.now }
+    ensures { OrMemory result (ParsesAs (λ v. map (option_map cell_of) v.items) (cells slots.now end
+        nulls.now) result buf.old.0.now buf.new.0.now) }
 {
     let mut values = Vec::with_capacity(alloc, nulls.len())?;
     let mut place = 0;
@@ -169,14 +187,14 @@ fn read_cells(
     }
 }
 
-// Whether the bit of a place is set; it isn't behind the last.
+// Returns whether the bit at an index is set. It isn't if there is no such bit.
 fn is_set(bits: &BitView<'_>, place: usize) -> bool
     ensures { result ≡ slice_index_or bits.now place false }
 {
     bits.get(place).unwrap_or(false)
 }
 
-// NULL where the null bit is set, else the cell.
+// Returns NULL if the null bit is set, and reads the cell otherwise.
 #[tactic(auto, unfolding(crate::specs::Images::nullable_cell, crate::specs::Cells::cell))]
 fn read_nullable_cell(
     alloc: Global,
@@ -184,7 +202,8 @@ fn read_nullable_cell(
     is_null: bool,
     buf: &mut ParseBuf<'_>,
 ) -> Result<BinlogValue, Fault>
-    ensures { Parses true cell_of result buf.new.0.now (nullable_cell is_null slot.now) buf.old.0.now }
+    ensures { OrMemory result (ParsesAs cell_of (nullable_cell is_null slot.now) result buf.old.0.now
+        buf.new.0.now) }
 {
     if is_null {
         return Ok(BinlogValue::Value(Value::NULL));

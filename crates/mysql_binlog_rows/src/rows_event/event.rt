@@ -1,3 +1,5 @@
+//! The rows event, and how it is read from its body.
+
 ghost use Rattle.std.specs.Prelude.{◌≡◌};
 ghost use Rattle.mysql_binlog_rows.specs.RowsEvent.{has_before, has_after, bitmap_length};
 
@@ -10,7 +12,8 @@ use binlog_consts::consts::{BinlogVersion, EventType, Flags, RowsEventFlags};
 use binlog_table::table_map::TableId;
 use std::marker::Model;
 
-/// What a rows event is read with: its type, and the post-header lengths of its own type and of `WRITE_ROWS_EVENT`.
+/// What is needed to read the body of a rows event: the event's type, and the post-header lengths
+/// of that type and of `WRITE_ROWS_EVENT`.
 #[derive(Clone, Copy)]
 pub struct RowsEventCtx {
     pub event_type: EventType,
@@ -18,13 +21,14 @@ pub struct RowsEventCtx {
     pub write_rows_post_header_len: u8,
 }
 
-/// The greatest length of a body: what the length in an event's header can tell, less the header.
+/// The greatest length of a body: the greatest length that an event header can give, less the 19
+/// bytes of the header.
 const MAX_LEN: usize = 0xffff_ffff - 19;
 
-/// The bytes of a bitmap of images.
+/// The bytes of a bitmap that has a bit for each column.
 type Bitmap<'a> = RawBytes<'a, BareBytes<0x2000_0000_0000_0000>>;
 
-/// A rows event of the MySQL binlog: which columns its images have, and the rows data.
+/// A rows event of MySQL's binary log: its table, the columns in its images, and the rows data.
 #[derive(Debug, PartialEq, Eq, Drop)]
 pub struct RowsEvent<'a> {
     event_type: EventType,
@@ -44,11 +48,29 @@ impl<'a> Model for RowsEvent<'a> {
 
     ghost Value = { Spec.RowsEvent };
 
-    ghost view = { λ e. record { event_type = e.event_type; table_id = e.table_id; flags = e.flags; extra_data = e.extra_data; num_columns = e.num_columns; before = e.columns_before_image; after = e.columns_after_image; rows_data = e.rows_data } };
+    ghost view = { λ e. record {
+      event_type = e.event_type;
+      table_id = e.table_id;
+      flags = e.flags;
+      extra_data = e.extra_data;
+      num_columns = e.num_columns;
+      before = e.columns_before_image;
+      after = e.columns_after_image;
+      rows_data = e.rows_data;
+    } };
 
     ghost invariant = { λ e. (ForSome e.columns_before_image (λ b. e.num_columns ≤ 8 * length b)) × (ForSome e.columns_after_image (λ b. e.num_columns ≤ 8 * length b)) };
 
-    ghost inverse = { λ e. record { event_type = e.event_type; table_id = e.table_id; flags = e.flags; extra_data = e.extra_data; num_columns = e.num_columns; columns_before_image = e.before; columns_after_image = e.after; rows_data = e.rows_data } };
+    ghost inverse = { λ e. record {
+      event_type = e.event_type;
+      table_id = e.table_id;
+      flags = e.flags;
+      extra_data = e.extra_data;
+      num_columns = e.num_columns;
+      columns_before_image = e.before;
+      columns_after_image = e.after;
+      rows_data = e.rows_data;
+    } };
 }
 
 impl<'a> RowsEvent<'a> {
@@ -56,19 +78,20 @@ impl<'a> RowsEvent<'a> {
     ghost use Rattle.std.specs.Option.{ForSome};
     ghost use Rattle.std.specs.Int.RustNames.{bit_and};
     ghost use Rattle.bitflags.specs.Sets.{known_bits};
-    ghost use Rattle.binlog_consts.specs.Flags.{rows_event_flags};
+    ghost use Rattle.binlog_consts.specs.Flags.{rows_event_flags, rows_event_flags_of};
     ghost use Rattle.binlog_base.specs.Format.{Parses};
     ghost use Rattle.mysql_binlog_rows.specs.RowsEvent.{rows_event, extra_data, bitmap, image_columns, event_len};
-    ghost use Rattle.binlog_base.specs.Format.{choice, done};
+    ghost use Rattle.binlog_base.specs.Format.{choice, no_bytes};
     ghost use Rattle.std.specs.Prelude.{[]};
 
-    // Extra data: its length with the two bytes of the length, and its bytes.
+    // Reads the extra data: a length of two bytes, which counts these two bytes as well, and the
+    // data. Reads nothing if there is no extra data.
     #[tactic(auto, unfolding(crate::specs::RowsEvent::extra_data))]
     fn read_extra_data(
         is_there: bool,
         buf: &mut ParseBuf<'a>,
     ) -> Result<RawBytes<'a, BareBytes<65533>>, Fault>
-        ensures { Parses false (λ x. x) result buf.new.0.now (choice is_there extra_data (done [])) buf.old.0.now }
+        ensures { Parses (choice is_there extra_data (no_bytes [])) result buf.old.0.now buf.new.0.now }
     {
         if !is_there {
             return buf.parse(0);
@@ -77,14 +100,14 @@ impl<'a> RowsEvent<'a> {
         buf.parse(usize::from(len.saturating_sub(2)))
     }
 
-    // The bitmap of an image, where the event has it.
+    // Reads the bitmap of an image, a bit for each of `count` columns, if the event has the image.
     #[tactic(auto, unfolding(crate::specs::RowsEvent::bitmap))]
     fn read_bitmap(
         is_there: bool,
         count: u64,
         buf: &mut ParseBuf<'a>,
     ) -> Result<Option<Bitmap<'a>>, Fault>
-        ensures parses { Parses false (λ x. x) result buf.new.0.now (bitmap is_there count) buf.old.0.now }
+        ensures parses { Parses (bitmap is_there count) result buf.old.0.now buf.new.0.now }
         ensures fits { IfOk result (λ b. ForSome b (λ x. count ≤ 8 * length x)) }
     {
         if !is_there {
@@ -93,10 +116,10 @@ impl<'a> RowsEvent<'a> {
         Ok(Some(buf.parse(bitmap_len(count as usize))?))
     }
 
-    // All parts of the event, one behind the other.
+    // Reads all parts of the event, one after the other.
     #[tactic(auto, unfolding(crate::specs::RowsEvent::rows_event))]
     fn read(ctx: RowsEventCtx, buf: &mut ParseBuf<'a>) -> Result<Self, Fault>
-        ensures { Parses false (λ e. e) result buf.new.0.now (rows_event ctx.event_type ctx.post_header_len ctx.write_rows_post_header_len) buf.old.0.now }
+        ensures { Parses (rows_event ctx) result buf.old.0.now buf.new.0.now }
     {
         let table_id = buf.parse(ctx.post_header_len)?;
         let flags = LeU16::deserialize(buf)?;
@@ -126,28 +149,31 @@ impl<'a> RowsEvent<'a> {
         })
     }
 
-    /// The type of the event.
+    /// Returns the event's type.
     pub fn event_type(&self) -> EventType
         ensures { result ≡ self.now.event_type }
     {
         self.event_type
     }
 
-    /// The number of the table that the rows belong to, as its table map event tells it.
+    /// Returns the number of the table that the rows belong to. The table map event with the same
+    /// number describes the table.
     pub fn table_id(&self) -> u64
         ensures { result ≡ self.now.table_id }
     {
         self.table_id.get()
     }
 
-    /// The count of the columns that the bitmaps speak of.
+    /// Returns the number of columns of the event: each bitmap of columns has a bit for each of
+    /// them.
     pub fn num_columns(&self) -> u64
         ensures { result ≡ self.now.num_columns }
     {
         self.num_columns
     }
 
-    /// A bit for each column, set where the image before the change has it; none where the event has no such image.
+    /// Returns a bit for each column of the event, set if the images before the change have the
+    /// column; none if the event has no such images.
     pub fn columns_before_image(&self) -> Option<BitView<'_>>
         ensures { result ≡ image_columns self.now.num_columns self.now.before }
     {
@@ -159,7 +185,8 @@ impl<'a> RowsEvent<'a> {
         ))
     }
 
-    /// A bit for each column, set where the image after the change has it; none where the event has no such image.
+    /// Returns a bit for each column of the event, set if the images after the change have the
+    /// column; none if the event has no such images.
     pub fn columns_after_image(&self) -> Option<BitView<'_>>
         ensures { result ≡ image_columns self.now.num_columns self.now.after }
     {
@@ -171,29 +198,32 @@ impl<'a> RowsEvent<'a> {
         ))
     }
 
-    /// The rows data: the images, one behind the other.
+    /// Returns the rows data: the bytes of the images, one after the other.
     pub fn rows_data(&self) -> &[u8]
         ensures { result.now ≡ self.now.rows_data }
     {
         self.rows_data.as_bytes()
     }
 
-    /// The known flags: unknown bits are cut.
+    /// Returns the known flags. Unknown bits are ignored.
     pub fn flags(&self) -> RowsEventFlags
-        ensures { result.0 ≡ bit_and self.now.flags (known_bits rows_event_flags) }
+        ensures { result ≡ rows_event_flags_of (bit_and self.now.flags (known_bits rows_event_flags)) }
     {
         RowsEventFlags::from_bits_truncate(self.flags)
     }
 
-    /// The flags as they stand in the event.
+    /// Returns all 16 bits of the flags, as they are in the event.
     pub fn flags_raw(&self) -> u16
         ensures { result ≡ self.now.flags }
     {
         self.flags
     }
 
-    /// The length of the event's body as this version of the binlog writes it: the table id in six bytes, and the two bytes of extra
-    /// data's length also where no extra data is written. At most what an event's header can tell.
+    /// Returns the length of the event's body in bytes, with a table id of six bytes and the two
+    /// bytes for the length of the extra data, even if the event that was read has fewer.
+    ///
+    /// The result is at most the greatest length that an event header can give, less the header.
+    /// The version is ignored.
     pub fn len(&self, _version: BinlogVersion) -> usize
         ensures { result ≡ event_len self.now }
     {
@@ -207,7 +237,7 @@ impl<'a> RowsEvent<'a> {
     }
 }
 
-// The count of a bitmap's bytes.
+// Returns how many bytes a bitmap has; 0 if there is none.
 fn bitmap_length(bitmap: &Option<Bitmap<'_>>) -> usize
     ensures { result ≡ bitmap_length bitmap.now }
 {
@@ -217,7 +247,7 @@ fn bitmap_length(bitmap: &Option<Bitmap<'_>>) -> usize
     }
 }
 
-// Whether events of the type have an image of the row before the change.
+// Returns whether events of the type have images of the rows before the change.
 fn has_before(event_type: EventType) -> bool
     ensures { result ≡ has_before event_type }
 {
@@ -231,7 +261,7 @@ fn has_before(event_type: EventType) -> bool
     )
 }
 
-// Whether events of the type have an image of the row after the change.
+// Returns whether events of the type have images of the rows after the change.
 fn has_after(event_type: EventType) -> bool
     ensures { result ≡ has_after event_type }
 {
@@ -242,32 +272,39 @@ fn has_after(event_type: EventType) -> bool
 }
 
 impl<'de> MyDeserialize<'de> for RowsEvent<'de> {
-    ghost use Rattle.std.specs.Prelude.{true, false};
-    ghost use Rattle.binlog_base.specs.Format.{Parses, Reads};
+    ghost use Rattle.std.specs.Prelude.{true};
+    ghost use Rattle.binlog_base.specs.Format.{Parses, ReadsAll};
     ghost use Rattle.mysql_binlog_rows.specs.RowsEvent as Spec;
-    ghost use Rattle.mysql_binlog_rows.specs.RowsEventExact.{exact_rows_event};
+    ghost use Rattle.mysql_binlog_rows.specs.Lemmas.RowsEvent.{exact_rows_event};
 
     ghost Seen = { Spec.RowsEvent };
 
     ghost seen = { λ e. e };
 
-    ghost format = { λ ctx. Spec.rows_event ctx.event_type ctx.post_header_len ctx.write_rows_post_header_len };
+    ghost format = { λ ctx. Spec.rows_event ctx };
 
     ghost to_end = { true };
 
-    ghost exact = { λ ctx. exact_rows_event ctx.event_type ctx.post_header_len ctx.write_rows_post_header_len };
+    ghost exact = { λ ctx. exact_rows_event ctx };
 
     const SIZE: Option<usize> = None;
 
     type Ctx = RowsEventCtx;
 
-    /// Reads the event from its body, all of it.
+    /// Reads a rows event of MySQL's binary log from all bytes of its body.
     ///
-    /// It takes no memory. `UnexpectedEof` where a part is cut, `BadLenEnc` where the columns' count begins with FB or FF.
+    /// The body is the table id (four bytes if the post-header length is 6, else six), the flags
+    /// (two bytes), the extra data if the post-header length is that of `WRITE_ROWS_EVENT`, the
+    /// number of columns (a length-encoded integer), a bitmap of columns for each image that the
+    /// type has, and the rows data.
+    ///
+    /// This takes no memory. The fault is `UnexpectedEof` if the body ends before the rows data,
+    /// and `BadLenEnc` if the number of columns begins with FB or FF.
     fn deserialize(ctx: RowsEventCtx, buf: &mut ParseBuf<'de>) -> Result<Self, Fault>
-        ensures parses { Parses false (λ e. e) result buf.new.0.now (Spec.rows_event ctx.event_type ctx.post_header_len ctx.write_rows_post_header_len) buf.old.0.now }
-        // An event comes out exactly where the layout stands, with those very parts; else the layout's fault.
-        ensures reads { Reads true false (λ e. e) result buf.new.0.now (Spec.rows_event ctx.event_type ctx.post_header_len ctx.write_rows_post_header_len) buf.old.0.now }
+        ensures parses { Parses (Spec.rows_event ctx) result buf.old.0.now buf.new.0.now }
+        // All of the bytes are the event in this layout, or they are refused with the layout's
+        // fault.
+        ensures reads { ReadsAll (Spec.rows_event ctx) result buf.old.0.now buf.new.0.now }
     {
         RowsEvent::read(ctx, buf)
     }

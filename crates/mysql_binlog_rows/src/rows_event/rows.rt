@@ -1,9 +1,11 @@
+//! The pairs of rows of a rows event, and the iterator over them.
+
 ghost use Rattle.std.specs.Prelude.{◌≡◌, true, false, MatchResult, IsTrue, ◌↔◌};
 ghost use Rattle.std.specs.Option.{option_map};
 ghost use Rattle.binlog_base.specs.declared.fault.Fault.TheVariants as Fault;
-ghost use Rattle.binlog_base.specs.Format.{Parses};
-ghost use Rattle.mysql_binlog_rows.specs.Images.{image_of, maybe_image, pair, is_carried};
-ghost use Rattle.mysql_binlog_rows.specs.ImagesExact.{IsSound};
+ghost use Rattle.binlog_base.specs.Format.{Parses, OrMemory};
+ghost use Rattle.mysql_binlog_rows.specs.Images.{image_of, maybe_image, pair, is_supported};
+ghost use Rattle.mysql_binlog_rows.specs.Lemmas.Images.{IsSound};
 ghost use Rattle.mysql_binlog_rows.specs.Rows.{grammar_of_events, PairGives, at_rest};
 ghost use Rattle.mysql_binlog_rows.specs.Columns.{grammar_in};
 
@@ -17,15 +19,15 @@ use binlog_table::table_map::TableMapEvent;
 use std::alloc::Global;
 use std::marker::Model;
 
-/// The images of a pair, before then after; none where the event has no such image.
+/// The row before a change and the row after it. Each is none if the event has no such image.
 pub type RowPair = (Option<BinlogRow>, Option<BinlogRow>);
 
-/// What the pairs of an event are read by.
+/// How the pairs of rows of an event are read.
 #[derive(Drop)]
 struct Plans<'a> {
     before: Option<Plan<'a>>,
     after: Option<Plan<'a>>,
-    is_carried: bool,
+    is_supported: bool,
 }
 
 impl<'a> Model for Plans<'a> {
@@ -33,10 +35,10 @@ impl<'a> Model for Plans<'a> {
 
     ghost Value = { Grammar };
 
-    ghost view = { λ p. record { before = p.before; after = p.after; is_carried = p.is_carried } };
+    ghost view = { λ p. record { before = p.before; after = p.after; is_supported = p.is_supported } };
 }
 
-/// What plans are made of.
+/// The two events that the plans are made from.
 #[derive(Drop)]
 struct Events<'a> {
     table: &'a TableMapEvent<'a>,
@@ -51,16 +53,17 @@ impl<'a> Model for Events<'a> {
     ghost view = { λ u. record { table = u.table.now; event = u.event.now } };
 }
 
-/// The events, and from the first pair on the plans.
+/// The events before the first pair is read, and the plans from then on.
 #[derive(Drop)]
 enum Columns<'a> {
     Events(Events<'a>),
     Plans(Plans<'a>),
 }
 
-/// An iterator over the pairs of a rows event, up to the first fault.
+/// An iterator over the pairs of rows of a rows event, up to and including its first fault.
 ///
-/// It makes what it keeps for the table at its first `next`. It gives at most as many items, its fault counted, as rows data has bytes.
+/// How the columns are read is found out at the first call of `next`, which takes memory. The
+/// number of items, the fault included, is at most the number of bytes of the rows data.
 #[derive(Drop)]
 pub struct RowsEventRows<'a> {
     alloc: Global,
@@ -71,7 +74,7 @@ pub struct RowsEventRows<'a> {
 impl<'a> Model for RowsEventRows<'a> {
     ghost use Rattle.mysql_binlog_rows.specs.Rows.{Rows};
     ghost use Rattle.mysql_binlog_rows.specs.Columns.{grammar_in};
-    ghost use Rattle.mysql_binlog_rows.specs.ImagesExact.{IsSound};
+    ghost use Rattle.mysql_binlog_rows.specs.Lemmas.Images.{IsSound};
 
     ghost Value = { Rows };
 
@@ -80,9 +83,10 @@ impl<'a> Model for RowsEventRows<'a> {
     ghost invariant = { λ r. IsSound (grammar_in r.columns) };
 }
 
-// Whether the pairs are read today: the table has no optional metadata, and the event the image after the change alone.
-fn is_carried(table: &TableMapEvent<'_>, event: &RowsEvent<'_>) -> bool
-    ensures { result ≡ is_carried table.now event.now }
+// Returns whether reading the pairs is supported: the table has no optional metadata, and the event
+// has only whole images after the change.
+fn is_supported(table: &TableMapEvent<'_>, event: &RowsEvent<'_>) -> bool
+    ensures { result ≡ is_supported table.now event.now }
 {
     table.optional_metadata_raw().is_empty()
         && event.columns_before_image().is_none()
@@ -94,7 +98,8 @@ fn maybe_plan<'a>(
     table: &'a TableMapEvent<'_>,
     present: Option<BitView<'_>>,
 ) -> Result<Option<Plan<'a>>, Fault>
-    ensures { MatchResult result (λ p. p ≡ option_map (image_of table.now) present.entry) (λ e. e ≡ Fault.Memory) }
+    ensures { MatchResult result (λ p. p ≡ option_map (image_of table.now) present.entry)
+        (λ e. e ≡ Fault.Memory) }
 {
     match present {
         None => Ok(None),
@@ -107,7 +112,7 @@ fn read_maybe(
     plan: &Option<Plan<'_>>,
     buf: &mut ParseBuf<'_>,
 ) -> Result<Option<BinlogRow>, Fault>
-    ensures { Parses true (λ r. r) result buf.new.0.now (maybe_image plan.now) buf.old.0.now }
+    ensures { OrMemory result (Parses (maybe_image plan.now) result buf.old.0.now buf.new.0.now) }
 {
     match plan {
         None => Ok(None),
@@ -121,19 +126,19 @@ impl<'a> Plans<'a> {
     {
         let before = maybe_plan(alloc, events.table, events.event.columns_before_image())?;
         let after = maybe_plan(alloc, events.table, events.event.columns_after_image())?;
-        let is_carried = is_carried(events.table, events.event);
+        let is_supported = is_supported(events.table, events.event);
         Ok(Plans {
             before,
             after,
-            is_carried,
+            is_supported,
         })
     }
 
     #[tactic(auto, unfolding(crate::specs::Images::pair))]
     fn read(&self, alloc: Global, buf: &mut ParseBuf<'_>) -> Result<RowPair, Fault>
-        ensures { Parses true (λ p. p) result buf.new.0.now (pair self.now) buf.old.0.now }
+        ensures { OrMemory result (Parses (pair self.now) result buf.old.0.now buf.new.0.now) }
     {
-        if !self.is_carried {
+        if !self.is_supported {
             return Err(Fault::Unhandled);
         }
         let before = read_maybe(alloc, &self.before, buf)?;
@@ -141,7 +146,8 @@ impl<'a> Plans<'a> {
         Ok((before, after))
     }
 
-    // The pair at the front, and what is behind it.
+    // Reads the pair at the start of the rows data. Returns it with the bytes after it. `EmptyPair`
+    // if the pair has no bytes.
     fn next_pair<'d>(
         &self,
         alloc: Global,
@@ -159,7 +165,8 @@ impl<'a> Plans<'a> {
     }
 }
 
-// The pair at the front, by the plans, which are made where they aren't there yet.
+// Reads the pair at the start of the rows data. Returns it with the bytes after it. Makes the plans
+// first if there are none yet.
 fn pair_from<'a>(
     alloc: Global,
     columns: &mut Columns<'a>,
@@ -183,11 +190,14 @@ fn pair_from<'a>(
 impl<'a> RowsEvent<'a> {
     ghost use Rattle.mysql_binlog_rows.specs.Images.{grammar_of};
 
-    /// The pairs of rows, by the columns that the table map event tells. This takes no memory.
+    /// Returns an iterator over the pairs of rows. `table` is the table map event that describes
+    /// the columns. This call takes no memory.
     ///
-    /// The iterator ends after its first fault: `UnknownColumnType`, `UnexpectedColumnType` and `NoColumnType` where a column has no
-    /// type, `MissingMetadata` where its metadata is too short, `UnexpectedEof` where an image is cut, `EmptyPair` where a pair of no
-    /// bytes would follow, `Unhandled` for what isn't carried yet, `Memory` where memory was refused.
+    /// The iterator ends after its first fault. The faults are `UnknownColumnType`,
+    /// `UnexpectedColumnType` and `NoColumnType` if a column has no valid type; `MissingMetadata`
+    /// if a column's metadata is too short; `UnexpectedEof` if the rows data ends within an image;
+    /// `EmptyPair` if a pair has no bytes; `Unhandled` for what isn't supported yet; `Memory` if
+    /// memory can't be allocated; and the faults of single cells, such as `DecimalGroup`.
     pub fn rows<'b>(&'b self, alloc: Global, table: &'b TableMapEvent<'b>) -> RowsEventRows<'b>
         ensures grammar { result.grammar ≡ grammar_of table.now self.now }
         ensures left { result.left ≡ self.now.rows_data }

@@ -1,7 +1,7 @@
-//! Cells of decimals.
+//! Reads the cells of decimals.
 
 ghost use Rattle.std.specs.Prelude.{◌≡◌, true, IfOk};
-ghost use Rattle.binlog_base.specs.Format.{Parses};
+ghost use Rattle.binlog_base.specs.Format.{ParsesAs, OrMemory};
 ghost use Rattle.binlog_values.specs.DecimalText.{decimal_text};
 ghost use Rattle.mysql_binlog_rows.specs.Cells.{cell_of, bytes_cell, decimal_cell};
 
@@ -11,7 +11,7 @@ use binlog_base::fault::Fault;
 use binlog_values::decimal::Decimal;
 use std::alloc::{AllocError, Global};
 
-// The text of a decimal.
+// Returns the text of a decimal as a value.
 fn text_of(alloc: Global, decimal: &Decimal) -> Result<BinlogValue, AllocError>
     ensures { IfOk result (λ value. cell_of value ≡ bytes_cell (decimal_text decimal.now)) }
 {
@@ -19,7 +19,7 @@ fn text_of(alloc: Global, decimal: &Decimal) -> Result<BinlogValue, AllocError>
     Ok(BinlogValue::Value(Value::Bytes(text.into_bytes())))
 }
 
-// NEWDECIMAL, by its precision and scale.
+// Reads a NEWDECIMAL of this precision and scale, in the packed DECIMAL format, as text.
 #[tactic(auto, unfolding(crate::specs::Cells::decimal_cell))]
 pub(super) fn read_decimal(
     alloc: Global,
@@ -27,7 +27,8 @@ pub(super) fn read_decimal(
     scale: u8,
     buf: &mut ParseBuf<'_>,
 ) -> Result<BinlogValue, Fault>
-    ensures { Parses true cell_of result buf.new.0.now (decimal_cell precision scale) buf.old.0.now }
+    ensures { OrMemory result (ParsesAs cell_of (decimal_cell precision scale) result buf.old.0.now
+        buf.new.0.now) }
 {
     let precision = usize::from(precision);
     let scale = usize::from(scale);

@@ -1,4 +1,4 @@
-//! How the cells of a column are read, by its type and metadata.
+//! Finds out how the cells of a column are read, from the column's type and metadata.
 
 ghost use Rattle.std.specs.Prelude.{◌≡◌, ◌≤◌};
 ghost use Rattle.mysql_binlog_rows.specs.Cells.{bytes_in, first_byte, first_two, length_width, varchar_length, string_length, bit_bytes, blob_form, variant_form, two_form, element_form, array_form, form_of};
@@ -6,7 +6,7 @@ ghost use Rattle.mysql_binlog_rows.specs.Cells.{bytes_in, first_byte, first_two,
 use binlog_base::below::{ColumnType, Constant};
 use binlog_base::fault::Fault;
 
-/// One to four bytes.
+/// A number of bytes, one to four.
 #[derive(Clone, Copy)]
 pub(crate) enum Width {
     One,
@@ -16,7 +16,7 @@ pub(crate) enum Width {
 }
 
 impl Width {
-    /// The count of the bytes.
+    /// Returns the number of bytes.
     pub fn bytes(self) -> usize
         ensures value { result ≡ bytes_in self }
         ensures some { 1 ≤ result }
@@ -31,12 +31,12 @@ impl Width {
     }
 }
 
-/// How a cell is read.
+/// How a cell is read, with all that the reading takes from the column's metadata.
 #[derive(Clone, Copy)]
 pub(crate) enum Form {
-    /// A number of so many bytes, and whether it is unsigned.
+    /// A little-endian integer of that many bytes, and whether it is unsigned.
     Integer(Width, bool),
-    /// A number of eight bytes, and whether it is unsigned.
+    /// A little-endian integer of eight bytes, and whether it is unsigned.
     LongInteger(bool),
     Float,
     Double,
@@ -45,21 +45,21 @@ pub(crate) enum Form {
     Datetime,
     Year,
     Date,
-    /// A time with a fraction, of so many decimals.
+    /// A TIMESTAMP with that many digits of fractional seconds.
     Timestamp2(u8),
     Datetime2(u8),
     Time2(u8),
-    /// A decimal of a precision and a scale.
+    /// A decimal of this precision and scale, in the packed DECIMAL format.
     Decimal(u8, u8),
-    /// So many bytes.
+    /// That many bytes.
     Fixed(usize),
-    /// Bytes after their length, which has so many bytes.
+    /// A length, written in that many bytes, and then as many bytes as it says.
     Text(Width),
-    /// The number of a variant, in so many bytes.
+    /// The number of an ENUM value, written in that many bytes.
     Variant(Width),
 }
 
-// The first byte of the metadata.
+// Returns the first byte of the metadata. `MissingMetadata` if there is none.
 fn first_byte(metadata: &[u8]) -> Result<u8, Fault>
     ensures { result ≡ first_byte metadata.now }
 {
@@ -69,7 +69,7 @@ fn first_byte(metadata: &[u8]) -> Result<u8, Fault>
     }
 }
 
-// The first two bytes of the metadata.
+// Returns the first two bytes of the metadata. `MissingMetadata` if there are fewer.
 fn first_two(metadata: &[u8]) -> Result<(u8, u8), Fault>
     ensures { result ≡ first_two metadata.now }
 {
@@ -79,21 +79,23 @@ fn first_two(metadata: &[u8]) -> Result<(u8, u8), Fault>
     }
 }
 
-// The width of the length of cells whose greatest length this is.
+// Returns in how many bytes the length of a cell is written, by the column's greatest length.
 fn length_width(most: u32) -> Width
     ensures { result ≡ length_width most }
 {
     if most < 256 { Width::One } else { Width::Two }
 }
 
-// The greatest length of a VARCHAR or VAR_STRING cell.
+// Returns the greatest length of a VARCHAR or VAR_STRING cell, in bytes, from the column's two
+// bytes of metadata.
 fn varchar_length(m0: u8, m1: u8) -> u32
     ensures { result ≡ varchar_length m0 m1 }
 {
     u32::from(m0) + 256 * u32::from(m1)
 }
 
-// The greatest length of a STRING cell.
+// Returns the greatest length of a STRING cell, in bytes, from the column's two bytes of metadata.
+// Bits 8 and 9 of the length are stored inverted in bits 4 and 5 of `m0`, the type's byte.
 fn string_length(m0: u8, m1: u8) -> u32
     ensures { result ≡ string_length m0 m1 }
 {
@@ -105,14 +107,15 @@ fn string_length(m0: u8, m1: u8) -> u32
     }
 }
 
-// The bytes of a BIT cell.
+// Returns how many bytes a BIT cell of `m1` bytes and `m0` further bits takes.
 fn bit_bytes(m0: u8, m1: u8) -> usize
     ensures { result ≡ bit_bytes m0 m1 }
 {
     (usize::from(m1) * 8 + usize::from(m0) + 7) / 8
 }
 
-// BLOBs, GEOMETRY and VECTOR, by the width of the length.
+// Returns how BLOB, GEOMETRY and VECTOR cells are read, whose length is written in `width` bytes.
+// `UnknownBlob` if `width` isn't 1 to 4.
 fn blob_form(width: u8) -> Result<Form, Fault>
     ensures { result ≡ blob_form width }
 {
@@ -125,7 +128,8 @@ fn blob_form(width: u8) -> Result<Form, Fault>
     }
 }
 
-// ENUM, by the width of the number.
+// Returns how ENUM cells are read, whose number is written in `width` bytes. `UnknownEnum` if
+// `width` isn't 1 or 2.
 fn variant_form(width: u8) -> Result<Form, Fault>
     ensures { result ≡ variant_form width }
 {
@@ -136,7 +140,7 @@ fn variant_form(width: u8) -> Result<Form, Fault>
     }
 }
 
-// How the cells of a column are read that is no array.
+// Returns how the cells of a column are read, if it isn't an array.
 #[tactic(auto, unfolding(crate::specs::Cells::element_form))]
 fn element_form(column_type: ColumnType, metadata: &[u8], unsigned: bool) -> Result<Form, Fault>
     ensures { result ≡ element_form column_type metadata.now unsigned }
@@ -167,7 +171,8 @@ fn element_form(column_type: ColumnType, metadata: &[u8], unsigned: bool) -> Res
     }
 }
 
-// How the cells of a type are read that reads two bytes of metadata.
+// Returns how cells are read if their type needs two bytes of metadata. All other types are
+// `Unhandled`.
 fn two_form(column_type: ColumnType, metadata: &[u8]) -> Result<Form, Fault>
     ensures { result ≡ two_form column_type metadata.now }
 {
@@ -194,7 +199,8 @@ fn two_form(column_type: ColumnType, metadata: &[u8]) -> Result<Form, Fault>
     }
 }
 
-// How the cells of an array are read: as those of the type that the metadata names, with all of the metadata.
+// Returns how the cells of an array are read: as cells of the type that the first byte of the
+// metadata names, with all of the metadata. `Unhandled` if it names no such type.
 fn typed_form(metadata: &[u8], unsigned: bool) -> Result<Form, Fault>
     ensures { result ≡ array_form metadata.now unsigned }
 {
@@ -204,7 +210,11 @@ fn typed_form(metadata: &[u8], unsigned: bool) -> Result<Form, Fault>
     }
 }
 
-/// How the cells of a column of this type and metadata are read, unsigned or not.
+/// Returns how the cells of a column of this type and metadata are read. `unsigned` says that its
+/// numbers are unsigned.
+///
+/// The faults are `MissingMetadata` if the metadata is too short, `UnknownBlob` or `UnknownEnum` if
+/// it has an invalid width, and `Unhandled` if the type isn't supported.
 pub(crate) fn form_of(
     column_type: ColumnType,
     metadata: &[u8],

@@ -1,7 +1,7 @@
-//! Cells of numbers.
+//! Reads the cells of numbers.
 
 ghost use Rattle.std.specs.Prelude.{◌≡◌, false};
-ghost use Rattle.binlog_base.specs.Format.{Parses};
+ghost use Rattle.binlog_base.specs.Format.{ParsesAs};
 ghost use Rattle.mysql_binlog_rows.specs.Cells.{cell_of, integer, long_integer, float_bits, double_bits, variant_cell, bytes_in};
 
 use super::BinlogValue;
@@ -10,14 +10,14 @@ use binlog_base::below::{IntRepr, LeI64, LeU32, LeU64, ParseBuf, Value, read_num
 use binlog_base::fault::Fault;
 use byteorder::LittleEndian;
 
-// TINY, SHORT, INT24, LONG.
-#[tactic(auto, using(binlog_base::specs::Fixed::few), unfolding(crate::specs::Cells::integer))]
+// Reads a TINY, SHORT, INT24 or LONG: a little-endian integer of `width` bytes.
+#[tactic(auto, using(binlog_base::specs::Lemmas::Fixed::few), unfolding(crate::specs::Cells::integer))]
 pub(super) fn read_integer(
     width: Width,
     unsigned: bool,
     buf: &mut ParseBuf<'_>,
 ) -> Result<BinlogValue, Fault>
-    ensures { Parses false cell_of result buf.new.0.now (integer (bytes_in width) unsigned) buf.old.0.now }
+    ensures { ParsesAs cell_of (integer (bytes_in width) unsigned) result buf.old.0.now buf.new.0.now }
 {
     let width = width.bytes();
     let number = if unsigned {
@@ -28,13 +28,13 @@ pub(super) fn read_integer(
     Ok(BinlogValue::Value(Value::Int(number)))
 }
 
-// LONGLONG.
+// Reads a LONGLONG: a little-endian integer of eight bytes.
 #[tactic(auto, unfolding(crate::specs::Cells::long_integer))]
 pub(super) fn read_long_integer(
     unsigned: bool,
     buf: &mut ParseBuf<'_>,
 ) -> Result<BinlogValue, Fault>
-    ensures { Parses false cell_of result buf.new.0.now (long_integer unsigned) buf.old.0.now }
+    ensures { ParsesAs cell_of (long_integer unsigned) result buf.old.0.now buf.new.0.now }
 {
     let number = if unsigned {
         Value::UInt(LeU64::deserialize(buf)?)
@@ -44,28 +44,28 @@ pub(super) fn read_long_integer(
     Ok(BinlogValue::Value(number))
 }
 
-// FLOAT.
+// Reads a FLOAT: its 32 bits, as a little-endian number.
 #[tactic(auto, unfolding(crate::specs::Cells::float_bits))]
 pub(super) fn read_float(buf: &mut ParseBuf<'_>) -> Result<BinlogValue, Fault>
-    ensures { Parses false cell_of result buf.new.0.now float_bits buf.old.0.now }
+    ensures { ParsesAs cell_of float_bits result buf.old.0.now buf.new.0.now }
 {
     let bits = LeU32::deserialize(buf)?;
     Ok(BinlogValue::Value(Value::Float(bits)))
 }
 
-// DOUBLE.
+// Reads a DOUBLE: its 64 bits, as a little-endian number.
 #[tactic(auto, unfolding(crate::specs::Cells::double_bits))]
 pub(super) fn read_double(buf: &mut ParseBuf<'_>) -> Result<BinlogValue, Fault>
-    ensures { Parses false cell_of result buf.new.0.now double_bits buf.old.0.now }
+    ensures { ParsesAs cell_of double_bits result buf.old.0.now buf.new.0.now }
 {
     let bits = LeU64::deserialize(buf)?;
     Ok(BinlogValue::Value(Value::Double(bits)))
 }
 
-// The number of a variant.
-#[tactic(auto, using(binlog_base::specs::Fixed::few), unfolding(crate::specs::Cells::variant_cell))]
+// Reads the number of an ENUM value, a little-endian number of `width` bytes.
+#[tactic(auto, using(binlog_base::specs::Lemmas::Fixed::few), unfolding(crate::specs::Cells::variant_cell))]
 pub(super) fn read_variant(width: Width, buf: &mut ParseBuf<'_>) -> Result<BinlogValue, Fault>
-    ensures { Parses false cell_of result buf.new.0.now (variant_cell (bytes_in width)) buf.old.0.now }
+    ensures { ParsesAs cell_of (variant_cell (bytes_in width)) result buf.old.0.now buf.new.0.now }
 {
     let number = read_number::<LittleEndian, u32>(width.bytes(), buf)?;
     Ok(BinlogValue::Value(Value::Int(i64::from(number))))

@@ -1,12 +1,12 @@
-//! Cells, one by one.
+//! Tests of single cells.
 
-use super::{BinlogValue, BinlogValueToValueError, negative_time};
+use super::{BinlogValue, BinlogValueToValueError, signed_old_time};
 use crate::laws::old_times_have_signs;
 use binlog_base::below::{ColumnType, ParseBuf, Value};
 use binlog_base::fault::Fault;
 use std::test::Fail;
 
-/// The cell at the front of the bytes, which takes all of them.
+/// Reads a cell that takes all of the bytes.
 fn cell(
     rt: &HostRuntime,
     column_type: ColumnType,
@@ -113,7 +113,7 @@ fn bits_of_floats(rt: HostRuntime) {
     );
 }
 
-/// Values of TIME and the negative times that they stand for.
+/// Values of TIME columns, and the negative times that they mean.
 #[test]
 fn negative_old_times(rt: HostRuntime) {
     old_times_have_signs();
@@ -129,13 +129,13 @@ fn negative_old_times(rt: HostRuntime) {
     for ((d, h, i, s), negative) in cases {
         let value = Value::Time(false, d, h, i, s, 0);
         let negative = negative.map(|(d, h, i, s)| Value::Time(true, d, h, i, s, 0));
-        assert!(rt; negative_time(time, &value) == negative);
+        assert!(rt; signed_old_time(time, &value) == negative);
     }
     let value = Value::Time(false, 69, 21, 72, 15, 0);
-    assert!(rt; negative_time(ColumnType::MYSQL_TYPE_TIME2, &value).is_none());
+    assert!(rt; signed_old_time(ColumnType::MYSQL_TYPE_TIME2, &value).is_none());
     let value = Value::Time(true, 69, 21, 72, 15, 0);
-    assert!(rt; negative_time(time, &value).is_none());
-    assert!(rt; negative_time(time, &Value::Int(0xff_ffff)).is_none());
+    assert!(rt; signed_old_time(time, &value).is_none());
+    assert!(rt; signed_old_time(time, &Value::Int(0xff_ffff)).is_none());
 }
 
 #[test]

@@ -1,10 +1,10 @@
-//! Cells of dates and times.
+//! Reads the cells of dates and times.
 
 ghost use Rattle.std.specs.Prelude.{◌≡◌, ◌<◌, ◌*◌, ◌/◌, ◌%◌, ◌^◌, true, false, IfOk, Some};
 ghost use Rattle.std.specs.Option.{option_map};
-ghost use Rattle.binlog_base.specs.Format.{Parses};
+ghost use Rattle.binlog_base.specs.Format.{ParsesAs, OrMemory};
 ghost use Rattle.binlog_base.specs.Values.{plain_of};
-ghost use Rattle.mysql_binlog_rows.specs.OldTimes.{digits_of_time, negative_time};
+ghost use Rattle.mysql_binlog_rows.specs.OldTimes.{digits_of_time, signed_old_time};
 ghost use Rattle.mysql_binlog_rows.specs.Cells.{Cell, cell_of, timestamp_cell, time_of_digits, time_cell, date_of_digits, datetime_cell, year_text, year_cell, date_of_bits, date_cell, bytes_cell, six_places, timestamp_text, timestamp2_cell, datetime2_cell, time2_cell};
 
 use super::BinlogValue;
@@ -17,16 +17,17 @@ use binlog_base::misc::{
 use std::alloc::{AllocError, Global};
 use std::fmt;
 
-// TIMESTAMP.
+// Reads a TIMESTAMP of the format before fractional seconds: the seconds since 1970, as a
+// little-endian number of four bytes.
 #[tactic(auto, unfolding(crate::specs::Cells::timestamp_cell))]
 pub(super) fn read_timestamp(buf: &mut ParseBuf<'_>) -> Result<BinlogValue, Fault>
-    ensures { Parses false cell_of result buf.new.0.now timestamp_cell buf.old.0.now }
+    ensures { ParsesAs cell_of timestamp_cell result buf.old.0.now buf.new.0.now }
 {
     let seconds = LeU32::deserialize(buf)?;
     Ok(BinlogValue::Value(Value::Int(i64::from(seconds))))
 }
 
-// The time whose digits HHMMSS are those of the number.
+// Returns the time whose decimal digits HHMMSS form the number. Each 24 hours are one day.
 fn time_of_digits(is_negative: bool, number: u32) -> Value
     ensures { plain_of result ≡ time_of_digits is_negative number }
 {
@@ -43,16 +44,17 @@ fn time_of_digits(is_negative: bool, number: u32) -> Value
     )
 }
 
-// TIME.
+// Reads a TIME of the format before fractional seconds: the decimal digits HHMMSS, as a
+// little-endian number of three bytes. It is read without a sign (see `signed_old_time`).
 #[tactic(auto, unfolding(crate::specs::Cells::time_cell))]
 pub(super) fn read_time(buf: &mut ParseBuf<'_>) -> Result<BinlogValue, Fault>
-    ensures { Parses false cell_of result buf.new.0.now time_cell buf.old.0.now }
+    ensures { ParsesAs cell_of time_cell result buf.old.0.now buf.new.0.now }
 {
     let number = LeU24::deserialize(buf)?;
     Ok(BinlogValue::Value(time_of_digits(false, number)))
 }
 
-// The number whose digits HHMMSS are those of a time.
+// Returns the number that the decimal digits HHMMSS of a time form.
 fn digits_of_time(days: u32, hours: u8, minutes: u8, seconds: u8) -> u64
     ensures { result ≡ digits_of_time days hours minutes seconds }
 {
@@ -60,14 +62,18 @@ fn digits_of_time(days: u32, hours: u8, minutes: u8, seconds: u8) -> u64
     hours * 10_000 + u64::from(minutes) * 100 + u64::from(seconds)
 }
 
-/// The negative time that the value of a TIME column stands for, where the column has the format before fractional seconds.
+/// Returns the negative time that was written, if `value` was read from a negative TIME of the
+/// format before fractional seconds (column type `MYSQL_TYPE_TIME`).
 ///
-/// The server writes the digits HHMMSS, with a sign, as three bytes in two's complement. `BinlogValue` reads them without a sign, as
-/// the Rust crate does, so that a negative time comes as one of 838 hours, 86 minutes and 8 seconds or more, which no TIME is: the
-/// longest are 838:59:59. For such a value of a column of the type MYSQL_TYPE_TIME this answers the negative time; None for all other
-/// values, which stand for themselves. `FF FF FF` is read as 69 days, 21:72:15, and stands for -00:00:01.
-pub fn negative_time(column_type: ColumnType, value: &Value) -> Option<Value>
-    ensures { option_map plain_of result ≡ negative_time column_type (plain_of value.now) }
+/// The server writes the decimal digits HHMMSS, with a sign, as a number of three bytes in two's
+/// complement. `BinlogValue` reads the number without a sign, as the Rust crate `mysql_common`
+/// does. A negative time is therefore read as 838 hours, 86 minutes and 8 seconds or more, although
+/// the longest TIME is 838:59:59. For such a value this function returns the negative time. It
+/// returns `None` for any other value or column type: the value is then right as it is.
+///
+/// For example, `FF FF FF` is read as 69 days and 21:72:15, and means -00:00:01.
+pub fn signed_old_time(column_type: ColumnType, value: &Value) -> Option<Value>
+    ensures { option_map plain_of result ≡ signed_old_time column_type (plain_of value.now) }
 {
     match (column_type, value) {
         (ColumnType::MYSQL_TYPE_TIME, Value::Time(false, days, hours, minutes, seconds, 0)) => {
@@ -81,7 +87,7 @@ pub fn negative_time(column_type: ColumnType, value: &Value) -> Option<Value>
     }
 }
 
-// Two digits of the number, above so many units.
+// Returns the last two decimal digits of `number / unit`.
 fn two_digits(number: u64, unit: u64) -> u8
     requires { 0 < unit }
     ensures { result ≡ number / unit % 100 }
@@ -89,7 +95,8 @@ fn two_digits(number: u64, unit: u64) -> u8
     (number / unit % 100) as u8
 }
 
-// The date and time of the year whose digits MMDDHHMMSS are the last of the number.
+// Returns the date and time in this year whose decimal digits MMDDHHMMSS are the last ten of the
+// number.
 fn date_of_digits(year: u16, number: u64) -> BinlogValue
     ensures { cell_of result ≡ date_of_digits year number }
 {
@@ -101,10 +108,11 @@ fn date_of_digits(year: u16, number: u64) -> BinlogValue
     BinlogValue::Value(Value::Date(year, month, day, hour, minute, second, 0))
 }
 
-// DATETIME.
+// Reads a DATETIME of the format before fractional seconds: the decimal digits YYYYMMDDHHMMSS, as a
+// little-endian number of eight bytes. `YearRange` if the year is above 65535.
 #[tactic(auto, unfolding(crate::specs::Cells::datetime_cell))]
 pub(super) fn read_datetime(buf: &mut ParseBuf<'_>) -> Result<BinlogValue, Fault>
-    ensures { Parses false cell_of result buf.new.0.now datetime_cell buf.old.0.now }
+    ensures { ParsesAs cell_of datetime_cell result buf.old.0.now buf.new.0.now }
 {
     let number = LeU64::deserialize(buf)?;
     match u16::try_from(number / 10_000_000_000) {
@@ -113,7 +121,7 @@ pub(super) fn read_datetime(buf: &mut ParseBuf<'_>) -> Result<BinlogValue, Fault
     }
 }
 
-// The text of a year, by the years since 1900.
+// Returns a year as text, given the years since 1900.
 fn year_of(alloc: Global, years: u8) -> Result<BinlogValue, AllocError>
     ensures { IfOk result (λ value. cell_of value ≡ year_text years) }
 {
@@ -122,16 +130,16 @@ fn year_of(alloc: Global, years: u8) -> Result<BinlogValue, AllocError>
     Ok(BinlogValue::Value(Value::Bytes(text.into_bytes())))
 }
 
-// YEAR.
+// Reads a YEAR: one byte, the years since 1900.
 #[tactic(auto, unfolding(crate::specs::Cells::year_cell))]
 pub(super) fn read_year(alloc: Global, buf: &mut ParseBuf<'_>) -> Result<BinlogValue, Fault>
-    ensures { Parses true cell_of result buf.new.0.now year_cell buf.old.0.now }
+    ensures { OrMemory result (ParsesAs cell_of year_cell result buf.old.0.now buf.new.0.now) }
 {
     let years = U8::deserialize(buf)?;
     Ok(year_of(alloc, years)?)
 }
 
-// The date whose bits are those of the number.
+// Returns the date in a number's bits: five bits for the day, four for the month, and the year.
 fn date_of_bits(number: u32) -> BinlogValue
     requires { number < 256 ^ 3 }
     ensures { cell_of result ≡ date_of_bits number }
@@ -142,16 +150,16 @@ fn date_of_bits(number: u32) -> BinlogValue
     BinlogValue::Value(Value::Date(year, month, day, 0, 0, 0, 0))
 }
 
-// NEWDATE.
+// Reads a NEWDATE: the bits of a date, as a little-endian number of three bytes.
 #[tactic(auto, unfolding(crate::specs::Cells::date_cell))]
 pub(super) fn read_date(buf: &mut ParseBuf<'_>) -> Result<BinlogValue, Fault>
-    ensures { Parses false cell_of result buf.new.0.now date_cell buf.old.0.now }
+    ensures { ParsesAs cell_of date_cell result buf.old.0.now buf.new.0.now }
 {
     let number = LeU24::deserialize(buf)?;
     Ok(date_of_bits(number))
 }
 
-// A number in six places at least, with zeros at its front, where a minus takes one.
+// A number as at least six characters, including the minus, padded with zeros after the minus.
 #[derive(Drop)]
 struct SixPlaces(i32);
 
@@ -165,7 +173,7 @@ impl fmt::Display for SixPlaces {
     }
 }
 
-// Seconds since 1970, and a point and the microseconds where there are any.
+// The seconds since 1970, then a point and the microseconds if these aren't 0.
 #[derive(Drop)]
 struct TimestampText {
     seconds: i32,
@@ -197,32 +205,33 @@ fn timestamp_of(alloc: Global, seconds: i32, microseconds: i32) -> Result<Binlog
     Ok(BinlogValue::Value(Value::Bytes(text.into_bytes())))
 }
 
-// TIMESTAMP2, by its decimals.
+// Reads a TIMESTAMP with `decimals` digits of fractional seconds, as text.
 #[tactic(auto, unfolding(crate::specs::Cells::timestamp2_cell))]
 pub(super) fn read_timestamp2(
     alloc: Global,
     decimals: u8,
     buf: &mut ParseBuf<'_>,
 ) -> Result<BinlogValue, Fault>
-    ensures { Parses true cell_of result buf.new.0.now (timestamp2_cell decimals) buf.old.0.now }
+    ensures { OrMemory result (ParsesAs cell_of (timestamp2_cell decimals) result buf.old.0.now
+        buf.new.0.now) }
 {
     let (seconds, microseconds) = my_timestamp_from_binary(buf, decimals)?;
     Ok(timestamp_of(alloc, seconds, microseconds)?)
 }
 
-// DATETIME2, by its decimals.
+// Reads a DATETIME with `decimals` digits of fractional seconds, in the packed DATETIME format.
 #[tactic(auto, unfolding(crate::specs::Cells::datetime2_cell))]
 pub(super) fn read_datetime2(decimals: u8, buf: &mut ParseBuf<'_>) -> Result<BinlogValue, Fault>
-    ensures { Parses false cell_of result buf.new.0.now (datetime2_cell decimals) buf.old.0.now }
+    ensures { ParsesAs cell_of (datetime2_cell decimals) result buf.old.0.now buf.new.0.now }
 {
     let packed = my_datetime_packed_from_binary(buf, u32::from(decimals))?;
     Ok(BinlogValue::Value(datetime_from_packed(packed)))
 }
 
-// TIME2, by its decimals.
+// Reads a TIME with `decimals` digits of fractional seconds, in the packed TIME format.
 #[tactic(auto, unfolding(crate::specs::Cells::time2_cell))]
 pub(super) fn read_time2(decimals: u8, buf: &mut ParseBuf<'_>) -> Result<BinlogValue, Fault>
-    ensures { Parses false cell_of result buf.new.0.now (time2_cell decimals) buf.old.0.now }
+    ensures { ParsesAs cell_of (time2_cell decimals) result buf.old.0.now buf.new.0.now }
 {
     let packed = my_time_packed_from_binary(buf, u32::from(decimals))?;
     Ok(BinlogValue::Value(time_from_packed(packed)))

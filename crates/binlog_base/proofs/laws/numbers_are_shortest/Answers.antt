@@ -1,4 +1,4 @@
-use Rattle.binlog_base.specs.NumbersWritten.{lenenc_shortest, varlen_shortest}
+use Rattle.binlog_base.specs.Lemmas.NumbersWritten.{lenenc_shortest, varlen_shortest}
 use Rattle.binlog_base.proofs.laws.numbers_are_shortest.Goals as goal
 
 pub returns-clause-lenenc : goal.returns-clause-lenenc

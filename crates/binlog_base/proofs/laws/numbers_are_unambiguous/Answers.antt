@@ -1,4 +1,4 @@
-use Rattle.binlog_base.specs.Exact.{one_spelling}
+use Rattle.binlog_base.specs.Lemmas.Format.{one_spelling}
 use Rattle.binlog_base.proofs.laws.numbers_are_unambiguous.Goals as goal
 
 pub returns : goal.returns

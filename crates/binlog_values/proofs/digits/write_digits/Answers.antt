@@ -4,7 +4,7 @@ use Rattle.std.proofs.lemmas.Grind.{flat_map-append}
 use Rattle.std.specs.Fmt.{decimal}
 use Rattle.std.specs.Int.Digits.{AllBelowBase}
 use Rattle.std.specs.Slice.Iter.{chunks_rest}
-use Rattle.binlog_values.specs.DecimalCuts.{below-back}
+use Rattle.binlog_values.specs.Lemmas.DecimalGroups.{below-back}
 use Rattle.binlog_values.proofs.digits.write_digits.Goals as goal
 
 pub loop-chunk-preserved : goal.loop-chunk-preserved

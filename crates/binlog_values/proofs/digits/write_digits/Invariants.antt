@@ -5,7 +5,7 @@ use Rattle.std.specs.Int.Digits.{AllBelowBase}
 use Rattle.std.specs.Slice.Iter.{chunks_rest, chunks_size}
 use Rattle.binlog_values.proofs.digits.write_digits.Given as goal
 
--- what was written is the digits that are no longer in the rest
+-- the digits written so far are those that are no longer in the rest
 abbrev pub invariant-loop-chunk : goal.invariant-loop-chunk
 invariant-loop-chunk g l = record {
   can_next : (goal.iterator-loop-chunk g).can_next l.chunk-iterator;

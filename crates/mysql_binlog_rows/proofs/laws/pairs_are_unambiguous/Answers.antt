@@ -1,4 +1,4 @@
-use Rattle.mysql_binlog_rows.specs.ImagesExact.{grammar_sound}
+use Rattle.mysql_binlog_rows.specs.Lemmas.Images.{grammar_sound}
 use Rattle.mysql_binlog_rows.specs.Images.{grammar_of}
 use Rattle.mysql_binlog_rows.proofs.Covers.{pairs_one, no_proper_front, covers_one}
 use Rattle.mysql_binlog_rows.proofs.laws.pairs_are_unambiguous.Goals as goal

@@ -13,17 +13,17 @@ signed : (n : ℕ) → n < 6553600 → cast_signed w64 n ≡ pos n
 signed n low = omega (arith, ints, low)
 
 pub overflow_mul-result : goal.overflow_mul-result
-overflow_mul-result c = omega (arith, small _ _ _ c.requires.width c.requires.part c.unit_of.ensures.value)
+overflow_mul-result c = omega (arith, small _ _ _ c.requires.width c.requires.part c.fraction_unit.ensures.value)
 
 pub overflow_cast-result : goal.overflow_cast-result
-overflow_cast-result c = omega (arith, ints, small _ _ _ c.requires.width c.requires.part c.unit_of.ensures.value)
+overflow_cast-result c = omega (arith, ints, small _ _ _ c.requires.width c.requires.part c.fraction_unit.ensures.value)
 
 pub returns-clause-value : goal.returns-clause-value
 returns-clause-value c =
-    signed (c.args.part * c.unit_of.result) (small _ _ _ c.requires.width c.requires.part c.unit_of.ensures.value)
-    ∙ ap (λ (u : ℕ). pos (c.args.part * u)) c.unit_of.ensures.value
+    signed (c.args.part * c.fraction_unit.result) (small _ _ _ c.requires.width c.requires.part c.fraction_unit.ensures.value)
+    ∙ ap (λ (u : ℕ). pos (c.args.part * u)) c.fraction_unit.ensures.value
 
 pub returns-clause-most : goal.returns-clause-most
 returns-clause-most c =
-    let low = small _ _ _ c.requires.width c.requires.part c.unit_of.ensures.value in
-    rw (signed (c.args.part * c.unit_of.result) low) low
+    let low = small _ _ _ c.requires.width c.requires.part c.fraction_unit.ensures.value in
+    rw (signed (c.args.part * c.fraction_unit.result) low) low

@@ -1,10 +1,9 @@
 use Rattle.std.proofs.Common.{rules, ◌≡◌, ℕ, ◌*◌, ◌<◌, ◌≤◌, ◌^◌, pos, subst, sym, ap, ◌∙◌, arith, refl, SFits}
 use Rattle.std.specs.Prelude.{ℤ, ◌*ℤ◌, unsigned_abs}
-use Rattle.std.specs.Int.{w64}
+use Rattle.std.specs.Int.{w64, cast_signed, cast_unsigned}
 use Rattle.std.proofs.lemmas.Int.{ints, to_z-of_z, unsigned_abs-mul, fits_signed_from_abs}
-use Rattle.std.specs.Int.{cast_signed, cast_unsigned}
 use Rattle.binlog_base.specs.PackedTimes.{fraction, fraction_unit}
-use Rattle.binlog_base.specs.TwosComplement.{IsSigned}
+use Rattle.binlog_base.specs.Coding.{IsSigned}
 use Rattle.binlog_base.proofs.Fractions.{signed_small}
 use Rattle.binlog_base.proofs.misc.binary.read_fraction.Goals as goal
 
@@ -24,16 +23,16 @@ product w part unit most signed is low held =
 pub overflow_mul-result : goal.overflow_mul-result
 overflow_mul-result c =
     let held : SFits w64 c.in_ok-part.part = search rules in
-    (product c.args.width c.in_ok-part.part c.unit_of.result c.requires c.in_ok-part.ensures.fits c.unit_of.ensures.value c.unit_of.ensures.most held).0
+    (product c.args.width c.in_ok-part.part c.fraction_unit.result c.requires c.in_ok-part.ensures.fits c.fraction_unit.ensures.value c.fraction_unit.ensures.most held).0
 
 pub returns-clause-parses : goal.returns-clause-parses
 unfolding fraction
 returns-clause-parses c =
     let held : SFits w64 c.in_ok-part.part = search rules in
-    let is = (product c.args.width c.in_ok-part.part c.unit_of.result c.requires c.in_ok-part.ensures.fits c.unit_of.ensures.value c.unit_of.ensures.most held).1 in
+    let is = (product c.args.width c.in_ok-part.part c.fraction_unit.result c.requires c.in_ok-part.ensures.fits c.fraction_unit.ensures.value c.fraction_unit.ensures.most held).1 in
     rw (c.in_ok-part.ensures.parses, is) refl
 
 pub returns-clause-fits : goal.returns-clause-fits
 returns-clause-fits c =
     let held : SFits w64 c.in_ok-part.part = search rules in
-    (product c.args.width c.in_ok-part.part c.unit_of.result c.requires c.in_ok-part.ensures.fits c.unit_of.ensures.value c.unit_of.ensures.most held).2
+    (product c.args.width c.in_ok-part.part c.fraction_unit.result c.requires c.in_ok-part.ensures.fits c.fraction_unit.ensures.value c.fraction_unit.ensures.most held).2

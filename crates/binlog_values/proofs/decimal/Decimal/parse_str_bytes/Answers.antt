@@ -1,6 +1,6 @@
 use Rattle.std.proofs.Common.{Option, subst}
 use Rattle.binlog_values.specs.Decimals.{DecimalView}
-use Rattle.binlog_values.specs.DecimalParses.{ReadsText}
+use Rattle.binlog_values.specs.DecimalText.{ReadsText}
 use Rattle.binlog_values.proofs.DecimalTexts.{text-is}
 use Rattle.binlog_values.proofs.decimal.Decimal.parse_str_bytes.Goals as goal
 
@@ -8,5 +8,5 @@ pub returns : goal.returns
 returns c =
     subst (λ (v : Option DecimalView). ReadsText c.decimal_with.result v)
     (text-is c.args.bytes.now c.without_leading_zeros-text.result.now c.split_sign-minus.result.1.now c.split_point.result.0.now c.split_point.result.1.now c.split_sign-minus.result.0
-    c.without_leading_zeros-text.ensures c.split_sign-minus.ensures.minus c.split_sign-minus.ensures.behind c.split_point.ensures.before c.split_point.ensures.behind)
+    c.without_leading_zeros-text.ensures c.split_sign-minus.ensures.minus c.split_sign-minus.ensures.after c.split_point.ensures.before c.split_point.ensures.after)
     c.decimal_with.ensures

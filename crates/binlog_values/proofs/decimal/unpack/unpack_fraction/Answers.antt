@@ -1,5 +1,5 @@
 use Rattle.std.proofs.lemmas.Result.{err_from_is_err_and}
-use Rattle.binlog_values.proofs.DecimalTelling.{fraction-then, fraction-stop}
+use Rattle.binlog_values.proofs.DecimalBytes.{fraction-then, fraction-stop}
 use Rattle.binlog_values.proofs.decimal.unpack.unpack_fraction.Goals as goal
 
 pub returns-in_err-unpack_nines : goal.returns-in_err-unpack_nines

@@ -1,5 +1,5 @@
 use Rattle.std.proofs.Common.{ℕ, ◌++◌, refl, ap, ◌∙◌, arith}
-use Rattle.binlog_values.specs.DecimalCuts.{places}
+use Rattle.binlog_values.specs.DecimalGroups.{low_digits}
 use Rattle.binlog_values.proofs.DecimalSteps.{below-bytes, bytes-fit, group-refused, group-unpacked}
 use Rattle.binlog_values.proofs.decimal.unpack.unpack_group.Goals as goal
 
@@ -15,4 +15,4 @@ returns c =
     let old = c.args.digits.now.items in
     group-unpacked {X = Unit {0}} tt c.args.size c.args.bytes.now old c.push_digits.new.digits.items (below-bytes c.args.bytes.now (λ k. omega (arith, c.type_inv.bytes k))) c.requires.width
     (omega (arith, c.number_of-number.ensures.value, c.power_of_10.ensures, c.if-number-power_of_10.false))
-    (c.in_ok-push_digits.ensures ∙ ap (λ (n : ℕ). old ++ places 10 c.args.size n) c.number_of-number.ensures.value)
+    (c.in_ok-push_digits.ensures ∙ ap (λ (n : ℕ). old ++ low_digits 10 c.args.size n) c.number_of-number.ensures.value)

@@ -1,6 +1,6 @@
 use Rattle.std.proofs.Common.{ℕ, take, drop, ap, ◌∙◌}
 use Rattle.std.proofs.lemmas.Result.{err_from_is_err_and}
-use Rattle.binlog_values.proofs.DecimalTelling.{integer-then, integer-stop}
+use Rattle.binlog_values.proofs.DecimalBytes.{integer-then, integer-stop}
 use Rattle.binlog_values.proofs.decimal.unpack.unpack_integer.Goals as goal
 
 pub returns-in_err-unpack_group : goal.returns-in_err-unpack_group

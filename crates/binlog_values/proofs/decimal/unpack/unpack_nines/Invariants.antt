@@ -3,7 +3,7 @@ use Rattle.binlog_base.specs.declared.fault.Fault.{Fault}
 use Rattle.binlog_values.specs.DecimalReads.{Unpacks}
 use Rattle.binlog_values.proofs.decimal.unpack.unpack_nines.Given as goal
 
--- what the rest answers, the whole answers
+-- a result for the rest is a result for the whole
 abbrev pub invariant-loop-left : goal.invariant-loop-left
 invariant-loop-left l = record {
   whole : 4 * (length l.left / 4) ≡ length l.left;

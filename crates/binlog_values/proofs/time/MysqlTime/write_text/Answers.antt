@@ -4,7 +4,7 @@ use Rattle.std.specs.Fmt.InlineText.{IsIntact, AppendsIfIntact, inline_text}
 use Rattle.std.specs.declared.fmt.InlineText.{InlineText}
 use Rattle.binlog_values.proofs.time.MysqlTime.write_text.Goals as goal
 
--- what calls wrote, one after the other
+-- the text that several calls write, one after the other
 all_written : {n : ℕ} (w v : InlineText n) (parts : List (List ℕ)) → FoldsTo AppendsIfIntact w parts v → IsIntact w → IsIntact v × (inline_text v ≡ inline_text w ++ concat parts)
 all_written w v [] h i = (subst IsIntact h i, ap inline_text (sym h) ∙ sym (append-nil (inline_text w)))
 all_written w v (part ∷ parts) h i =

@@ -1,7 +1,7 @@
 use Rattle.std.proofs.Common.{rules, ◌≡◌, List, ℕ, Bor, sym, ◌∙◌}
 use Rattle.std.specs.Option.{option_map}
 use Rattle.binlog_table.specs.Chunks.{chunk_at}
-use Rattle.binlog_table.specs.ChunksExact.{HasChunk-from_function, chunk_at-from_HasChunk}
+use Rattle.binlog_table.specs.Lemmas.Chunks.{HasChunk-from_function, chunk_at-from_HasChunk}
 use Rattle.binlog_table.proofs.table_map.event.TableMapEvent.get_column_metadata.Goals as goal
 
 pub returns-clause-stands : goal.returns-clause-stands

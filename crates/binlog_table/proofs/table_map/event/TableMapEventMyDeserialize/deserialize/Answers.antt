@@ -1,9 +1,9 @@
 use Rattle.std.proofs.Common.{true, false}
-use Rattle.binlog_base.specs.Exact.{reads_from_parses}
+use Rattle.binlog_base.specs.Lemmas.Format.{reads_from_parses}
 use Rattle.binlog_table.specs.TableMap as Spec
-use Rattle.binlog_table.specs.TableMapExact.{exact_table_map}
+use Rattle.binlog_table.specs.Lemmas.TableMap.{exact_table_map}
 use Rattle.binlog_table.proofs.table_map.event.TableMapEventMyDeserialize.deserialize.Goals as goal
 
 pub returns-clause-reads : goal.returns-clause-reads
 returns-clause-reads c =
-    reads_from_parses true false _ (Spec.table_map c.args.post_header_len) (exact_table_map c.args.post_header_len) c.read.result c.read.new.buf.0.now c.args.buf.now.0.now c.read.ensures
+    reads_from_parses true false _ (Spec.table_map c.args.post_header_len) (exact_table_map c.args.post_header_len) c.read.result c.args.buf.now.0.now c.read.new.buf.0.now c.read.ensures

@@ -1,4 +1,4 @@
-use Rattle.mysql_binlog_rows.specs.ImagesExact.{grammar_sound}
+use Rattle.mysql_binlog_rows.specs.Lemmas.Images.{grammar_sound}
 use Rattle.mysql_binlog_rows.proofs.rows_event.event.RowsEvent.rows.Goals as goal
 
 pub invariant_of-result : goal.invariant_of-result

@@ -1,0 +1,8 @@
+use Rattle.std.proofs.Common.{rules}
+use Rattle.binlog_base.specs.Strings.{varlen_string_bytes}
+use Rattle.binlog_base.proofs.Appending.{appending}
+use Rattle.binlog_base.proofs.below.raw.bytes.VarLenBytesRepr.serialize.Goals as goal
+
+pub returns-in_err-serialize : goal.returns-in_err-serialize
+unfolding varlen_string_bytes
+returns-in_err-serialize c = rw (← c.prefix-text.ensures.items) (search (rules, appending))

@@ -1,0 +1,15 @@
+//! Column types, values, columns and rows.
+
+mod column;
+mod column_flags;
+mod column_type;
+mod geometry;
+mod row;
+mod value;
+
+pub use column::Column;
+pub use column_flags::ColumnFlags;
+pub use column_type::{ColumnType, UnknownColumnType};
+pub use geometry::{GeometryType, UnknownGeometryType};
+pub use row::{Row, new_row_raw};
+pub use value::Value;

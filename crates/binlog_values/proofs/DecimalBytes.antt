@@ -1,0 +1,231 @@
+-- The bytes of whole packed decimals: how they are written, read and refused.
+use Rattle.std.proofs.Common.{◌≡◌, ◌≢◌, ℕ, zero, suc, ◌+◌, ◌-◌, ◌*◌, ◌/◌, ◌%◌, ◌<◌, ◌≤◌, Bool, true, false, List, [], ◌∷◌, ◌++◌, length, take, drop, replicate, Option, Some, None, Result, Ok, Err, refl, sym, ap, subst, ◌∙◌, append-nil, arith, inr}
+use Rattle.std.specs.Prelude.{nat_lt, ◌==◌, ◌&&◌}
+use Rattle.std.specs.Result.{OnOk}
+use Rattle.std.specs.Int.Digits.{AllBelowBase}
+use Rattle.std.specs.Io.KnownBytes.{Appends, Consumes}
+use Rattle.std.proofs.KnownBytes.{Appends-trans}
+use Rattle.std.proofs.Math.Dec.{eqb-suc-zero}
+use Rattle.std.proofs.lemmas.Bool.{le-ltb, lt-ltb, ltb-true}
+use Rattle.std.proofs.lemmas.List.{length-append, length-take-le, length-drop, take_all, take-append-drop, take_at, drop_at}
+use Rattle.binlog_base.specs.declared.fault.Fault.{Fault}
+use Rattle.binlog_base.specs.declared.fault.Fault.TheVariants as fault
+use Rattle.binlog_base.specs.declared.fault.Fault.TheVariants.{DecimalScale}
+use Rattle.binlog_base.specs.Format.{Parses, OrMemory}
+use Rattle.binlog_values.specs.Decimals.{DecimalView, IsPacked, packed_bytes, packed_size, group_width, group_bytes, grouped_bytes, integer_groups, fraction_groups, digits_size, inverted_bytes, flipped_bytes, zero_decimal, kept_decimal}
+use Rattle.binlog_values.specs.DecimalGroups.{IsCut, digits_in, bytes_in}
+use Rattle.binlog_values.specs.Lemmas.DecimalGroups.{digits_in-nines, bytes_in-nines, digits_in-integer, digits_in-fraction, bytes_in-integer, grouped_bytes-append, length-grouped_bytes, length-group_bytes}
+use Rattle.binlog_values.specs.DecimalMasks.{masked_bytes, is_nil, is_minus, unmasked_bytes}
+use Rattle.binlog_values.specs.Lemmas.DecimalMasks.{masked_bytes-append, masked_bytes-unmasked_bytes}
+use Rattle.binlog_values.specs.DecimalReads.{Unpacks, UnpacksDecimal}
+use Rattle.binlog_values.specs.PackedDecimals.{decimal_in_bytes, packed_digits, packed_decimal, counted_decimal}
+use Rattle.binlog_values.specs.Lemmas.PackedDecimals.{unmasked_bytes-packed_bytes, some_sum, exact_packed_digits, exact_packed_decimal}
+use Rattle.binlog_values.proofs.DecimalSteps.{unpacks-then, unpacks-stop}
+
+-- ---- what is written
+
+nil_is : (xs : List ℕ) → is_nil xs ≡ (length xs == 0)
+nil_is [] = refl
+nil_is (x ∷ xs) = sym (eqb-suc-zero (length xs))
+
+-- two numbers, each of which is 0 only if the other is
+both_zero : (m n : ℕ) → (m ≡ 0 → n ≡ 0) → (n ≡ 0 → m ≡ 0) → (m == 0) ≡ (n == 0)
+both_zero zero zero f g = refl
+both_zero zero (suc n) f g = absurd (omega (arith, f refl))
+both_zero (suc m) zero f g = absurd (omega (arith, g refl))
+both_zero (suc m) (suc n) f g = eqb-suc-zero m ∙ sym (eqb-suc-zero n)
+
+nil_group : (ds : List ℕ) → is_nil (group_bytes ds) ≡ (length ds == 0)
+nil_group ds =
+    let width = length-group_bytes ds in
+    nil_is (group_bytes ds) ∙ both_zero (length (group_bytes ds)) (length ds) (λ h. omega (arith, width, h)) (λ h. omega (arith, width, h))
+
+nil_grouped : (sizes ds : List ℕ) → length ds ≡ digits_in sizes → (bytes_in sizes ≡ 0 → digits_in sizes ≡ 0) → (digits_in sizes ≡ 0 → bytes_in sizes ≡ 0) → is_nil (grouped_bytes sizes ds) ≡ (length ds == 0)
+nil_grouped sizes ds long f g =
+    let width = length-grouped_bytes sizes ds long in
+    nil_is (grouped_bytes sizes ds) ∙ both_zero (length (grouped_bytes sizes ds)) (length ds) (λ h. long ∙ f (sym width ∙ h)) (λ h. width ∙ g (sym long ∙ h))
+
+pub integer-masked_bytes : (negative : Bool) (ds group nines : List ℕ) → group ≡ take (length ds % 9) ds → nines ≡ drop (length ds % 9) ds
+    → masked_bytes negative true (grouped_bytes (integer_groups (length ds)) ds) ≡ masked_bytes negative true (group_bytes group) ++ masked_bytes negative (true && (length group == 0)) (grouped_bytes (replicate (length nines / 9) 9) nines)
+unfolding grouped_bytes
+integer-masked_bytes negative ds group nines is after =
+    let long : length nines ≡ length ds - length ds % 9 = ap length after ∙ length-drop (length ds % 9) ds in
+    let count : length ds / 9 ≡ length nines / 9 = omega arith in
+    let parts : grouped_bytes (integer_groups (length ds)) ds ≡ group_bytes group ++ grouped_bytes (replicate (length nines / 9) 9) nines =
+    ap (λ (n : ℕ). group_bytes (take (length ds % 9) ds) ++ grouped_bytes (replicate n 9) (drop (length ds % 9) ds)) count
+    ∙ ap (λ (l : List ℕ). group_bytes l ++ grouped_bytes (replicate (length nines / 9) 9) (drop (length ds % 9) ds)) (sym is)
+    ∙ ap (λ (l : List ℕ). group_bytes group ++ grouped_bytes (replicate (length nines / 9) 9) l) (sym after) in
+    ap (masked_bytes negative true) parts ∙ masked_bytes-append negative true (group_bytes group) (grouped_bytes (replicate (length nines / 9) 9) nines)
+    ∙ ap (λ (b : Bool). masked_bytes negative true (group_bytes group) ++ masked_bytes negative b (grouped_bytes (replicate (length nines / 9) 9) nines)) (nil_group group)
+
+one_group : (size : ℕ) (ds : List ℕ) → length ds ≡ size → grouped_bytes (size ∷ []) ds ≡ group_bytes ds
+unfolding grouped_bytes
+one_group size ds long = append-nil (group_bytes (take size ds)) ∙ ap group_bytes (take_all size ds (omega arith))
+
+pub fraction-masked_bytes : (negative first : Bool) (ds nines group : List ℕ) → nines ≡ take (length ds / 9 * 9) ds → group ≡ drop (length ds / 9 * 9) ds
+    → masked_bytes negative first (grouped_bytes (fraction_groups (length ds)) ds) ≡ masked_bytes negative first (grouped_bytes (replicate (length nines / 9) 9) nines) ++ masked_bytes negative (first && (length nines == 0)) (group_bytes group)
+fraction-masked_bytes negative first ds nines group is after =
+    let n = length ds / 9 in
+    let within : n * 9 ≤ length ds = omega arith in
+    let front : length nines ≡ n * 9 = ap length is ∙ length-take-le (n * 9) ds within in
+    let back : length group ≡ length ds % 9 = omega (arith, ap length after, length-drop (n * 9) ds) in
+    let count : length nines / 9 ≡ n = omega arith in
+    let decimal_in_bytes : length nines ≡ digits_in (replicate n 9) = omega (arith, front, digits_in-nines n) in
+    let all : nines ++ group ≡ ds = ap (λ (l : List ℕ). l ++ group) is ∙ ap (λ (l : List ℕ). take (n * 9) ds ++ l) after ∙ take-append-drop (n * 9) ds in
+    let sizes = fraction_groups (length ds) in
+    let parts : grouped_bytes sizes ds ≡ grouped_bytes (replicate (length nines / 9) 9) nines ++ group_bytes group =
+    ap (grouped_bytes sizes) (sym all) ∙ grouped_bytes-append (replicate n 9) ((length ds % 9) ∷ []) nines group decimal_in_bytes
+    ∙ ap (λ (l : List ℕ). grouped_bytes (replicate n 9) nines ++ l) (one_group (length ds % 9) group back)
+    ∙ ap (λ (k : ℕ). grouped_bytes (replicate k 9) nines ++ group_bytes group) (sym count) in
+    let again : length nines ≡ digits_in (replicate (length nines / 9) 9) = decimal_in_bytes ∙ ap (λ (k : ℕ). digits_in (replicate k 9)) (sym count) in
+    let none = nil_grouped (replicate (length nines / 9) 9) nines again
+    (λ h. omega (arith, h, digits_in-nines (length nines / 9), bytes_in-nines (length nines / 9)))
+    (λ h. omega (arith, h, digits_in-nines (length nines / 9), bytes_in-nines (length nines / 9))) in
+    ap (masked_bytes negative first) parts ∙ masked_bytes-append negative first (grouped_bytes (replicate (length nines / 9) 9) nines) (group_bytes group)
+    ∙ ap (λ (b : Bool). masked_bytes negative first (grouped_bytes (replicate (length nines / 9) 9) nines) ++ masked_bytes negative (first && b) (group_bytes group)) none
+
+pub packed_bytes-masked_bytes : (d : DecimalView) → packed_bytes d ≡ masked_bytes d.negative true (grouped_bytes (integer_groups (length d.integer)) d.integer) ++ masked_bytes d.negative (true && (length d.integer == 0)) (grouped_bytes (fraction_groups (length d.fraction)) d.fraction)
+unfolding packed_bytes
+packed_bytes-masked_bytes d =
+    let i = length d.integer in
+    let front = grouped_bytes (integer_groups i) d.integer in
+    let back = grouped_bytes (fraction_groups (length d.fraction)) d.fraction in
+    let none = nil_grouped (integer_groups i) d.integer (sym (digits_in-integer i))
+    (λ h. omega (arith, h, digits_in-integer i, bytes_in-integer i)) (λ h. omega (arith, h, digits_in-integer i, bytes_in-integer i)) in
+    masked_bytes-append d.negative true front back ∙ ap (λ (b : Bool). masked_bytes d.negative true front ++ masked_bytes d.negative b back) none
+
+pub packed_bytes-parts : (d : DecimalView) (x y z : List ℕ) (first : Bool) → x ≡ d.integer → y ≡ d.fraction → z ≡ d.integer → first ≡ (length z == 0)
+    → packed_bytes d ≡ masked_bytes d.negative true (grouped_bytes (integer_groups (length x)) x) ++ masked_bytes d.negative first (grouped_bytes (fraction_groups (length y)) y)
+packed_bytes-parts d x y z first i f again none =
+    packed_bytes-masked_bytes d
+    ∙ ap (λ (b : Bool). masked_bytes d.negative true (grouped_bytes (integer_groups (length d.integer)) d.integer) ++ masked_bytes d.negative b (grouped_bytes (fraction_groups (length d.fraction)) d.fraction)) (sym (none ∙ ap (λ (l : List ℕ). length l == 0) again))
+    ∙ ap (λ (l : List ℕ). masked_bytes d.negative true (grouped_bytes (integer_groups (length l)) l) ++ masked_bytes d.negative first (grouped_bytes (fraction_groups (length d.fraction)) d.fraction)) (sym i)
+    ∙ ap (λ (l : List ℕ). masked_bytes d.negative true (grouped_bytes (integer_groups (length x)) x) ++ masked_bytes d.negative first (grouped_bytes (fraction_groups (length l)) l)) (sym f)
+
+-- appending bytes in two steps is appending them all
+pub appended : {X : Type 0} (r : Result X Fault) (old mid new : Option (List ℕ)) (a b all : List ℕ) → Appends old mid a → OnOk r (Appends mid new b) → all ≡ a ++ b → OnOk r (Appends old new all)
+appended (Ok x) old mid new a b all h k is = subst (λ (l : List ℕ). Appends old new l) (sym is) (Appends-trans old mid new a b h k)
+appended (Err e) old mid new a b all h k is = tt
+
+-- ---- groups before and after the point
+
+integer_parts : (count : ℕ) (bytes group nines : List ℕ) → length bytes ≡ digits_size count → group ≡ take (group_width (count % 9)) bytes → nines ≡ drop (group_width (count % 9)) bytes → (group ++ nines ≡ bytes) × (length group ≡ group_width (count % 9)) × (length nines / 4 ≡ count / 9)
+integer_parts count bytes group nines long is after =
+    let w = group_width (count % 9) in
+    let within : w ≤ length bytes = omega arith in
+    let front : length group ≡ w = ap length is ∙ length-take-le w bytes within in
+    let back : length nines ≡ 4 * (count / 9) = omega (arith, ap length after, length-drop w bytes, long) in
+    (ap (λ (l : List ℕ). l ++ nines) is ∙ ap (λ (l : List ℕ). take w bytes ++ l) after ∙ take-append-drop w bytes, front, omega (arith, back))
+
+pub integer-then : (X Y : Type 0) (count : ℕ) (bytes group nines old mid new : List ℕ) (u : X) (r : Result Y Fault) → length bytes ≡ digits_size count → group ≡ take (group_width (count % 9)) bytes → nines ≡ drop (group_width (count % 9)) bytes
+    → Unpacks (Ok u) ((count % 9) ∷ []) group old mid → Unpacks r (replicate (length nines / 4) 9) nines mid new → Unpacks r (integer_groups count) bytes old new
+integer-then X Y count bytes group nines old mid new u r long is after h k =
+    let parts = integer_parts count bytes group nines long is after in
+    subst (λ (l : List ℕ). Unpacks r (integer_groups count) l old new) parts.0
+    (unpacks-then ((count % 9) ∷ []) (replicate (count / 9) 9) group nines old mid new u r h (subst (λ (n : ℕ). Unpacks r (replicate n 9) nines mid new) parts.2 k))
+
+pub integer-stop : (X Y : Type 0) (count : ℕ) (bytes group nines old mid new : List ℕ) (e : Fault) → length bytes ≡ digits_size count → group ≡ take (group_width (count % 9)) bytes → nines ≡ drop (group_width (count % 9)) bytes
+    → Unpacks {X = X} (Err e) ((count % 9) ∷ []) group old mid → Unpacks {X = Y} (Err e) (integer_groups count) bytes old new
+integer-stop X Y count bytes group nines old mid new e long is after h =
+    let parts = integer_parts count bytes group nines long is after in
+    subst (λ (l : List ℕ). Unpacks {X = Y} (Err e) (integer_groups count) l old new) parts.0
+    (unpacks-stop X Y ((count % 9) ∷ []) (replicate (count / 9) 9) group nines old mid new e (omega (arith, parts.1)) h)
+
+fraction_parts : (count : ℕ) (bytes nines group : List ℕ) → length bytes ≡ digits_size count → nines ≡ take (count / 9 * 4) bytes → group ≡ drop (count / 9 * 4) bytes → (nines ++ group ≡ bytes) × (length nines ≡ 4 * (count / 9)) × (length nines / 4 ≡ count / 9)
+fraction_parts count bytes nines group long is after =
+    let w = count / 9 * 4 in
+    let within : w ≤ length bytes = omega arith in
+    let front : length nines ≡ w = ap length is ∙ length-take-le w bytes within in
+    (ap (λ (l : List ℕ). l ++ group) is ∙ ap (λ (l : List ℕ). take w bytes ++ l) after ∙ take-append-drop w bytes, omega (arith, front), omega (arith, front))
+
+pub fraction-then : (X Y : Type 0) (count : ℕ) (bytes nines group old mid new : List ℕ) (u : X) (r : Result Y Fault) → length bytes ≡ digits_size count → nines ≡ take (count / 9 * 4) bytes → group ≡ drop (count / 9 * 4) bytes
+    → Unpacks (Ok u) (replicate (length nines / 4) 9) nines old mid → Unpacks r ((count % 9) ∷ []) group mid new → Unpacks r (fraction_groups count) bytes old new
+fraction-then X Y count bytes nines group old mid new u r long is after h k =
+    let parts = fraction_parts count bytes nines group long is after in
+    subst (λ (l : List ℕ). Unpacks r (fraction_groups count) l old new) parts.0
+    (unpacks-then (replicate (count / 9) 9) ((count % 9) ∷ []) nines group old mid new u r (subst (λ (n : ℕ). Unpacks (Ok u) (replicate n 9) nines old mid) parts.2 h) k)
+
+pub fraction-stop : (X Y : Type 0) (count : ℕ) (bytes nines group old mid new : List ℕ) (e : Fault) → length bytes ≡ digits_size count → nines ≡ take (count / 9 * 4) bytes → group ≡ drop (count / 9 * 4) bytes
+    → Unpacks {X = X} (Err e) (replicate (length nines / 4) 9) nines old mid → Unpacks {X = Y} (Err e) (fraction_groups count) bytes old new
+fraction-stop X Y count bytes nines group old mid new e long is after h =
+    let parts = fraction_parts count bytes nines group long is after in
+    subst (λ (l : List ℕ). Unpacks {X = Y} (Err e) (fraction_groups count) l old new) parts.0
+    (unpacks-stop X Y (replicate (count / 9) 9) ((count % 9) ∷ []) nines group old mid new e (omega (arith, parts.1, bytes_in-nines (count / 9)))
+    (subst (λ (n : ℕ). Unpacks {X = X} (Err e) (replicate n 9) nines old mid) parts.2 h))
+
+-- ---- whole decimals
+
+-- the digits that the bytes hold in groups are those of the decimal packed in them
+pub decoded : (i f : ℕ) (x front back before after : List ℕ) (negative : Bool) → AllBelowBase 256 x → 0 < i + f → negative ≡ is_minus x → front ++ back ≡ unmasked_bytes x → IsCut (integer_groups i) front before → IsCut (fraction_groups f) back after
+    → IsPacked i f x (record { negative = negative; integer = before; fraction = after })
+unfolding packed_bytes
+decoded i f x front back before after negative below some sign parts h k =
+    let count : length before ≡ i = h.count ∙ digits_in-integer i in
+    let others : length after ≡ f = k.count ∙ digits_in-fraction f in
+    let integer : grouped_bytes (integer_groups (length before)) before ≡ front = ap (λ (n : ℕ). grouped_bytes (integer_groups n) before) count ∙ h.grouping in
+    let fraction : grouped_bytes (fraction_groups (length after)) after ≡ back = ap (λ (n : ℕ). grouped_bytes (fraction_groups n) after) others ∙ k.grouping in
+    record {
+      digits = (h.below, k.below, omega arith);
+      before = count;
+      after = others;
+      written = ap (λ (b : Bool). flipped_bytes (inverted_bytes b (grouped_bytes (integer_groups (length before)) before ++ grouped_bytes (fraction_groups (length after)) after))) sign
+          ∙ ap (λ (l : List ℕ). flipped_bytes (inverted_bytes (is_minus x) (l ++ grouped_bytes (fraction_groups (length after)) after))) integer
+          ∙ ap (λ (l : List ℕ). flipped_bytes (inverted_bytes (is_minus x) (front ++ l))) fraction ∙ ap (λ (l : List ℕ). flipped_bytes (inverted_bytes (is_minus x) l)) parts ∙ masked_bytes-unmasked_bytes x below;
+    }
+
+-- the bytes of a packed decimal hold its digits in groups
+pub packed_bytes-cuts : (i f : ℕ) (x front back : List ℕ) (d : DecimalView) → IsPacked i f x d → front ≡ take (digits_size i) (unmasked_bytes x) → back ≡ drop (digits_size i) (unmasked_bytes x) → IsCut (integer_groups i) front d.integer × IsCut (fraction_groups f) back d.fraction
+packed_bytes-cuts i f x front back d h is split =
+    let before = grouped_bytes (integer_groups i) d.integer in
+    let after = grouped_bytes (fraction_groups f) d.fraction in
+    let count : length d.integer ≡ digits_in (integer_groups i) = h.before ∙ sym (digits_in-integer i) in
+    let others : length d.fraction ≡ digits_in (fraction_groups f) = h.after ∙ sym (digits_in-fraction f) in
+    let all : unmasked_bytes x ≡ before ++ after = ap unmasked_bytes (sym h.written) ∙ unmasked_bytes-packed_bytes d h.digits
+    ∙ ap (λ (n : ℕ). grouped_bytes (integer_groups n) d.integer ++ grouped_bytes (fraction_groups (length d.fraction)) d.fraction) h.before
+    ∙ ap (λ (n : ℕ). before ++ grouped_bytes (fraction_groups n) d.fraction) h.after in
+    let width : length before ≡ digits_size i = length-grouped_bytes (integer_groups i) d.integer count ∙ bytes_in-integer i in (
+      record { below = h.digits.0; count = count; grouping = sym (is ∙ ap (take (digits_size i)) all ∙ take_at before after (digits_size i) width) },
+      record { below = h.digits.1; count = others; grouping = sym (split ∙ ap (drop (digits_size i)) all ∙ drop_at before after (digits_size i) width) },
+    )
+
+-- the bytes of the groups before and after the point, without the sign encoding
+pub record AreHalves (i : ℕ) (x front back : List ℕ) (negative : Bool) : Type 0 where
+  pub below : AllBelowBase 256 x
+  pub sign : negative ≡ is_minus x
+  pub before : front ≡ take (digits_size i) (unmasked_bytes x)
+  pub after : back ≡ drop (digits_size i) (unmasked_bytes x)
+
+pub halves : (i size : ℕ) (x bytes front back : List ℕ) (negative : Bool) → AllBelowBase 256 x → negative ≡ is_minus x → bytes ≡ inverted_bytes negative (flipped_bytes x) → size ≡ digits_size i → front ≡ take size bytes → back ≡ drop size bytes → AreHalves i x front back negative
+halves i size x bytes front back negative below sign is long before after =
+    let all : bytes ≡ unmasked_bytes x = is ∙ ap (λ (b : Bool). inverted_bytes b (flipped_bytes x)) sign in
+    record {
+      below = below;
+      sign = sign;
+      before = before ∙ ap (take size) all ∙ ap (λ (n : ℕ). take n (unmasked_bytes x)) long;
+      after = after ∙ ap (drop size) all ∙ ap (λ (n : ℕ). drop n (unmasked_bytes x)) long;
+    }
+
+pub unpacked : (i f : ℕ) (x front back old1 new1 old2 new2 : List ℕ) (negative : Bool) → 0 < i + f → AreHalves i x front back negative → old1 ≡ [] → old2 ≡ []
+    → ((ds : List ℕ) × (new1 ≡ old1 ++ ds) × IsCut (integer_groups i) front ds) → ((ds : List ℕ) × (new2 ≡ old2 ++ ds) × IsCut (fraction_groups f) back ds)
+    → IsPacked i f x (record { negative = negative; integer = new1; fraction = new2 })
+unpacked i f x front back old1 new1 old2 new2 negative some halves none1 none2 h k =
+    let first : new1 ≡ h.0 = h.1 ∙ ap (λ (l : List ℕ). l ++ h.0) none1 in
+    let second : new2 ≡ k.0 = k.1 ∙ ap (λ (l : List ℕ). l ++ k.0) none2 in
+    let parts : front ++ back ≡ unmasked_bytes x = ap (λ (l : List ℕ). l ++ back) halves.before ∙ ap (λ (l : List ℕ). take (digits_size i) (unmasked_bytes x) ++ l) halves.after ∙ take-append-drop (digits_size i) (unmasked_bytes x) in
+    decoded i f x front back new1 new2 negative halves.below some halves.sign parts (subst (λ (l : List ℕ). IsCut (integer_groups i) front l) (sym first) h.2) (subst (λ (l : List ℕ). IsCut (fraction_groups f) back l) (sym second) k.2)
+
+pub no_integer : (X : Type 0) (i f : ℕ) (x front back old new : List ℕ) (negative : Bool) (e : Fault) → AreHalves i x front back negative → Unpacks {X = X} (Err e) (integer_groups i) front old new → UnpacksDecimal (Err e) i f x
+no_integer X i f x front back old new negative e halves h = λ other. ((h other).0, λ d p. (h other).1 d.integer (packed_bytes-cuts i f x front back d p halves.before halves.after).0)
+
+pub no_fraction : (X : Type 0) (i f : ℕ) (x front back old new : List ℕ) (negative : Bool) (e : Fault) → AreHalves i x front back negative → Unpacks {X = X} (Err e) (fraction_groups f) back old new → UnpacksDecimal (Err e) i f x
+no_fraction X i f x front back old new negative e halves h = λ other. ((h other).0, λ d p. (h other).1 d.fraction (packed_bytes-cuts i f x front back d p halves.before halves.after).1)
+
+-- what is unpacked from bytes of the right length is what the format reads from them
+pub packed_at : (r : Result DecimalView Fault) (i f : ℕ) (x : List ℕ) → 0 < i + f → length x ≡ packed_size i f → UnpacksDecimal r i f x → OrMemory r (Parses (packed_digits i f) r x [])
+unfolding packed_digits
+packed_at (Ok d) i f x some long h = ap (packed_digits i f).parse (sym (append-nil x)) ∙ (exact_packed_digits i f some).complete x [] d h
+packed_at (Err e) i f x some long h =
+    λ other.
+    let all : take (packed_size i f) x ≡ x = take_all (packed_size i f) x (omega arith) in
+    let none = h other in
+    (exact_packed_digits i f some).refused_complete x e (inr (omega arith, λ d p. none.1 d (subst (λ (y : List ℕ). IsPacked i f y d) all p), none.0))

@@ -1,0 +1,127 @@
+-- Reading packed decimals from a source.
+use Rattle.std.proofs.Common.{◌≡◌, ◌≢◌, ℕ, ◌-◌, ◌<◌, ◌≤◌, Bool, true, false, List, [], ◌++◌, length, Option, Some, None, Result, Ok, Err, refl, sym, ap, subst, ◌∙◌, append-nil, arith}
+use Rattle.std.specs.Prelude.{nat_lt, ◌==◌}
+use Rattle.std.specs.Io.KnownBytes.{Consumes}
+use Rattle.std.proofs.lemmas.Bool.{le-ltb, lt-ltb, ltb-true}
+use Rattle.std.proofs.lemmas.List.{length-append, take_at, drop_at}
+use Rattle.binlog_base.specs.declared.fault.Fault.{Fault}
+use Rattle.binlog_base.specs.declared.fault.Fault.TheVariants as fault
+use Rattle.binlog_base.specs.declared.fault.Fault.TheVariants.{DecimalScale}
+use Rattle.binlog_base.specs.Format.{Format, Parses, OrMemory, ◌>>=◌, no_bytes, refusal, sequence}
+use Rattle.binlog_base.specs.Numbers.{big_endian}
+use Rattle.binlog_base.specs.Widths.{IsOfWidth}
+use Rattle.binlog_base.specs.Lemmas.Widths.{map_value_is_of_width, choice_is_of_width}
+use Rattle.binlog_base.specs.Failures.{CountsFailure, IsShort, count_after}
+use Rattle.binlog_base.specs.Sources.{TakesSpelling, IsLeft, Answers, ReadsFrom, ReadsFromOrMemory}
+use Rattle.binlog_base.proofs.Known.{answers}
+use Rattle.binlog_base.proofs.Filled.{short_answers, filled_answers}
+use Rattle.binlog_base.proofs.Sequences.{Consumes-nil, takes_first, takes_then}
+use Rattle.binlog_values.specs.Decimals.{DecimalView, packed_size, zero_decimal, kept_decimal}
+use Rattle.binlog_values.specs.PackedDecimals.{decimal_in_bytes, packed_digits, packed_decimal, counted_decimal}
+use Rattle.binlog_values.specs.Lemmas.PackedDecimals.{some_sum, exact_packed_decimal, exact_counted_decimal}
+
+abbrev paired : List ℕ → DecimalView → Result (DecimalView × List ℕ) Fault
+paired more d = Ok (d, more)
+
+abbrev leaves : List ℕ → DecimalView × List ℕ → Result (DecimalView × List ℕ) Fault
+leaves more p = Ok (p.0, more)
+
+digits_of_width : (i f : ℕ) → IsOfWidth (packed_size i f) (packed_digits i f)
+unfolding packed_digits
+digits_of_width i f = record {
+  short = λ x l. rw (lt-ltb (length x) (packed_size i f) l) refl;
+  whole = λ x more l. far x more l ∙ same_held (decimal_in_bytes i f x) more ∙ sym (ap (λ (r : Result (DecimalView × List ℕ) Fault). r >>= leaves more) (ap (packed_digits i f).parse (sym (append-nil x)) ∙ far x [] l));
+}
+  where
+    far : (x more : List ℕ) → length x ≡ packed_size i f → (packed_digits i f).parse (x ++ more) ≡ (decimal_in_bytes i f x >>= paired more)
+    far x more l =
+        let enough : nat_lt (length (x ++ more)) (packed_size i f) ≡ false = le-ltb (length (x ++ more)) (packed_size i f) (omega (arith, length-append x more)) in
+        rw (enough, take_at x more (packed_size i f) l, drop_at x more (packed_size i f) l) refl
+
+    same_held : (r : Result DecimalView Fault) (more : List ℕ) → (r >>= paired more) ≡ ((r >>= paired []) >>= leaves more)
+    same_held (Ok d) more = refl
+    same_held (Err e) more = refl
+
+decimal_of_width : (precision scale : ℕ) (keep : Bool) → scale ≤ precision → 0 < precision → IsOfWidth (packed_size (precision - scale) scale) (packed_decimal precision scale keep)
+unfolding packed_decimal
+decimal_of_width precision scale keep within some =
+    let n = packed_size (precision - scale) scale in
+    choice_is_of_width n (nat_lt precision scale) (refusal DecimalScale) _ (λ above. absurd (omega (arith, ltb-true precision scale above))) (λ below.
+    choice_is_of_width n (precision == 0) (no_bytes zero_decimal) _ (λ none. absurd (true_or_false none (some_sum precision some))) (λ asked.
+    map_value_is_of_width n (packed_digits (precision - scale) scale) (kept_decimal keep) (digits_of_width (precision - scale) scale)))
+  where
+    true_or_false : {b : Bool} → b ≡ true → b ≡ false → ⊥
+    true_or_false p q = cc
+
+-- the source has too few bytes
+pub decimal_short : (precision scale : ℕ) (keep : Bool) (e : Fault) (n : ℕ) (old new : Option (List ℕ)) (failures failures_after : ℕ) → scale ≤ precision → 0 < precision → n ≡ packed_size (precision - scale) scale
+    → (e ≢ fault.Reader → (e ≡ fault.UnexpectedEof) × IsShort old n) → CountsFailure {X = DecimalView} (Err e) failures failures_after
+    → ReadsFromOrMemory (packed_decimal precision scale keep) (Err e) old new failures failures_after
+decimal_short precision scale keep e n old new m k within some is h counts =
+    short_answers true n (packed_decimal precision scale keep) (exact_packed_decimal precision scale keep) (subst (λ (m : ℕ). IsOfWidth m (packed_decimal precision scale keep)) (sym is) (decimal_of_width precision scale keep within some)) e old new m k h counts
+
+-- all bytes of the decimal were read
+pub decimal_filled : (precision scale : ℕ) (keep : Bool) (r : Result DecimalView Fault) (old new : Option (List ℕ)) (failures failures_after : ℕ) (taken : List ℕ) → scale ≤ precision → 0 < precision → length taken ≡ packed_size (precision - scale) scale
+    → Consumes old new taken → failures_after ≡ failures → OrMemory r (Parses (packed_decimal precision scale keep) r taken [])
+    → ReadsFromOrMemory (packed_decimal precision scale keep) r old new failures failures_after
+decimal_filled precision scale keep r old new m k taken within some long c is h =
+    filled_answers true _ (packed_decimal precision scale keep) (exact_packed_decimal precision scale keep) (decimal_of_width precision scale keep within some) r old new m k taken [] long c is h
+
+some_bytes : (old : Option (List ℕ)) → (bytes : List ℕ) × IsLeft old bytes
+some_bytes None = ([], tt)
+some_bytes (Some x) = (x, refl)
+
+scale_above : (precision scale : ℕ) (keep : Bool) (old new : Option (List ℕ)) → precision < scale → TakesSpelling (packed_decimal precision scale keep) (Err fault.DecimalScale) old new
+unfolding packed_decimal
+scale_above precision scale keep old new above = λ other. let left = some_bytes old in rw (lt-ltb precision scale above) (left.0, refl, left.1)
+
+-- the scale is above the precision
+pub decimal_refused : (precision scale : ℕ) (keep : Bool) (old : Option (List ℕ)) (failures : ℕ) → precision < scale → ReadsFromOrMemory (packed_decimal precision scale keep) (Err fault.DecimalScale) old old failures failures
+decimal_refused precision scale keep old n above =
+    answers true (packed_decimal precision scale keep) (exact_packed_decimal precision scale keep) (Err fault.DecimalScale) old old n n (λ other. scale_above precision scale keep old old above) refl
+
+no_digit : (precision scale : ℕ) (keep : Bool) (d : DecimalView) (old : Option (List ℕ)) → scale ≤ precision → precision ≡ 0 → d ≡ zero_decimal → TakesSpelling (packed_decimal precision scale keep) (Ok d) old old
+unfolding packed_decimal
+no_digit precision scale keep d old within none is =
+    let all : (precision == 0) ≡ true = ap (λ (n : ℕ). n == 0) none in
+    rw (le-ltb precision scale within, all) ([], (refl, is), Consumes-nil old)
+
+-- the precision is 0
+pub decimal_empty : (precision scale : ℕ) (keep : Bool) (d : DecimalView) (old : Option (List ℕ)) (failures : ℕ) → scale ≤ precision → precision ≡ 0 → d ≡ zero_decimal → ReadsFromOrMemory (packed_decimal precision scale keep) (Ok d) old old failures failures
+decimal_empty precision scale keep d old n within none is =
+    answers true (packed_decimal precision scale keep) (exact_packed_decimal precision scale keep) (Ok d) old old n n (no_digit precision scale keep d old within none is) refl
+
+-- ---- after a precision and a scale
+
+abbrev after_precision : Bool → ℕ → Format DecimalView
+after_precision keep precision = sequence (big_endian 1) (λ scale. packed_decimal precision scale keep)
+
+pub counted_no_precision : (keep : Bool) (e : Fault) (old new : Option (List ℕ)) (failures failures_after : ℕ) → ReadsFrom (big_endian 1) (Err e) old new failures failures_after → ReadsFromOrMemory (counted_decimal keep) (Err e) old new failures failures_after
+unfolding counted_decimal
+counted_no_precision keep e old new m k h =
+    answers true (counted_decimal keep) (exact_counted_decimal keep) (Err e) old new m k (λ other. takes_first (big_endian 1) (after_precision keep) e old new new h.takes) h.counts
+
+pub counted_no_scale : (keep : Bool) (precision : ℕ) (e : Fault) (old mid new : Option (List ℕ)) (n m k : ℕ) → ReadsFrom (big_endian 1) (Ok precision) old mid n m → ReadsFrom (big_endian 1) (Err e) mid new m k → ReadsFromOrMemory (counted_decimal keep) (Err e) old new n k
+unfolding counted_decimal
+counted_no_scale keep precision e old mid new n m k h l =
+    answers true (counted_decimal keep) (exact_counted_decimal keep) (Err e) old new n k
+    (λ other. takes_then (big_endian 1) (after_precision keep) precision (Err e) old mid new h.takes (takes_first (big_endian 1) (λ scale. packed_decimal precision scale keep) e mid new new l.takes))
+    (l.counts ∙ ap (count_after e) h.counts)
+
+pub counted_then : (keep : Bool) (precision scale : ℕ) (r : Result DecimalView Fault) (old mid later new : Option (List ℕ)) (n m k l : ℕ)
+    → ReadsFrom (big_endian 1) (Ok precision) old mid n m → ReadsFrom (big_endian 1) (Ok scale) mid later m k → ReadsFromOrMemory (packed_decimal precision scale keep) r later new k l
+    → ReadsFromOrMemory (counted_decimal keep) r old new n l
+unfolding counted_decimal
+counted_then keep precision scale r old mid later new n m k l h i j =
+    answers true (counted_decimal keep) (exact_counted_decimal keep) r old new n l (all r j.takes) (counts r j.counts)
+  where
+    each : (r : Result DecimalView Fault) → TakesSpelling (packed_decimal precision scale keep) r later new → TakesSpelling (counted_decimal keep) r old new
+    each r took = takes_then (big_endian 1) (after_precision keep) precision r old mid new h.takes (takes_then (big_endian 1) (λ scale. packed_decimal precision scale keep) scale r mid later new i.takes took)
+
+    all : (r : Result DecimalView Fault) → OrMemory r (TakesSpelling (packed_decimal precision scale keep) r later new) → OrMemory r (TakesSpelling (counted_decimal keep) r old new)
+    all (Ok d) took = each (Ok d) took
+    all (Err e) took = λ other. each (Err e) (took other)
+
+    counts : (r : Result DecimalView Fault) → CountsFailure r k l → CountsFailure r n l
+    counts (Ok d) c = c ∙ i.counts ∙ h.counts
+    counts (Err e) c = c ∙ ap (count_after e) (i.counts ∙ h.counts)

@@ -1,0 +1,43 @@
+//! Proved facts about decimals, each written as the contract of a function that does nothing.
+
+ghost use Rattle.std.specs.Prelude.{ℕ, Bool};
+ghost use Rattle.binlog_base.specs.Format.{IsExact};
+ghost use Rattle.binlog_values.specs.PackedDecimals.{packed_decimal, counted_decimal};
+ghost use Rattle.binlog_values.specs.DecimalLaws.{PackedReadsBack, PackedHasSize, EqualWherePackedAlike, PrintedReadsBack, PackedWhereInRange, TextsAreNumerals};
+
+/// If a prefix of some bytes is a packed decimal, that decimal is read from them. Otherwise reading
+/// fails, and the bytes determine the fault.
+pub fn packed_decimals_are_exact()
+    ensures decimal { (precision scale : ℕ) (keep : Bool) → IsExact (packed_decimal precision scale keep) }
+    ensures counted { (keep : Bool) → IsExact (counted_decimal keep) }
+{}
+
+/// A decimal that is written in packed form is read back as the same decimal: the sign, the digits,
+/// and how many digits are before and after the point. The packed form has the expected size.
+pub fn packed_decimals_read_back()
+    ensures again { PackedReadsBack }
+    ensures size { PackedHasSize }
+{}
+
+/// Two decimals compare as equal if and only if their packed forms are the same.
+pub fn equal_decimals_are_packed_alike()
+    ensures { EqualWherePackedAlike }
+{}
+
+/// If a decimal was read from a text, its printed text can be read again, and gives the same number
+/// with the same digits after the point.
+pub fn printed_decimals_read_back()
+    ensures { PrintedReadsBack }
+{}
+
+/// Bytes of the right length are a packed decimal if and only if the number of each group has no
+/// more digits than the group.
+pub fn decimals_are_packed_in_range()
+    ensures { PackedWhereInRange }
+{}
+
+/// A text is read as a decimal if and only if, once all but one of the zeros at its start are
+/// dropped, it is an optional sign, digits, an optional point and digits.
+pub fn texts_are_numerals()
+    ensures { TextsAreNumerals }
+{}

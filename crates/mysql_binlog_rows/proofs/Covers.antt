@@ -4,10 +4,10 @@ use Rattle.std.specs.List.{concat}
 use Rattle.std.proofs.lemmas.List.{length-append, append_cancel_left, append-nil}
 use Rattle.std.proofs.lemmas.List.Folds.{concat-append}
 use Rattle.binlog_base.specs.declared.fault.Fault.{Fault}
-use Rattle.mysql_binlog_rows.specs.Images.{Grammar, Pair, pair}
+use Rattle.mysql_binlog_rows.specs.Images.{Grammar, Pair, pair, IsSound}
 use Rattle.mysql_binlog_rows.specs.Cover.{IsPair, RestFault, ArePairs, EndsWith, Covers}
 use Rattle.binlog_base.specs.Lemmas.Format.{one_spelling, one_fault, refused_no_spelling}
-use Rattle.mysql_binlog_rows.specs.Lemmas.Images.{IsSound, exact_pair}
+use Rattle.mysql_binlog_rows.specs.Lemmas.Images.{exact_pair}
 
 rest_fault_one : (g : Grammar) → IsSound g → (r : List ℕ) (d e : Fault) → RestFault g r d → RestFault g r e → d ≡ e
 rest_fault_one g sound r d e hd he =
@@ -67,8 +67,8 @@ pairs_one g sound xs ys ps qs hx hy same =
     let one = parts_one g sound xs ys [] [] ps qs None None (ap (λ (t : List ℕ). t ++ []) same) hx hy refl refl in
     (one.0, one.1)
 
-pub no_proper_front : (g : Grammar) → IsSound g → (x more : List ℕ) (p q : Pair) → IsPair g x p → IsPair g (x ++ more) q → more ≡ []
-no_proper_front g sound x more p q hp hq =
+pub no_proper_prefix : (g : Grammar) → IsSound g → (x more : List ℕ) (p q : Pair) → IsPair g x p → IsPair g (x ++ more) q → more ≡ []
+no_proper_prefix g sound x more p q hp hq =
     let one = one_spelling (pair g) (exact_pair g sound) x (x ++ more) more [] p q hp.1 hq.1 (sym (append-nil (x ++ more))) in
     append_cancel_left x more [] (sym one.0 ∙ sym (append-nil x))
 

@@ -4,8 +4,8 @@ use Rattle.std.proofs.lemmas.List.{length-append, nil_from_length}
 use Rattle.binlog_base.specs.declared.fault.Fault.{Fault}
 use Rattle.binlog_base.specs.declared.fault.Fault.TheVariants.{EmptyPair, Memory}
 use Rattle.binlog_base.specs.Lemmas.Format.{ok_is, ok_or_err, succeeds}
-use Rattle.mysql_binlog_rows.specs.Images.{Grammar, Pair, pair}
-use Rattle.mysql_binlog_rows.specs.Lemmas.Images.{IsSound, exact_pair}
+use Rattle.mysql_binlog_rows.specs.Images.{Grammar, Pair, pair, IsSound}
+use Rattle.mysql_binlog_rows.specs.Lemmas.Images.{exact_pair}
 use Rattle.mysql_binlog_rows.specs.Cover.{IsPair, NoPair, RestFault, EndsWith}
 use Rattle.mysql_binlog_rows.specs.Rows.{ItemGives}
 

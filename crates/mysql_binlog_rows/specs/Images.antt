@@ -7,6 +7,7 @@ use Rattle.binlog_base.specs.declared.bits.BitOrder.TheVariants.{LeastSignifican
 use Rattle.binlog_base.specs.declared.below.columns.column_type.ColumnType.{ColumnType}
 use Rattle.binlog_base.specs.declared.fault.Fault.{Fault}
 use Rattle.binlog_base.specs.declared.fault.Fault.TheVariants.{NoColumnType, Unhandled}
+use Rattle.binlog_base.specs.Faults.{IsOfBytes}
 use Rattle.binlog_base.specs.Format.{Format, no_bytes, refusal, sequence, map_value, choice}
 use Rattle.binlog_base.specs.Bits.{count_set, bit_list}
 use Rattle.binlog_base.specs.Values.{ColumnView, no_flags, Null}
@@ -140,3 +141,20 @@ is_supported t e = is_empty t.optional_metadata && (is_none e.before && is_whole
 
 abbrev pub grammar_of : TableMap → RowsEvent → Grammar
 grammar_of t e = record { before = option_map (image_of t) (image_columns e.num_columns e.before); after = option_map (image_of t) (image_columns e.num_columns e.after); is_supported = is_supported t e }
+
+-- ---- which faults a column without a type may have
+
+-- the fault of a column without a type is one that reading bytes may give
+abbrev pub EndsSoundly : Option Fault → Type 0
+EndsSoundly None = Unit {0}
+EndsSoundly (Some e) = IsOfBytes e
+
+-- the same for an image that may be missing
+abbrev pub IsSoundImage : Option Image → Type 0
+IsSoundImage None = Unit {0}
+IsSoundImage (Some i) = EndsSoundly i.slots.fault
+
+-- the same for both images: the invariant of an iterator over pairs
+pub record IsSound (g : Grammar) : Type 0 where
+  pub before : IsSoundImage g.before
+  pub after : IsSoundImage g.after

@@ -12,8 +12,8 @@ abbrev pub OneListOfPairs : Type 0
 OneListOfPairs = (t : TableMap) (e : RowsEvent) (xs ys : List (List ℕ)) (ps qs : List Pair) → ArePairs (grammar_of t e) xs ps → ArePairs (grammar_of t e) ys qs → concat xs ≡ concat ys → (xs ≡ ys) × (ps ≡ qs)
 
 -- no pair is a proper prefix of another
-abbrev pub NoProperFront : Type 0
-NoProperFront = (t : TableMap) (e : RowsEvent) (x more : List ℕ) (p q : Pair) → IsPair (grammar_of t e) x p → IsPair (grammar_of t e) (x ++ more) q → more ≡ []
+abbrev pub NoProperPrefix : Type 0
+NoProperPrefix = (t : TableMap) (e : RowsEvent) (x more : List ℕ) (p q : Pair) → IsPair (grammar_of t e) x p → IsPair (grammar_of t e) (x ++ more) q → more ≡ []
 
 -- rows data has only one list of pairs up to its first fault, and only one such fault
 abbrev pub OneCover : Type 0

@@ -1,7 +1,7 @@
 //! Proved facts about pairs of rows and about cells, each written as the contract of a function
 //! that does nothing.
 
-ghost use Rattle.mysql_binlog_rows.specs.Laws.{OneListOfPairs, NoProperFront, OneCover};
+ghost use Rattle.mysql_binlog_rows.specs.Laws.{OneListOfPairs, NoProperPrefix, OneCover};
 ghost use Rattle.mysql_binlog_rows.specs.OldTimes.{OldTimesHaveSigns};
 
 /// Rows data can be split into pairs of rows in only one way.
@@ -11,7 +11,7 @@ ghost use Rattle.mysql_binlog_rows.specs.OldTimes.{OldTimesHaveSigns};
 /// fault, and only one such fault.
 pub fn pairs_are_unambiguous()
     ensures one_list { OneListOfPairs }
-    ensures no_proper_front { NoProperFront }
+    ensures no_proper_prefix { NoProperPrefix }
     ensures one_cover { OneCover }
 {}
 

@@ -236,7 +236,7 @@ impl<'a> TableMapEvent<'a> {
         ensures chunk { option_map (λ c. c.now) result ≡ chunk_at self.now.types self.now.metadata index }
         // The columns' metadata begins with the chunks of the columns up to this one, and the
         // result is the last of them.
-        ensures stands { (c : List ℕ) → (option_map (λ c. c.now) result ≡ Some c)
+        ensures has_chunk { (c : List ℕ) → (option_map (λ c. c.now) result ≡ Some c)
             ↔ HasChunk self.now.types self.now.metadata index c }
     {
         column_chunk(

@@ -17,20 +17,7 @@ use Rattle.binlog_table.specs.ColumnTypes.{column_type_at, fault_of}
 use Rattle.binlog_table.specs.Chunks.{chunk_at}
 use Rattle.mysql_binlog_rows.specs.RowsEvent.{RowsEvent, image_columns}
 use Rattle.mysql_binlog_rows.specs.Lemmas.Cells.{exact_cell}
-use Rattle.mysql_binlog_rows.specs.Images.{Slot, Slots, typed_slot, slot_at, slot_then, slots_from, Image, image_of, Grammar, grammar_of, ends, nullable_cell, cells, image, maybe_image, pair}
-
--- the fault of a column without a type is one that reading bytes may give
-abbrev pub EndsSoundly : Option Fault → Type 0
-EndsSoundly None = Unit {0}
-EndsSoundly (Some e) = IsOfBytes e
-
-abbrev pub IsSoundImage : Option Image → Type 0
-IsSoundImage None = Unit {0}
-IsSoundImage (Some i) = EndsSoundly i.slots.fault
-
-pub record IsSound (g : Grammar) : Type 0 where
-  pub before : IsSoundImage g.before
-  pub after : IsSoundImage g.after
+use Rattle.mysql_binlog_rows.specs.Images.{Slot, Slots, typed_slot, slot_at, slot_then, slots_from, Image, image_of, Grammar, grammar_of, ends, nullable_cell, cells, image, maybe_image, pair, EndsSoundly, IsSoundImage, IsSound}
 
 exact_ends : (end : Option Fault) → EndsSoundly end → IsExact (ends end)
 exact_ends None sound = exact_no_bytes []

@@ -4,8 +4,7 @@ ghost use Rattle.std.specs.Prelude.{◌≡◌, true, false, MatchResult, IsTrue,
 ghost use Rattle.std.specs.Option.{option_map};
 ghost use Rattle.binlog_base.specs.declared.fault.Fault.TheVariants as Fault;
 ghost use Rattle.binlog_base.specs.Format.{Parses, OrMemory};
-ghost use Rattle.mysql_binlog_rows.specs.Images.{image_of, maybe_image, pair, is_supported};
-ghost use Rattle.mysql_binlog_rows.specs.Lemmas.Images.{IsSound};
+ghost use Rattle.mysql_binlog_rows.specs.Images.{image_of, maybe_image, pair, is_supported, IsSound};
 ghost use Rattle.mysql_binlog_rows.specs.Rows.{grammar_of_events, PairGives, at_rest};
 ghost use Rattle.mysql_binlog_rows.specs.Columns.{grammar_in};
 
@@ -74,7 +73,7 @@ pub struct RowsEventRows<'a> {
 impl<'a> Model for RowsEventRows<'a> {
     ghost use Rattle.mysql_binlog_rows.specs.Rows.{Rows};
     ghost use Rattle.mysql_binlog_rows.specs.Columns.{grammar_in};
-    ghost use Rattle.mysql_binlog_rows.specs.Lemmas.Images.{IsSound};
+    ghost use Rattle.mysql_binlog_rows.specs.Images.{IsSound};
 
     ghost Value = { Rows };
 

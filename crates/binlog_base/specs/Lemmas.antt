@@ -14,3 +14,4 @@ pub mod Bits
 pub mod Equality
 pub mod PackedTimes
 pub mod Widths
+pub mod Items

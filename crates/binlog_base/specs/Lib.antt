@@ -10,6 +10,7 @@ pub mod Fixed
 pub mod Numbers
 pub mod Writing
 pub mod Strings
+pub mod Items
 pub mod Bits
 pub mod Failures
 pub mod Sources

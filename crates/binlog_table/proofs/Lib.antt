@@ -1,3 +1,6 @@
 -- Proofs that several functions of this crate share.
 pub mod ColumnChunks
 pub mod Arrays
+pub mod KeyByKey
+pub mod Strings
+pub mod CharsetByCharset

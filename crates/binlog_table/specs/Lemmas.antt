@@ -2,3 +2,6 @@
 -- contracts can skip it.
 pub mod TableMap
 pub mod Chunks
+pub mod Lists
+pub mod Variants
+pub mod TableMapWritten

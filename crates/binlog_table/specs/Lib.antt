@@ -1,5 +1,14 @@
 -- The definitions that the contracts of this crate rest on.
 pub mod TableMap
+pub mod TableMapWritten
 pub mod Chunks
 pub mod ColumnTypes
+pub mod Lists
+pub mod Variants
+pub mod Fields
+pub mod Keys
+pub mod KeysLeft
+pub mod Charsets
+pub mod CharsetsLeft
+pub mod Extracted
 pub mod Lemmas

@@ -4,6 +4,8 @@ mod bad_column_type;
 mod column_chunks;
 mod event;
 mod metadata;
+pub mod optional;
+mod strings;
 mod table_id;
 
 pub use bad_column_type::BadColumnType;

@@ -3,3 +3,4 @@ pub mod RowsEvent
 pub mod Cells
 pub mod Images
 pub mod Equality
+pub mod RowsEventWritten

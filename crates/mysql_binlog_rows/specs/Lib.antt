@@ -1,5 +1,6 @@
 -- The definitions that the contracts of this crate use.
 pub mod RowsEvent
+pub mod RowsEventWritten
 pub mod Cells
 pub mod OldTimes
 pub mod Images

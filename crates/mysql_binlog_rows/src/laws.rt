@@ -3,6 +3,7 @@
 
 ghost use Rattle.mysql_binlog_rows.specs.Laws.{OneListOfPairs, NoProperPrefix, OneCover};
 ghost use Rattle.mysql_binlog_rows.specs.OldTimes.{OldTimesHaveSigns};
+ghost use Rattle.mysql_binlog_rows.specs.RowsEventWritten.{WrittenEventsSpellThemselves, ReadEventsKeepExtraData, WrittenEventsReadBack};
 
 /// Rows data can be split into pairs of rows in only one way.
 ///
@@ -19,4 +20,13 @@ pub fn pairs_are_unambiguous()
 /// `signed_old_time` gives it, it is the time of the same three bytes in two's complement.
 pub fn old_times_have_signs()
     ensures { OldTimesHaveSigns }
+{}
+
+/// What is written of a rows event spells the event. So an event that was read is written as bytes
+/// that are read as the same event, where both readings take extra data exactly for the types that
+/// are written with it.
+pub fn written_rows_events_read_back()
+    ensures spelled { WrittenEventsSpellThemselves }
+    ensures keeps { ReadEventsKeepExtraData }
+    ensures reads_back { WrittenEventsReadBack }
 {}

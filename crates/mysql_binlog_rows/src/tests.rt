@@ -1,10 +1,13 @@
 //! Tests of rows events and their pairs of rows.
 
+mod optional_metadata;
+mod table_map;
+
 use crate::laws::pairs_are_unambiguous;
 use crate::row::BinlogRow;
 use crate::rows_event::{Decoded, RowPair, RowsEvent, RowsEventCtx, decode_pairs};
 use crate::value::BinlogValue;
-use binlog_base::below::{Column, ColumnType, ParseBuf, Value};
+use binlog_base::below::{Column, ColumnType, MySerialize, ParseBuf, Value};
 use binlog_base::fault::Fault;
 use binlog_consts::consts::{BinlogVersion, EventType, RowsEventFlags};
 use binlog_table::table_map::TableMapEvent;
@@ -87,6 +90,65 @@ fn first_version(rt: HostRuntime) -> Result<(), Fail> {
     assert!(rt; has_parts(&event, 1, 2, &[3]));
     assert!(rt; image_counts(&event) == (None, Some(2)));
     assert_eq!(rt; event.len(BinlogVersion::Version4), 13);
+    Ok(())
+}
+
+/// Whether an event that is read from these bytes is written as these other bytes, and its copies
+/// are equal to it.
+fn is_written(
+    rt: &HostRuntime,
+    bytes: &[u8],
+    event_type: EventType,
+    post_header_len: u8,
+    expected: &[u8],
+) -> Result<bool, Fail> {
+    let event = read(bytes, event_type, post_header_len)?;
+    let mut written = Vec::new(rt.alloc());
+    event.serialize(&mut written)?;
+    let copy = event.clone(rt.alloc())?;
+    Ok(written.as_slice() == expected && copy == event && copy == event.into_owned(rt.alloc())?)
+}
+
+#[test]
+fn written_events(rt: HostRuntime) -> Result<(), Fail> {
+    let inserted = two_rows();
+    let rows: [(&[u8], EventType, u8, &[u8]); 4] = [
+        (&inserted, EventType::WRITE_ROWS_EVENT, 10, &inserted),
+        // The table id is written in six bytes.
+        (
+            &[1, 0, 0, 0, 1, 0, 2, 3, 3],
+            EventType::WRITE_ROWS_EVENT_V1,
+            6,
+            &[1, 0, 0, 0, 0, 0, 1, 0, 2, 3, 3],
+        ),
+        // A length of extra data below two is read as no extra data, and written as two.
+        (
+            &[1, 0, 0, 0, 0, 0, 1, 0, 0, 0, 1, 1],
+            EventType::WRITE_ROWS_EVENT,
+            10,
+            &[1, 0, 0, 0, 0, 0, 1, 0, 2, 0, 1, 1],
+        ),
+        (
+            &[1, 0, 0, 0, 0, 0, 1, 0, 1, 0, 1, 1],
+            EventType::WRITE_ROWS_EVENT,
+            10,
+            &[1, 0, 0, 0, 0, 0, 1, 0, 2, 0, 1, 1],
+        ),
+    ];
+    for (bytes, event_type, post_header_len, expected) in rows {
+        assert!(rt;
+            is_written(&rt, bytes, event_type, post_header_len, expected)?,
+            "{bytes:?}"
+        );
+    }
+    let bytes = two_columns();
+    let table: TableMapEvent<'_> = ParseBuf(&bytes).parse(8)?;
+    let mut written = Vec::new(rt.alloc());
+    table.serialize(&mut written)?;
+    assert!(rt; written.as_slice() == bytes.as_slice());
+    let copy = table.clone(rt.alloc())?;
+    assert!(rt; copy == table);
+    assert!(rt; copy == table.into_owned(rt.alloc())?);
     Ok(())
 }
 

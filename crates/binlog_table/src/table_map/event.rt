@@ -1,17 +1,20 @@
 //! The table map event.
 
+mod write;
+
 use super::bad_column_type::BadColumnType;
 use super::column_chunks::ColumnChunks;
-use super::metadata::{column_chunk, real_type};
+use super::metadata::{column_chunk, is_numeric, real_type};
+use super::optional::OptionalMetadataIter;
 use super::table_id::TableId;
 use binlog_base::below::{
     BareBytes, ColumnType, EofBytes, IntRepr, LeU16, LenEnc, MyDeserialize, ParseBuf, RawBytes,
-    Skip, U8Bytes, UnknownColumnType,
+    Skip, U8, U8Bytes, UnknownColumnType,
 };
 use binlog_base::bits::{BitOrder, BitView, bitmap_len};
 use binlog_base::fault::Fault;
 use std::alloc::{AllocError, Global};
-use std::borrow::CowStr;
+use std::borrow::{CowSlice, CowStr};
 use std::marker::Model;
 
 /// MySQL's table map event: a table's name and columns. The rows events after it refer to it by its
@@ -30,8 +33,8 @@ pub struct TableMapEvent<'a> {
 }
 
 impl<'a> Model for TableMapEvent<'a> {
-    ghost use Rattle.std.specs.Prelude.{◌≡◌, ◌≤◌, ◌*◌, length};
     ghost use Rattle.binlog_table.specs.TableMap.{TableMap};
+    ghost use Rattle.binlog_table.specs.TableMapWritten.{IsTableMap};
 
     ghost Value = { TableMap };
 
@@ -47,7 +50,17 @@ impl<'a> Model for TableMapEvent<'a> {
       optional_metadata = t.optional_metadata;
     } };
 
-    ghost invariant = { λ t. (t.columns_count ≡ length t.columns_type) × (t.columns_count ≤ 8 * length t.null_bitmask) };
+    ghost invariant = { λ t. IsTableMap (record {
+      table_id = t.table_id;
+      flags = t.flags;
+      database = t.database_name;
+      table = t.table_name;
+      columns_count = t.columns_count;
+      types = t.columns_type;
+      metadata = t.columns_metadata;
+      null_bits = t.null_bitmask;
+      optional_metadata = t.optional_metadata;
+    }) };
 
     ghost inverse = { λ t. record {
       table_id = t.table_id;
@@ -63,7 +76,8 @@ impl<'a> Model for TableMapEvent<'a> {
 }
 
 impl<'a> TableMapEvent<'a> {
-    ghost use Rattle.std.specs.Prelude.{◌≡◌, ◌↔◌, ℕ, List, Some, IfOk, slice_get};
+    ghost use Rattle.std.specs.Prelude.{◌≡◌, ◌≤◌, ◌↔◌, ℕ, List, Some, IfOk, length, slice_get};
+    ghost use Rattle.binlog_base.specs.Strings.{u8_string};
     ghost use Rattle.std.specs.Option.{option_map};
     ghost use Rattle.std.specs.Cow.{cow_str_bytes};
     ghost use Rattle.std.specs.Str.Lossy.{utf8_lossy};
@@ -71,19 +85,31 @@ impl<'a> TableMapEvent<'a> {
     ghost use Rattle.binlog_base.specs.Bits.{bits_of};
     ghost use Rattle.binlog_base.specs.Format.{Parses};
     ghost use Rattle.binlog_table.specs.TableMap.{table_map};
+    ghost use Rattle.binlog_table.specs.Extracted.{fields_of};
     ghost use Rattle.binlog_table.specs.Chunks.{chunk_at, HasChunk};
     ghost use Rattle.binlog_table.specs.ColumnTypes.{raw_type_of, real_type_of, column_type_at, json_count};
+
+    // Reads a name after its length in one byte.
+    #[tactic(auto, unfolding(binlog_base::specs::Strings::u8_string))]
+    fn read_name(buf: &mut ParseBuf<'a>) -> Result<RawBytes<'a, U8Bytes>, Fault>
+        ensures parses { Parses u8_string result buf.old.0.now buf.new.0.now }
+        ensures fits { IfOk result (λ name. length name ≤ 255) }
+    {
+        let len = U8::deserialize(buf)?;
+        let name = buf.eat(usize::from(len))?;
+        Ok(RawBytes::new(CowSlice::Borrowed(name)))
+    }
 
     // Reads all parts of the event, one after the other.
     #[tactic(auto, unfolding(crate::specs::TableMap::table_map))]
     fn read(post_header_len: u8, buf: &mut ParseBuf<'a>) -> Result<Self, Fault>
         ensures { Parses (table_map post_header_len) result buf.old.0.now buf.new.0.now }
     {
-        let table_id = buf.parse(post_header_len)?;
+        let table_id = TableId::deserialize(post_header_len, buf)?;
         let flags = LeU16::deserialize(buf)?;
-        let database_name = buf.parse(())?;
+        let database_name = TableMapEvent::read_name(buf)?;
         buf.parse::<Skip<1>>(())?;
-        let table_name = buf.parse(())?;
+        let table_name = TableMapEvent::read_name(buf)?;
         buf.parse::<Skip<1>>(())?;
         let columns_count = <LenEnc as IntRepr>::deserialize(buf)?;
         let columns_type = buf.parse(columns_count as usize)?;
@@ -176,6 +202,23 @@ impl<'a> TableMapEvent<'a> {
         ensures { result.now ≡ self.now.optional_metadata }
     {
         self.optional_metadata.as_bytes()
+    }
+
+    /// Returns the fields and faults of the optional metadata, in order.
+    pub fn iter_optional_meta(&self) -> OptionalMetadataIter<'_>
+        ensures { result ≡ fields_of self.now }
+    {
+        let numeric = self
+            .columns_type
+            .as_bytes()
+            .iter()
+            .filter(|raw| is_numeric(**raw))
+            .count();
+        OptionalMetadataIter::new(
+            numeric,
+            self.columns_count as usize,
+            self.optional_metadata.as_bytes(),
+        )
     }
 
     /// Returns the raw type of column `index`, counted from 0: the type that its type byte gives.

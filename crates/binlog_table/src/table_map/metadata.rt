@@ -5,6 +5,7 @@ ghost use Rattle.binlog_base.specs.Format.{ParsesAs};
 ghost use Rattle.binlog_table.specs.Chunks.{metadata_len, inner_metadata, array_chunk, chunk, chunk_at};
 ghost use Rattle.binlog_table.specs.ColumnTypes.{string_type, real_type};
 ghost use Rattle.binlog_base.specs.ColumnTypes.{column_type_of};
+ghost use Rattle.binlog_table.specs.Fields.{is_numeric_number};
 
 use super::bad_column_type::BadColumnType;
 use binlog_base::below::{ColumnType, Constant, IntRepr, ParseBuf, U8};
@@ -119,5 +120,16 @@ pub(super) fn real_type(
         ColumnType::MYSQL_TYPE_DATE => Ok(ColumnType::MYSQL_TYPE_NEWDATE),
         ColumnType::MYSQL_TYPE_STRING => string_type(chunk),
         _ => Ok(raw_type),
+    }
+}
+
+/// Whether a raw type is known and numeric.
+#[tactic(auto, unfolding(crate::specs::Fields::is_numeric_number))]
+pub(super) fn is_numeric(raw: u8) -> bool
+    ensures { result ≡ is_numeric_number raw }
+{
+    match ColumnType::from_number(raw) {
+        Ok(column_type) => column_type.is_numeric_type(),
+        Err(_) => false,
     }
 }

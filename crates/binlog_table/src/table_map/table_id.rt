@@ -1,6 +1,7 @@
 //! The id of a table in table map events and rows events.
 
-ghost use Rattle.std.specs.Prelude.{◌≡◌, ℕ, ◌<◌, ◌^◌};
+ghost use Rattle.std.specs.Prelude.{◌≡◌, ℕ, ◌<◌, ◌^◌, IfOk};
+ghost use Rattle.binlog_base.specs.Format.{Parses};
 ghost use Rattle.binlog_base.specs.Endian.{little_bytes};
 ghost use Rattle.binlog_table.specs.TableMap.{table_id};
 ghost use Rattle.binlog_table.specs.Lemmas.TableMap.{exact_table_id};
@@ -15,7 +16,7 @@ use std::marker::Model;
 /// It is read with the post-header length of the event that holds it: it takes 4 bytes where that
 /// length is 6, else 6 bytes, the lowest first. Reading fails with `UnexpectedEof` where fewer
 /// bytes are left. It is written in 6 bytes.
-#[derive(Debug, PartialEq, Eq, Drop)]
+#[derive(Clone, Copy, Debug, PartialEq, Eq)]
 pub struct TableId {
     id: u64,
 }
@@ -53,7 +54,10 @@ impl<'de> MyDeserialize<'de> for TableId {
     type Ctx = u8;
 
     #[tactic(auto, unfolding(crate::specs::TableMap::table_id))]
-    fn deserialize(post_header_len: u8, buf: &mut ParseBuf<'de>) -> Result<Self, Fault> {
+    fn deserialize(post_header_len: u8, buf: &mut ParseBuf<'de>) -> Result<Self, Fault>
+        ensures parses { Parses (table_id post_header_len) result buf.old.0.now buf.new.0.now }
+        ensures fits { IfOk result (λ id. id < 256 ^ 6) }
+    {
         let id = if post_header_len == 6 {
             u64::from(LeU32::deserialize(buf)?)
         } else {

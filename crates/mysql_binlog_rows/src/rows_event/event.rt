@@ -3,6 +3,8 @@
 ghost use Rattle.std.specs.Prelude.{◌≡◌};
 ghost use Rattle.mysql_binlog_rows.specs.RowsEvent.{has_before, has_after, bitmap_length};
 
+mod write;
+
 use binlog_base::below::{
     BareBytes, EofBytes, IntRepr, LeU16, LenEnc, MyDeserialize, ParseBuf, RawBytes, lenenc_int_len,
 };
@@ -42,9 +44,8 @@ pub struct RowsEvent<'a> {
 }
 
 impl<'a> Model for RowsEvent<'a> {
-    ghost use Rattle.std.specs.Prelude.{◌≤◌, ◌*◌, length};
-    ghost use Rattle.std.specs.Option.{ForSome};
     ghost use Rattle.mysql_binlog_rows.specs.RowsEvent as Spec;
+    ghost use Rattle.mysql_binlog_rows.specs.RowsEventWritten.{IsRowsEvent};
 
     ghost Value = { Spec.RowsEvent };
 
@@ -59,7 +60,16 @@ impl<'a> Model for RowsEvent<'a> {
       rows_data = e.rows_data;
     } };
 
-    ghost invariant = { λ e. (ForSome e.columns_before_image (λ b. e.num_columns ≤ 8 * length b)) × (ForSome e.columns_after_image (λ b. e.num_columns ≤ 8 * length b)) };
+    ghost invariant = { λ e. IsRowsEvent (record {
+      event_type = e.event_type;
+      table_id = e.table_id;
+      flags = e.flags;
+      extra_data = e.extra_data;
+      num_columns = e.num_columns;
+      before = e.columns_before_image;
+      after = e.columns_after_image;
+      rows_data = e.rows_data;
+    }) };
 
     ghost inverse = { λ e. record {
       event_type = e.event_type;
@@ -74,15 +84,15 @@ impl<'a> Model for RowsEvent<'a> {
 }
 
 impl<'a> RowsEvent<'a> {
-    ghost use Rattle.std.specs.Prelude.{false, IfOk, ◌≤◌, ◌*◌, length};
-    ghost use Rattle.std.specs.Option.{ForSome};
+    ghost use Rattle.std.specs.Prelude.{IfOk, ◌≤◌, [], length};
+    ghost use Rattle.std.specs.Option.{ForSome, is_some};
+    ghost use Rattle.binlog_base.specs.Bits.{bitmap_len};
     ghost use Rattle.std.specs.Int.RustNames.{bit_and};
     ghost use Rattle.bitflags.specs.Sets.{known_bits};
     ghost use Rattle.binlog_consts.specs.Flags.{rows_event_flags, rows_event_flags_of};
     ghost use Rattle.binlog_base.specs.Format.{Parses};
     ghost use Rattle.mysql_binlog_rows.specs.RowsEvent.{rows_event, extra_data, bitmap, image_columns, event_len};
     ghost use Rattle.binlog_base.specs.Format.{choice, no_bytes};
-    ghost use Rattle.std.specs.Prelude.{[]};
 
     // Reads the extra data: a length of two bytes, which counts these two bytes as well, and the
     // data. Reads nothing if there is no extra data.
@@ -91,7 +101,8 @@ impl<'a> RowsEvent<'a> {
         is_there: bool,
         buf: &mut ParseBuf<'a>,
     ) -> Result<RawBytes<'a, BareBytes<65533>>, Fault>
-        ensures { Parses (choice is_there extra_data (no_bytes [])) result buf.old.0.now buf.new.0.now }
+        ensures parses { Parses (choice is_there extra_data (no_bytes [])) result buf.old.0.now buf.new.0.now }
+        ensures fits { IfOk result (λ x. length x ≤ 65533) }
     {
         if !is_there {
             return buf.parse(0);
@@ -108,7 +119,8 @@ impl<'a> RowsEvent<'a> {
         buf: &mut ParseBuf<'a>,
     ) -> Result<Option<Bitmap<'a>>, Fault>
         ensures parses { Parses (bitmap is_there count) result buf.old.0.now buf.new.0.now }
-        ensures fits { IfOk result (λ b. ForSome b (λ x. count ≤ 8 * length x)) }
+        ensures there { IfOk result (λ b. is_some b ≡ is_there) }
+        ensures len { IfOk result (λ b. ForSome b (λ x. length x ≡ bitmap_len count)) }
     {
         if !is_there {
             return Ok(None);
@@ -121,7 +133,7 @@ impl<'a> RowsEvent<'a> {
     fn read(ctx: RowsEventCtx, buf: &mut ParseBuf<'a>) -> Result<Self, Fault>
         ensures { Parses (rows_event ctx) result buf.old.0.now buf.new.0.now }
     {
-        let table_id = buf.parse(ctx.post_header_len)?;
+        let table_id = TableId::deserialize(ctx.post_header_len, buf)?;
         let flags = LeU16::deserialize(buf)?;
         let has_extra_data = ctx.post_header_len == ctx.write_rows_post_header_len;
         let extra_data = RowsEvent::read_extra_data(has_extra_data, buf)?;

@@ -137,6 +137,23 @@ impl<'a, T: BytesRepr> RawBytes<'a, T> {
     }
 }
 
+impl<'a, T: BytesRepr> RawBytes<'a, T> {
+    /// Returns the same string, with bytes of its own.
+    pub fn clone(&self, alloc: Global) -> Result<Self, AllocError>
+        ensures { IfOk result (λ copy. copy ≡ self.now) }
+    {
+        let bytes = self.as_bytes().to_vec(alloc)?;
+        Ok(RawBytes::new(CowSlice::Owned(bytes)))
+    }
+}
+
+/// Writes the bytes at the end of the buffer; if memory can't be allocated, a prefix of them.
+pub fn write_bytes(bytes: &[u8], buf: &mut Vec<u8>) -> Result<(), AllocError>
+    ensures { Appends result buf.old.items buf.new.items bytes.now }
+{
+    buf.extend_from_slice(bytes)
+}
+
 impl<'a, T: BytesRepr> PartialEq for RawBytes<'a, T> {
     ghost eq = { pointwise ⟦<u8 as PartialEq>⟧.eq };
 

@@ -1,16 +1,10 @@
 //! Tests of the table map event.
 
-use crate::table_map::{BadColumnType, TableId, TableMapEvent};
+use super::two_columns;
 use binlog_base::below::{ColumnType, MySerialize, ParseBuf, UnknownColumnType};
 use binlog_base::fault::Fault;
+use binlog_table::table_map::{BadColumnType, TableId, TableMapEvent};
 use std::test::Fail;
-
-/// The table d.t of two columns, LONG and VARCHAR.
-fn two_columns() -> [u8; 21] {
-    [
-        1, 0, 0, 0, 0, 0, 1, 0, 1, 0x64, 0, 1, 0x74, 0, 2, 3, 0x0f, 2, 0x0a, 0, 2,
-    ]
-}
 
 /// The table d.t, with these bytes from the count of the columns on.
 fn with_columns(rt: &HostRuntime, columns: &[u8]) -> Result<Vec<u8>, Fail> {
@@ -31,13 +25,16 @@ fn is_refused(bytes: &[u8], fault: Fault) -> bool {
     }
 }
 
-/// Whether column `index` has this type and this metadata.
-fn is_column(
-    table: &TableMapEvent<'_>,
-    index: usize,
-    column_type: Result<Option<ColumnType>, BadColumnType>,
-    metadata: Option<&[u8]>,
-) -> bool {
+/// A column by its place, with its type and its metadata.
+type Column<'a> = (
+    usize,
+    Result<Option<ColumnType>, BadColumnType>,
+    Option<&'a [u8]>,
+);
+
+/// Whether the table has this column.
+fn is_column(table: &TableMapEvent<'_>, column: Column<'_>) -> bool {
+    let (index, column_type, metadata) = column;
     table.get_column_type(index) == column_type && table.get_column_metadata(index) == metadata
 }
 
@@ -92,16 +89,19 @@ fn readings_are_alike(rt: HostRuntime) {
 fn the_columns_of_a_table(rt: HostRuntime) -> Result<(), Fail> {
     let bytes = two_columns();
     let table = read(&bytes, 8)?;
-    assert!(rt; is_column(&table, 0, Ok(Some(ColumnType::MYSQL_TYPE_LONG)), Some(&[])));
-    assert!(rt;
-        is_column(
-            &table,
+    let long = Ok(Some(ColumnType::MYSQL_TYPE_LONG));
+    let columns: [Column<'_>; 3] = [
+        (0, long, Some(&[])),
+        (
             1,
             Ok(Some(ColumnType::MYSQL_TYPE_VARCHAR)),
-            Some(&[0x0a, 0])
-        )
-    );
-    assert!(rt; is_column(&table, 2, Ok(None), None));
+            Some(&[0x0a, 0]),
+        ),
+        (2, Ok(None), None),
+    ];
+    for column in columns {
+        assert!(rt; is_column(&table, column), "{column:?}");
+    }
     assert!(rt; table.get_raw_column_type(0) == Ok(Some(ColumnType::MYSQL_TYPE_LONG)));
     assert!(rt; table.get_raw_column_type(2) == Ok(None));
     assert_eq!(rt; table.database_name(rt.alloc())?.as_str(), "d");
@@ -160,53 +160,37 @@ fn nine_columns() -> [u8; 26] {
 }
 
 #[test]
-fn real_types(rt: HostRuntime) -> Result<(), Fail> {
+fn types_of_columns(rt: HostRuntime) -> Result<(), Fail> {
     let bytes = with_columns(&rt, &nine_columns())?;
     let table = read(bytes.as_slice(), 8)?;
-    assert!(rt;
-        is_column(
-            &table,
-            0,
-            Ok(Some(ColumnType::MYSQL_TYPE_ENUM)),
-            Some(&[0xf7, 1])
-        )
-    );
-    assert!(rt;
-        is_column(
-            &table,
+    let columns: [Column<'_>; 9] = [
+        (0, Ok(Some(ColumnType::MYSQL_TYPE_ENUM)), Some(&[0xf7, 1])),
+        (
             1,
             Ok(Some(ColumnType::MYSQL_TYPE_STRING)),
-            Some(&[0xfe, 0x0a])
-        )
-    );
-    assert!(rt;
-        is_column(
-            &table,
-            2,
-            Ok(Some(ColumnType::MYSQL_TYPE_STRING)),
-            Some(&[0xee, 4])
-        )
-    );
-    assert!(rt;
-        is_column(
-            &table,
-            3,
-            Err(BadColumnType::Unexpected(49)),
-            Some(&[0x11, 0])
-        )
-    );
-    assert!(rt;
-        is_column(
-            &table,
-            4,
-            Ok(Some(ColumnType::MYSQL_TYPE_NEWDATE)),
-            Some(&[])
-        )
-    );
+            Some(&[0xfe, 0x0a]),
+        ),
+        (2, Ok(Some(ColumnType::MYSQL_TYPE_STRING)), Some(&[0xee, 4])),
+        (3, Err(BadColumnType::Unexpected(49)), Some(&[0x11, 0])),
+        (4, Ok(Some(ColumnType::MYSQL_TYPE_NEWDATE)), Some(&[])),
+        (
+            5,
+            Ok(Some(ColumnType::MYSQL_TYPE_TYPED_ARRAY)),
+            Some(&[15, 1, 2, 3]),
+        ),
+        (6, Ok(Some(ColumnType::MYSQL_TYPE_TYPED_ARRAY)), Some(&[3])),
+        (7, Err(BadColumnType::Unknown(UnknownColumnType(244))), None),
+        (8, Ok(Some(ColumnType::MYSQL_TYPE_LONG)), None),
+    ];
+    for column in columns {
+        assert!(rt; is_column(&table, column), "{column:?}");
+    }
+    assert!(rt; Fault::from(BadColumnType::Unexpected(49)) == Fault::UnexpectedColumnType(49));
     Ok(())
 }
 
-/// Whether a walk over the chunks gives each column's own chunk and real type, and none after the last.
+/// Whether a walk over the chunks gives each column's own chunk and real type, and none after the
+/// last.
 fn walks_alike(table: &TableMapEvent<'_>, columns: usize) -> bool {
     let mut chunks = table.column_chunks();
     for index in 0..columns {
@@ -229,51 +213,12 @@ fn chunks_in_one_walk(rt: HostRuntime) -> Result<(), Fail> {
 }
 
 #[test]
-fn arrays_and_unknown_types(rt: HostRuntime) -> Result<(), Fail> {
-    let bytes = with_columns(&rt, &nine_columns())?;
-    let table = read(bytes.as_slice(), 8)?;
-    assert!(rt;
-        is_column(
-            &table,
-            5,
-            Ok(Some(ColumnType::MYSQL_TYPE_TYPED_ARRAY)),
-            Some(&[15, 1, 2, 3])
-        )
-    );
-    assert!(rt;
-        is_column(
-            &table,
-            6,
-            Ok(Some(ColumnType::MYSQL_TYPE_TYPED_ARRAY)),
-            Some(&[3])
-        )
-    );
-    assert!(rt;
-        is_column(
-            &table,
-            7,
-            Err(BadColumnType::Unknown(UnknownColumnType(244))),
-            None
-        )
-    );
-    assert!(rt; is_column(&table, 8, Ok(Some(ColumnType::MYSQL_TYPE_LONG)), None));
-    assert!(rt; Fault::from(BadColumnType::Unexpected(49)) == Fault::UnexpectedColumnType(49));
-    Ok(())
-}
-
-#[test]
 fn strings_that_stay_strings(rt: HostRuntime) -> Result<(), Fail> {
     // The first metadata byte is 0; the second column has no chunk.
     let bytes = with_columns(&rt, &[2, 254, 254, 2, 0, 5, 0])?;
     let table = read(bytes.as_slice(), 8)?;
-    assert!(rt;
-        is_column(
-            &table,
-            0,
-            Ok(Some(ColumnType::MYSQL_TYPE_STRING)),
-            Some(&[0, 5])
-        )
-    );
-    assert!(rt; is_column(&table, 1, Ok(Some(ColumnType::MYSQL_TYPE_STRING)), None));
+    let string = Ok(Some(ColumnType::MYSQL_TYPE_STRING));
+    assert!(rt; is_column(&table, (0, string, Some(&[0, 5]))));
+    assert!(rt; is_column(&table, (1, string, None)));
     Ok(())
 }

@@ -1,0 +1,48 @@
+-- The character sets that are left, as the columns of a group are taken in order.
+use Rattle.std.specs.Prelude.{◌≡◌, ℕ, suc, ◌+◌, ◌-◌, ◌==◌, nat_lt, List, [], ◌∷◌, Option, Some, None, Result, Ok, Err, if◌then◌else◌}
+use Rattle.binlog_base.specs.declared.fault.Fault.{Fault}
+use Rattle.binlog_table.specs.Charsets.{after, charsets, zero_without}
+
+-- the character set of the column of place i, by the pairs and the list that are left after the
+-- columns below low
+abbrev pub charset_from : ℕ → Option ℕ → List (Result (ℕ × ℕ) Fault) → List (Result ℕ Fault) → ℕ → Result (Option ℕ) Fault
+charset_from low default [] list i = after None default list (i - low)
+charset_from low default (Err e ∷ ps) list i = after (Some e) default list (i - low)
+charset_from low default (Ok p ∷ ps) list i =
+    if nat_lt p.0 low then Ok default else
+    (if i == p.0 then Ok (Some p.1) else
+    (if nat_lt i p.0 then Ok default else charset_from (suc p.0) default ps list i))
+
+unfoldable pub charsets_left : ℕ → ℕ → Option ℕ → List (Result (ℕ × ℕ) Fault) → List (Result ℕ Fault) → List (Result ℕ Fault)
+charsets_left limit low default pairs list = charsets (charset_from low default pairs list) (limit - low) low
+
+-- a pair taken beforehand, and those after it
+abbrev pub with_head : {A : Type 0} → Option A → List A → List A
+with_head None xs = xs
+with_head (Some x) xs = x ∷ xs
+
+abbrev pub NoneLeft : {A B : Type 0} → Option A → List B → Type 0
+NoneLeft None xs = xs ≡ []
+NoneLeft (Some x) xs = Unit {0}
+
+-- what is left of a group: the place of the next column, the default, the pairs and the list that
+-- are left, how many items were taken of the two, and how many bytes of them are left
+pub record CharsetsLeft : Type 0 where
+  pub ordinal : ℕ
+  pub default : Option ℕ
+  pub pairs : List (Result (ℕ × ℕ) Fault)
+  pub list : List (Result ℕ Fault)
+  pub taken : ℕ
+  pub room : ℕ
+
+-- the character set of the column of place i
+abbrev pub charset_of : CharsetsLeft → ℕ → Result (Option ℕ) Fault
+charset_of c i = charset_from c.ordinal c.default c.pairs c.list i
+
+-- the same k columns after the next one, in a row
+abbrev pub row_charset : CharsetsLeft → ℕ → Result ℕ Fault
+row_charset c k = zero_without (charset_of c (c.ordinal + k))
+
+-- the character sets of the columns that are left
+abbrev pub charsets_of : ℕ → CharsetsLeft → List (Result ℕ Fault)
+charsets_of limit c = charsets_left limit c.ordinal c.default c.pairs c.list

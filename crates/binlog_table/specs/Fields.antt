@@ -1,0 +1,140 @@
+-- Optional metadata: its fields, and which of them are kept.
+use Rattle.std.specs.Prelude.{◌≡◌, ℕ, Bool, false, List, [], ◌∷◌, map, count_by, Result, Ok, Err, Option, Some, None}
+use Rattle.binlog_base.specs.declared.fault.Fault.{Fault}
+use Rattle.binlog_base.specs.declared.fault.Fault.TheVariants.{BytesRemaining, UnknownOptionalField}
+use Rattle.binlog_base.specs.declared.below.columns.column_type.ColumnType.{ColumnType}
+use Rattle.binlog_base.specs.declared.bits.BitOrder.TheVariants.{MostSignificantFirst}
+use Rattle.binlog_base.specs.Format.{◌>>=◌}
+use Rattle.binlog_base.specs.Bits.{bit_list}
+use Rattle.binlog_base.specs.Tables.{from_table}
+use Rattle.binlog_base.specs.Items.{AreItems, items}
+use Rattle.binlog_base.specs.ColumnTypes.{column_type_of, is_numeric}
+use Rattle.binlog_consts.specs.OptionalMetadata.{optional_metadata_field_types}
+use Rattle.binlog_consts.specs.declared.consts.optional_metadata.OptionalMetadataFieldType.{OptionalMetadataFieldType}
+use Rattle.binlog_consts.specs.declared.consts.optional_metadata.OptionalMetadataFieldType.TheVariants as kind
+use Rattle.binlog_table.specs.declared.table_map.optional.fields.OptionalMetadataField.{OptionalMetadataField}
+use Rattle.binlog_table.specs.declared.table_map.optional.fields.OptionalMetadataField.TheVariants as field
+use Rattle.binlog_table.specs.Lists.{DefaultCharset, default_charset, RawField, raw_field, FieldsLeft}
+
+-- a value all of whose bytes were read
+abbrev pub whole : {A : Type 0} → Result (A × List ℕ) Fault → Result A Fault
+whole (Ok (a, [])) = Ok a
+whole (Ok (a, b ∷ left)) = Err BytesRemaining
+whole (Err e) = Err e
+
+-- one bit for each of so many columns, and nothing after them
+abbrev pub bits_for : ℕ → List ℕ → Result (List Bool) Fault
+bits_for count value = whole ((bit_list MostSignificantFirst count).parse value)
+
+-- a default character set and the pairs after it, to the end of the value
+abbrev pub default_charset_in : List ℕ → Result DefaultCharset Fault
+default_charset_in value = default_charset.parse value >>= λ r. Ok r.0
+
+-- the field of a kind with this value, for a table with so many numeric columns, and so many
+-- columns in all
+abbrev pub value_of : ℕ → ℕ → OptionalMetadataFieldType → List ℕ → Result OptionalMetadataField Fault
+value_of numeric columns kind.SIGNEDNESS value = bits_for numeric value >>= λ bits. Ok (field.Signedness bits)
+value_of numeric columns kind.DEFAULT_CHARSET value = default_charset_in value >>= λ d. Ok (field.DefaultCharset d)
+value_of numeric columns kind.COLUMN_CHARSET value = Ok (field.ColumnCharset value)
+value_of numeric columns kind.COLUMN_NAME value = Ok (field.ColumnName value)
+value_of numeric columns kind.SET_STR_VALUE value = Ok (field.SetStrValue value)
+value_of numeric columns kind.ENUM_STR_VALUE value = Ok (field.EnumStrValue value)
+value_of numeric columns kind.GEOMETRY_TYPE value = Ok (field.GeometryType value)
+value_of numeric columns kind.SIMPLE_PRIMARY_KEY value = Ok (field.SimplePrimaryKey value)
+value_of numeric columns kind.PRIMARY_KEY_WITH_PREFIX value = Ok (field.PrimaryKeyWithPrefix value)
+value_of numeric columns kind.ENUM_AND_SET_DEFAULT_CHARSET value = default_charset_in value >>= λ d. Ok (field.EnumAndSetDefaultCharset d)
+value_of numeric columns kind.ENUM_AND_SET_COLUMN_CHARSET value = Ok (field.EnumAndSetColumnCharset value)
+value_of numeric columns kind.COLUMN_VISIBILITY value = bits_for columns value >>= λ bits. Ok (field.ColumnVisibility bits)
+value_of numeric columns kind.VECTOR_DIMENSIONALITY value = Ok (field.Dimensionality value)
+
+unfoldable pub field_of : ℕ → ℕ → RawField → Result OptionalMetadataField Fault
+field_of numeric columns raw = from_table optional_metadata_field_types UnknownOptionalField raw.kind >>= λ k. value_of numeric columns k raw.value
+
+-- The fields and faults, in order. A field that is cut is the last item; a field of an unknown
+-- kind,
+-- or with a faulty value, is a fault in its place.
+abbrev pub fields : FieldsLeft → List (Result OptionalMetadataField Fault)
+fields f = map (λ r. r >>= field_of f.numeric f.columns) (items raw_field f.left.bytes)
+
+-- these are the fields and faults that the bytes hold
+abbrev pub AreFields : FieldsLeft → List (Result OptionalMetadataField Fault) → Type 0
+AreFields f found = (raw : List (Result RawField Fault)) × AreItems raw_field f.left.bytes raw × (found ≡ map (λ r. r >>= field_of f.numeric f.columns) raw)
+
+-- ---- the fields that are kept
+
+abbrev pub or_else : {A : Type 0} → Option A → Option A → Option A
+or_else (Some x) other = Some x
+or_else None other = other
+
+-- the last one of a kind
+abbrev pub last_of : {A : Type 0} → (OptionalMetadataField → Option A) → List OptionalMetadataField → Option A
+last_of of_kind [] = None
+last_of of_kind (f ∷ fs) = or_else (last_of of_kind fs) (of_kind f)
+
+abbrev pub signs_in : OptionalMetadataField → Option (List Bool)
+signs_in (field.Signedness bits) = Some bits
+signs_in _ = None
+
+abbrev pub default_in : OptionalMetadataField → Option DefaultCharset
+default_in (field.DefaultCharset d) = Some d
+default_in _ = None
+
+abbrev pub charsets_in : OptionalMetadataField → Option (List ℕ)
+charsets_in (field.ColumnCharset x) = Some x
+charsets_in _ = None
+
+abbrev pub names_in : OptionalMetadataField → Option (List ℕ)
+names_in (field.ColumnName x) = Some x
+names_in _ = None
+
+abbrev pub simple_in : OptionalMetadataField → Option (List ℕ)
+simple_in (field.SimplePrimaryKey x) = Some x
+simple_in _ = None
+
+abbrev pub prefixed_in : OptionalMetadataField → Option (List ℕ)
+prefixed_in (field.PrimaryKeyWithPrefix x) = Some x
+prefixed_in _ = None
+
+abbrev pub enum_default_in : OptionalMetadataField → Option DefaultCharset
+enum_default_in (field.EnumAndSetDefaultCharset d) = Some d
+enum_default_in _ = None
+
+abbrev pub enum_charsets_in : OptionalMetadataField → Option (List ℕ)
+enum_charsets_in (field.EnumAndSetColumnCharset x) = Some x
+enum_charsets_in _ = None
+
+-- the last field of each kind
+pub record Kept : Type 0 where
+  pub signs : Option (List Bool)
+  pub default : Option DefaultCharset
+  pub charsets : Option (List ℕ)
+  pub names : Option (List ℕ)
+  pub simple : Option (List ℕ)
+  pub prefixed : Option (List ℕ)
+  pub enum_default : Option DefaultCharset
+  pub enum_charsets : Option (List ℕ)
+
+abbrev pub kept : List OptionalMetadataField → Kept
+kept fs = record { signs = last_of signs_in fs; default = last_of default_in fs; charsets = last_of charsets_in fs; names = last_of names_in fs; simple = last_of simple_in fs; prefixed = last_of prefixed_in fs; enum_default = last_of enum_default_in fs; enum_charsets = last_of enum_charsets_in fs }
+
+-- the kept fields of a list, by those of its first part and of the rest
+abbrev pub kept_after : Kept → Kept → Kept
+kept_after prefix left = record { signs = or_else left.signs prefix.signs; default = or_else left.default prefix.default; charsets = or_else left.charsets prefix.charsets; names = or_else left.names prefix.names; simple = or_else left.simple prefix.simple; prefixed = or_else left.prefixed prefix.prefixed; enum_default = or_else left.enum_default prefix.enum_default; enum_charsets = or_else left.enum_charsets prefix.enum_charsets }
+
+-- what an extractor found: the kept fields, and how many fields there were
+pub record Extracted : Type 0 where
+  pub kept : Kept
+  pub fields : ℕ
+
+-- ---- the columns with a sign bit
+
+abbrev pub numeric_of : Result ColumnType Fault → Bool
+numeric_of (Ok type) = is_numeric type
+numeric_of (Err e) = false
+
+-- whether a raw type is known and numeric
+unfoldable pub is_numeric_number : ℕ → Bool
+is_numeric_number raw = numeric_of (column_type_of raw)
+
+abbrev pub numeric_count : List ℕ → ℕ
+numeric_count types = count_by is_numeric_number types

@@ -1,0 +1,47 @@
+//! Proved facts about table map events and optional metadata, each written as the contract of a
+//! function that does nothing.
+
+ghost use Rattle.std.specs.Prelude.{◌≡◌, ◌≢◌, ℕ, List, [], Option, Result, Ok};
+ghost use Rattle.std.specs.Option.{option_map};
+ghost use Rattle.binlog_base.specs.declared.fault.Fault.{Fault};
+ghost use Rattle.binlog_base.specs.Items.{items};
+ghost use Rattle.binlog_table.specs.declared.table_map.optional.fields.OptionalMetadataField.{OptionalMetadataField};
+ghost use Rattle.binlog_table.specs.Lists.{DefaultCharset, FieldsLeft, low_bits};
+ghost use Rattle.binlog_table.specs.Fields.{AreFields, fields};
+ghost use Rattle.binlog_table.specs.Keys.{IsLongestIncreasing, increasing_prefix};
+ghost use Rattle.binlog_table.specs.Charsets.{charset_items};
+ghost use Rattle.binlog_table.specs.CharsetsLeft.{CharsetsLeft, charsets_of};
+ghost use Rattle.binlog_table.specs.Extracted.{IsStart, pairs_or, list_or};
+ghost use Rattle.binlog_table.specs.TableMap.{TableMap, table_map};
+ghost use Rattle.binlog_table.specs.TableMapWritten.{IsTableMap, written_table_map};
+
+/// What is written of a table map event spells the event, and so is read as the same event, for each
+/// post-header length with a table id of six bytes.
+#[tactic(auto, using(crate::specs::Lemmas::TableMapWritten::written_table_map_spelled, crate::specs::Lemmas::TableMapWritten::written_table_map_reads_back))]
+pub fn written_table_maps_read_back()
+    ensures spelled { (t : TableMap) → IsTableMap t → (n : ℕ) → n ≢ 6
+        → (table_map n).spells (written_table_map t) t }
+    ensures reads_back { (t : TableMap) → IsTableMap t → (n : ℕ) → n ≢ 6
+        → (table_map n).parse (written_table_map t) ≡ Ok (t, []) }
+{}
+
+/// The fields and faults that are read of optional metadata are those that its bytes hold, and no
+/// others.
+pub fn fields_are_exact()
+    ensures are { (f : FieldsLeft) → AreFields f (fields f) }
+    ensures only { (f : FieldsLeft) (found : List (Result OptionalMetadataField Fault))
+        → AreFields f found → found ≡ fields f }
+{}
+
+/// `increasing_prefix` is the longest strictly increasing prefix of a list of numbers.
+pub fn prefixes_are_longest()
+    ensures { (numbers : List ℕ) → IsLongestIncreasing numbers (increasing_prefix numbers) }
+{}
+
+/// What an iterator over the character sets of a group begins with are the character sets of the
+/// columns of the group, in order.
+pub fn charsets_are_in_order()
+    ensures { (limit : ℕ) (d : Option DefaultCharset) (list : Option (List ℕ)) (c : CharsetsLeft) → IsStart d list c
+        → charsets_of limit c
+        ≡ charset_items limit (option_map (λ f. f.default) d) (pairs_or d) (items (low_bits 16) (list_or list)) }
+{}

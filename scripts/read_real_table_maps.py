@@ -480,7 +480,7 @@ fn extracted_of_line_{event.number}(rt: &impl Abort, table: &TableMapEvent<'_>) 
     let extracted = extracted.expect(rt, "line {event.number}: a fault among the fields");
 """
     conditions = {
-        "count of fields": f"extracted.fields() == {len(event.facts)}",
+        "count of fields": f"extracted.fields_count() == {len(event.facts)}",
         "signs": f"gives_bits(extracted.iter_signedness(), {literal(event.signs())})",
         "names": f"gives_names(extracted.iter_column_name(), {literal(event.names())})",
         "key": f"gives(extracted.iter_primary_key(), {literal(event.key())})",

@@ -4,7 +4,7 @@
 ghost use Rattle.std.specs.Prelude.{◌≡◌, ◌≢◌, ℕ, List, [], Option, Result, Ok};
 ghost use Rattle.std.specs.Option.{option_map};
 ghost use Rattle.binlog_base.specs.declared.fault.Fault.{Fault};
-ghost use Rattle.binlog_base.specs.Items.{items};
+ghost use Rattle.binlog_base.specs.Items.{items, AreItems};
 ghost use Rattle.binlog_table.specs.declared.table_map.optional.fields.OptionalMetadataField.{OptionalMetadataField};
 ghost use Rattle.binlog_table.specs.Lists.{DefaultCharset, FieldsLeft, low_bits};
 ghost use Rattle.binlog_table.specs.Fields.{AreFields, fields};
@@ -15,6 +15,8 @@ ghost use Rattle.binlog_table.specs.Extracted.{IsStart, pairs_or, list_or};
 ghost use Rattle.binlog_table.specs.TableMap.{TableMap, table_map};
 ghost use Rattle.binlog_table.specs.TableMapWritten.{IsTableMap, written_table_map};
 
+use crate::table_map::optional::ListKind;
+
 /// What is written of a table map event spells the event, and so is read as the same event, for each
 /// post-header length with a table id of six bytes.
 #[tactic(auto, using(crate::specs::Lemmas::TableMapWritten::written_table_map_spelled, crate::specs::Lemmas::TableMapWritten::written_table_map_reads_back))]
@@ -23,6 +25,14 @@ pub fn written_table_maps_read_back()
         → (table_map n).spells (written_table_map t) t }
     ensures reads_back { (t : TableMap) → IsTableMap t → (n : ℕ) → n ≢ 6
         → (table_map n).parse (written_table_map t) ≡ Ok (t, []) }
+{}
+
+/// The items of a list are those that its bytes hold, up to the first fault, and no others.
+#[tactic(auto, using(binlog_base::specs::Lemmas::Items::items_are, binlog_base::specs::Lemmas::Items::items_only))]
+pub fn lists_are_exact<'a, K: ListKind<'a>>()
+    ensures are { (bytes : List ℕ) → AreItems K.format bytes (items K.format bytes) }
+    ensures only { (bytes : List ℕ) (found : List (Result K.Seen Fault))
+        → AreItems K.format bytes found → found ≡ items K.format bytes }
 {}
 
 /// The fields and faults that are read of optional metadata are those that its bytes hold, and no

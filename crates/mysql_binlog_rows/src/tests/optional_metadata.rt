@@ -43,7 +43,7 @@ fn has_fields(rt: &HostRuntime, metadata: &[u8], fields: &[Item<'_>]) -> Result<
 
 #[test]
 fn fields_and_faults(rt: HostRuntime) -> Result<(), Fail> {
-    let rows: [(&[u8], &[Item<'_>]); 7] = [
+    let rows: [(&[u8], &[Item<'_>]); 8] = [
         (
             &[1, 1, 0x80],
             &[Ok(OptionalMetadataField::Signedness(bits(&[0x80], 1)))],
@@ -64,6 +64,12 @@ fn fields_and_faults(rt: HostRuntime) -> Result<(), Fail> {
         (
             &[0x0e, 0, 4, 2, 1, 0x61],
             &[Err(Fault::UnknownOptionalField(14)), name_a()],
+        ),
+        (
+            &[5, 5, 2, 1, 0x61, 1, 0x62],
+            &[Ok(OptionalMetadataField::SetStrValue(ListOf::new(&[
+                2, 1, 0x61, 1, 0x62,
+            ])))],
         ),
         (
             &[5, 3, 0xfc, 0xff, 0xff],
@@ -206,7 +212,7 @@ fn keys_and_signs(rt: HostRuntime) -> Result<(), Fail> {
             &[Ok(ColumnName::new(CowSlice::Borrowed(b"a")))]
         )
     );
-    assert_eq!(rt; extracted.fields(), 4);
+    assert_eq!(rt; extracted.fields_count(), 4);
     assert!(rt; matches!(extract(2, &[1, 0]), Err(Fault::UnexpectedEof)));
     // Column 0 is in the list, but after column 2, so column 2 alone is a key column.
     let mut keys = extract(0, &[8, 2, 2, 0])?.iter_primary_key();

@@ -204,7 +204,11 @@ impl<'a> Model for IterCharset<'a> {
 impl<'a> IterCharset<'a> {
     /// Returns the character sets that a default, the columns with another, and a list with one for
     /// each column give.
-    pub fn new(default: Option<u16>, pairs: IterNonDefault<'a>, list: IterCharsets<'a>) -> Self
+    pub(super) fn new(
+        default: Option<u16>,
+        pairs: IterNonDefault<'a>,
+        list: IterCharsets<'a>,
+    ) -> Self
         ensures start { result.ordinal ≡ 0 }
         ensures default { result.default ≡ default }
         ensures pairs { result.pairs ≡ items (pair_with (low_bits 16)) pairs.entry.bytes }
@@ -266,10 +270,9 @@ impl<'a> IterCharset<'a> {
         }
     }
 
-    /// Returns the character set that the next column of the group has in a row: 0 where it has
-    /// none.
+    // Returns the character set that the next column of the group has in a row: 0 where it has none.
     #[tactic(auto, using(crate::proofs::CharsetByCharset::row_now, crate::proofs::CharsetByCharset::row_later))]
-    pub fn next_in_row(&mut self) -> Result<u16, Fault>
+    pub(crate) fn next_in_row(&mut self) -> Result<u16, Fault>
         requires { self.old.ordinal < u64.MAX }
         ensures now { result ≡ row_charset self.old 0 }
         ensures next { OnOk result (self.new.ordinal ≡ self.old.ordinal + 1) }

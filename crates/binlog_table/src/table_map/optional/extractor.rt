@@ -109,7 +109,7 @@ impl<'a> OptionalMetaExtractor<'a> {
     }
 
     /// Returns how many fields there were.
-    pub fn fields(&self) -> u64
+    pub fn fields_count(&self) -> u64
         ensures { result ≡ self.now.fields }
     {
         self.fields

@@ -139,7 +139,7 @@ fn first_of(simple: &mut IterIndexes<'_>, prefixed: &mut IterKeys<'_>) -> Option
 
 impl<'a> IterPrimaryKey<'a> {
     /// Returns the items of these two lists.
-    pub fn new(simple: IterIndexes<'a>, prefixed: IterKeys<'a>) -> Self
+    pub(super) fn new(simple: IterIndexes<'a>, prefixed: IterKeys<'a>) -> Self
         ensures keys { result.keys ≡ keys_left None
             (items lenenc simple.entry.bytes) (items (pair_with lenenc) prefixed.entry.bytes) }
         ensures spends { Spends

@@ -8,7 +8,8 @@ ghost use Rattle.binlog_base.specs.Items.{items, AreItems};
 ghost use Rattle.binlog_table.specs.declared.table_map.optional.fields.OptionalMetadataField.{OptionalMetadataField};
 ghost use Rattle.binlog_table.specs.Lists.{DefaultCharset, FieldsLeft, low_bits};
 ghost use Rattle.binlog_table.specs.Fields.{AreFields, fields};
-ghost use Rattle.binlog_table.specs.Keys.{IsLongestIncreasing, increasing_prefix};
+ghost use Rattle.binlog_table.specs.Keys.{IsLongestIncreasing, increasing_prefix, key_at};
+ghost use Rattle.binlog_table.specs.KeysLeft.{key_from};
 ghost use Rattle.binlog_table.specs.Charsets.{charset_items};
 ghost use Rattle.binlog_table.specs.CharsetsLeft.{CharsetsLeft, charsets_of};
 ghost use Rattle.binlog_table.specs.Extracted.{IsStart, pairs_or, list_or};
@@ -46,6 +47,12 @@ pub fn fields_are_exact()
 /// `increasing_prefix` is the longest strictly increasing prefix of a list of numbers.
 pub fn prefixes_are_longest()
     ensures { (numbers : List ℕ) → IsLongestIncreasing numbers (increasing_prefix numbers) }
+{}
+
+/// Columns that are asked for in order, from 0 on, are key columns exactly where the longest strictly
+/// increasing prefix of the key items says so, and have its fault.
+pub fn keys_are_in_order()
+    ensures { (keys : List (Result ℕ Fault)) (i : ℕ) → key_from 0 keys i ≡ key_at keys i }
 {}
 
 /// What an iterator over the character sets of a group begins with are the character sets of the

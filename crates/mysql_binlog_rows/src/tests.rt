@@ -11,7 +11,7 @@ use binlog_base::below::{Column, ColumnType, MySerialize, ParseBuf, Value};
 use binlog_base::fault::Fault;
 use binlog_consts::consts::{BinlogVersion, EventType, RowsEventFlags};
 use binlog_table::table_map::TableMapEvent;
-use std::alloc::Global;
+use std::alloc::{AllocError, Global};
 use std::rc::RcSlice;
 use std::test::Fail;
 
@@ -93,8 +93,14 @@ fn first_version(rt: HostRuntime) -> Result<(), Fail> {
     Ok(())
 }
 
-/// Whether an event that is read from these bytes is written as these other bytes, and its copies
-/// are equal to it.
+/// The bytes that are written for an event.
+fn written(rt: &HostRuntime, event: &RowsEvent<'_>) -> Result<Vec<u8>, AllocError> {
+    let mut buf = Vec::new(rt.alloc());
+    event.serialize(&mut buf)?;
+    Ok(buf)
+}
+
+/// Whether an event that is read from these bytes is written as these other bytes.
 fn is_written(
     rt: &HostRuntime,
     bytes: &[u8],
@@ -103,52 +109,49 @@ fn is_written(
     expected: &[u8],
 ) -> Result<bool, Fail> {
     let event = read(bytes, event_type, post_header_len)?;
-    let mut written = Vec::new(rt.alloc());
-    event.serialize(&mut written)?;
-    let copy = event.clone(rt.alloc())?;
-    Ok(written.as_slice() == expected && copy == event && copy == event.into_owned(rt.alloc())?)
+    Ok(written(rt, &event)?.as_slice() == expected)
 }
 
 #[test]
-fn written_events(rt: HostRuntime) -> Result<(), Fail> {
+fn an_event_of_the_first_version_is_written(rt: HostRuntime) -> Result<(), Fail> {
+    // The table id is written in six bytes.
+    let bytes = [1, 0, 0, 0, 1, 0, 2, 3, 3];
+    let expected = [1, 0, 0, 0, 0, 0, 1, 0, 2, 3, 3];
+    assert!(rt; is_written(&rt, &bytes, EventType::WRITE_ROWS_EVENT_V1, 6, &expected)?);
+    Ok(())
+}
+
+#[test]
+fn extra_data_is_written(rt: HostRuntime) -> Result<(), Fail> {
     let inserted = two_rows();
-    let rows: [(&[u8], EventType, u8, &[u8]); 4] = [
-        (&inserted, EventType::WRITE_ROWS_EVENT, 10, &inserted),
-        // The table id is written in six bytes.
-        (
-            &[1, 0, 0, 0, 1, 0, 2, 3, 3],
-            EventType::WRITE_ROWS_EVENT_V1,
-            6,
-            &[1, 0, 0, 0, 0, 0, 1, 0, 2, 3, 3],
-        ),
-        // A length of extra data below two is read as no extra data, and written as two.
-        (
-            &[1, 0, 0, 0, 0, 0, 1, 0, 0, 0, 1, 1],
-            EventType::WRITE_ROWS_EVENT,
-            10,
-            &[1, 0, 0, 0, 0, 0, 1, 0, 2, 0, 1, 1],
-        ),
-        (
-            &[1, 0, 0, 0, 0, 0, 1, 0, 1, 0, 1, 1],
-            EventType::WRITE_ROWS_EVENT,
-            10,
-            &[1, 0, 0, 0, 0, 0, 1, 0, 2, 0, 1, 1],
-        ),
-    ];
-    for (bytes, event_type, post_header_len, expected) in rows {
-        assert!(rt;
-            is_written(&rt, bytes, event_type, post_header_len, expected)?,
-            "{bytes:?}"
-        );
+    assert!(rt; is_written(&rt, &inserted, EventType::WRITE_ROWS_EVENT, 10, &inserted)?);
+    // A length of extra data below two is read as no extra data, and written as two.
+    let expected = [1, 0, 0, 0, 0, 0, 1, 0, 2, 0, 1, 1];
+    for len in 0..2 {
+        let bytes = [1, 0, 0, 0, 0, 0, 1, 0, len, 0, 1, 1];
+        assert!(rt; is_written(&rt, &bytes, EventType::WRITE_ROWS_EVENT, 10, &expected)?);
     }
-    let bytes = two_columns();
-    let table: TableMapEvent<'_> = ParseBuf(&bytes).parse(8)?;
-    let mut written = Vec::new(rt.alloc());
-    table.serialize(&mut written)?;
-    assert!(rt; written.as_slice() == bytes.as_slice());
-    let copy = table.clone(rt.alloc())?;
-    assert!(rt; copy == table);
-    assert!(rt; copy == table.into_owned(rt.alloc())?);
+    Ok(())
+}
+
+/// Whether a copy of an event is equal to it.
+fn is_copied(rt: &HostRuntime, event: &RowsEvent<'_>) -> Result<bool, AllocError> {
+    Ok(event.clone(rt.alloc())? == *event)
+}
+
+#[test]
+fn a_copy_of_an_event(rt: HostRuntime) -> Result<(), Fail> {
+    let bytes = two_rows();
+    let event = read(&bytes, EventType::WRITE_ROWS_EVENT, 10)?;
+    assert!(rt; is_copied(&rt, &event)?);
+    Ok(())
+}
+
+#[test]
+fn an_owned_event(rt: HostRuntime) -> Result<(), Fail> {
+    let bytes = two_rows();
+    let owned = read(&bytes, EventType::WRITE_ROWS_EVENT, 10)?.into_owned(rt.alloc())?;
+    assert!(rt; has_parts(&owned, 1, 2, &bytes[12..]));
     Ok(())
 }
 

@@ -4,6 +4,7 @@ use super::two_columns;
 use binlog_base::below::{ColumnType, MySerialize, ParseBuf, UnknownColumnType};
 use binlog_base::fault::Fault;
 use binlog_table::table_map::{BadColumnType, TableId, TableMapEvent};
+use std::alloc::AllocError;
 use std::test::Fail;
 
 /// The table d.t, with these bytes from the count of the columns on.
@@ -62,11 +63,11 @@ fn has_null_bits(table: &TableMapEvent<'_>, bits: &[bool]) -> bool {
             .all(|(i, bit)| null_bits.get(i) == Some(*bit))
 }
 
-/// Whether two readings of the bytes, with these post-header lengths, give the same event.
-fn read_alike(bytes: &[u8], one: u8, other: u8) -> bool {
-    match (read(bytes, one), read(bytes, other)) {
-        (Ok(one), Ok(other)) => one == other,
-        _ => false,
+/// Whether the bytes, with this post-header length, are read as this event.
+fn is_read_as<'a>(bytes: &'a [u8], post_header_len: u8, table: &TableMapEvent<'a>) -> bool {
+    match read(bytes, post_header_len) {
+        Ok(other) => other == *table,
+        Err(_) => false,
     }
 }
 
@@ -74,24 +75,37 @@ fn read_alike(bytes: &[u8], one: u8, other: u8) -> bool {
 fn a_table_of_two_columns(rt: HostRuntime) -> Result<(), Fail> {
     let bytes = two_columns();
     let table = read(&bytes, 8)?;
-    assert!(rt; is_table(&table, 1, b"d", b"t"));
-    assert!(rt; has_counts(&table, 2, 0));
-    assert!(rt; has_null_bits(&table, &[false, true]));
+    assert!(rt;
+        is_table(&table, 1, b"d", b"t")
+            && has_counts(&table, 2, 0)
+            && has_null_bits(&table, &[false, true])
+    );
     Ok(())
 }
 
 #[test]
-fn readings_are_alike(rt: HostRuntime) {
-    assert!(rt; read_alike(&two_columns(), 8, 10));
+fn readings_are_alike(rt: HostRuntime) -> Result<(), Fail> {
+    let bytes = two_columns();
+    let table = read(&bytes, 8)?;
+    assert!(rt; is_read_as(&bytes, 10, &table));
+    Ok(())
+}
+
+/// Whether the table has these columns.
+fn has_columns(table: &TableMapEvent<'_>, columns: &[Column<'_>]) -> bool {
+    columns.iter().all(|column| is_column(table, *column))
+}
+
+/// Whether the raw types are LONG, and none past the last column.
+fn has_raw_types(table: &TableMapEvent<'_>) -> bool {
+    table.get_raw_column_type(0) == Ok(Some(ColumnType::MYSQL_TYPE_LONG))
+        && table.get_raw_column_type(2) == Ok(None)
 }
 
 #[test]
 fn the_columns_of_a_table(rt: HostRuntime) -> Result<(), Fail> {
-    let bytes = two_columns();
-    let table = read(&bytes, 8)?;
-    let long = Ok(Some(ColumnType::MYSQL_TYPE_LONG));
     let columns: [Column<'_>; 3] = [
-        (0, long, Some(&[])),
+        (0, Ok(Some(ColumnType::MYSQL_TYPE_LONG)), Some(&[])),
         (
             1,
             Ok(Some(ColumnType::MYSQL_TYPE_VARCHAR)),
@@ -99,13 +113,30 @@ fn the_columns_of_a_table(rt: HostRuntime) -> Result<(), Fail> {
         ),
         (2, Ok(None), None),
     ];
-    for column in columns {
-        assert!(rt; is_column(&table, column), "{column:?}");
-    }
-    assert!(rt; table.get_raw_column_type(0) == Ok(Some(ColumnType::MYSQL_TYPE_LONG)));
-    assert!(rt; table.get_raw_column_type(2) == Ok(None));
-    assert_eq!(rt; table.database_name(rt.alloc())?.as_str(), "d");
-    assert_eq!(rt; table.table_name(rt.alloc())?.as_str(), "t");
+    let bytes = two_columns();
+    let table = read(&bytes, 8)?;
+    assert!(rt; has_columns(&table, &columns) && has_raw_types(&table));
+    Ok(())
+}
+
+/// Whether these are the texts of the names.
+fn has_texts(
+    rt: &HostRuntime,
+    table: &TableMapEvent<'_>,
+    database: &str,
+    name: &str,
+) -> Result<bool, AllocError> {
+    Ok(
+        table.database_name(rt.alloc())?.as_str() == database
+            && table.table_name(rt.alloc())?.as_str() == name,
+    )
+}
+
+#[test]
+fn names_of_a_table(rt: HostRuntime) -> Result<(), Fail> {
+    let bytes = two_columns();
+    let table = read(&bytes, 8)?;
+    assert!(rt; has_texts(&rt, &table, "d", "t")?);
     Ok(())
 }
 
@@ -161,8 +192,6 @@ fn nine_columns() -> [u8; 26] {
 
 #[test]
 fn types_of_columns(rt: HostRuntime) -> Result<(), Fail> {
-    let bytes = with_columns(&rt, &nine_columns())?;
-    let table = read(bytes.as_slice(), 8)?;
     let columns: [Column<'_>; 9] = [
         (0, Ok(Some(ColumnType::MYSQL_TYPE_ENUM)), Some(&[0xf7, 1])),
         (
@@ -182,11 +211,15 @@ fn types_of_columns(rt: HostRuntime) -> Result<(), Fail> {
         (7, Err(BadColumnType::Unknown(UnknownColumnType(244))), None),
         (8, Ok(Some(ColumnType::MYSQL_TYPE_LONG)), None),
     ];
-    for column in columns {
-        assert!(rt; is_column(&table, column), "{column:?}");
-    }
-    assert!(rt; Fault::from(BadColumnType::Unexpected(49)) == Fault::UnexpectedColumnType(49));
+    let bytes = with_columns(&rt, &nine_columns())?;
+    let table = read(bytes.as_slice(), 8)?;
+    assert!(rt; has_columns(&table, &columns));
     Ok(())
+}
+
+#[test]
+fn faults_of_types(rt: HostRuntime) {
+    assert!(rt; Fault::from(BadColumnType::Unexpected(49)) == Fault::UnexpectedColumnType(49));
 }
 
 /// Whether a walk over the chunks gives each column's own chunk and real type, and none after the
@@ -215,10 +248,46 @@ fn chunks_in_one_walk(rt: HostRuntime) -> Result<(), Fail> {
 #[test]
 fn strings_that_stay_strings(rt: HostRuntime) -> Result<(), Fail> {
     // The first metadata byte is 0; the second column has no chunk.
+    let string = Ok(Some(ColumnType::MYSQL_TYPE_STRING));
+    let columns: [Column<'_>; 2] = [(0, string, Some(&[0, 5])), (1, string, None)];
     let bytes = with_columns(&rt, &[2, 254, 254, 2, 0, 5, 0])?;
     let table = read(bytes.as_slice(), 8)?;
-    let string = Ok(Some(ColumnType::MYSQL_TYPE_STRING));
-    assert!(rt; is_column(&table, (0, string, Some(&[0, 5]))));
-    assert!(rt; is_column(&table, (1, string, None)));
+    assert!(rt; has_columns(&table, &columns));
+    Ok(())
+}
+
+/// The bytes that are written for a table.
+fn written(rt: &HostRuntime, table: &TableMapEvent<'_>) -> Result<Vec<u8>, AllocError> {
+    let mut buf = Vec::new(rt.alloc());
+    table.serialize(&mut buf)?;
+    Ok(buf)
+}
+
+#[test]
+fn a_table_is_written(rt: HostRuntime) -> Result<(), Fail> {
+    let bytes = two_columns();
+    let table = read(&bytes, 8)?;
+    assert!(rt; written(&rt, &table)?.as_slice() == bytes.as_slice());
+    Ok(())
+}
+
+/// Whether a copy of a table is equal to it.
+fn is_copied(rt: &HostRuntime, table: &TableMapEvent<'_>) -> Result<bool, AllocError> {
+    Ok(table.clone(rt.alloc())? == *table)
+}
+
+#[test]
+fn a_copy_of_a_table(rt: HostRuntime) -> Result<(), Fail> {
+    let bytes = two_columns();
+    let table = read(&bytes, 8)?;
+    assert!(rt; is_copied(&rt, &table)?);
+    Ok(())
+}
+
+#[test]
+fn an_owned_table(rt: HostRuntime) -> Result<(), Fail> {
+    let bytes = two_columns();
+    let owned = read(&bytes, 8)?.into_owned(rt.alloc())?;
+    assert!(rt; is_table(&owned, 1, b"d", b"t"));
     Ok(())
 }

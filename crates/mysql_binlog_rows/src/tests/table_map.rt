@@ -91,31 +91,25 @@ fn readings_are_alike(rt: HostRuntime) -> Result<(), Fail> {
     Ok(())
 }
 
-/// Whether the table has these columns.
-fn has_columns(table: &TableMapEvent<'_>, columns: &[Column<'_>]) -> bool {
-    columns.iter().all(|column| is_column(table, *column))
-}
-
 /// Whether the raw types are LONG, and none past the last column.
 fn has_raw_types(table: &TableMapEvent<'_>) -> bool {
     table.get_raw_column_type(0) == Ok(Some(ColumnType::MYSQL_TYPE_LONG))
         && table.get_raw_column_type(2) == Ok(None)
 }
 
+/// Whether these are the columns LONG and VARCHAR, and none after them.
+fn has_two_columns(table: &TableMapEvent<'_>) -> bool {
+    let varchar = Ok(Some(ColumnType::MYSQL_TYPE_VARCHAR));
+    is_column(table, (0, Ok(Some(ColumnType::MYSQL_TYPE_LONG)), Some(&[])))
+        && is_column(table, (1, varchar, Some(&[0x0a, 0])))
+        && is_column(table, (2, Ok(None), None))
+}
+
 #[test]
 fn the_columns_of_a_table(rt: HostRuntime) -> Result<(), Fail> {
-    let columns: [Column<'_>; 3] = [
-        (0, Ok(Some(ColumnType::MYSQL_TYPE_LONG)), Some(&[])),
-        (
-            1,
-            Ok(Some(ColumnType::MYSQL_TYPE_VARCHAR)),
-            Some(&[0x0a, 0]),
-        ),
-        (2, Ok(None), None),
-    ];
     let bytes = two_columns();
     let table = read(&bytes, 8)?;
-    assert!(rt; has_columns(&table, &columns) && has_raw_types(&table));
+    assert!(rt; has_two_columns(&table) && has_raw_types(&table));
     Ok(())
 }
 
@@ -190,30 +184,37 @@ fn nine_columns() -> [u8; 26] {
     ]
 }
 
+/// Whether the first five of the nine columns have their types.
+fn has_strings_and_date(table: &TableMapEvent<'_>) -> bool {
+    let string = Ok(Some(ColumnType::MYSQL_TYPE_STRING));
+    let date = Ok(Some(ColumnType::MYSQL_TYPE_NEWDATE));
+    is_column(
+        table,
+        (0, Ok(Some(ColumnType::MYSQL_TYPE_ENUM)), Some(&[0xf7, 1])),
+    ) && is_column(table, (1, string, Some(&[0xfe, 0x0a])))
+        && is_column(table, (2, string, Some(&[0xee, 4])))
+        && is_column(
+            table,
+            (3, Err(BadColumnType::Unexpected(49)), Some(&[0x11, 0])),
+        )
+        && is_column(table, (4, date, Some(&[])))
+}
+
+/// Whether the last four of the nine columns have their types.
+fn has_arrays_and_unknown(table: &TableMapEvent<'_>) -> bool {
+    let array = Ok(Some(ColumnType::MYSQL_TYPE_TYPED_ARRAY));
+    let unknown = Err(BadColumnType::Unknown(UnknownColumnType(244)));
+    is_column(table, (5, array, Some(&[15, 1, 2, 3])))
+        && is_column(table, (6, array, Some(&[3])))
+        && is_column(table, (7, unknown, None))
+        && is_column(table, (8, Ok(Some(ColumnType::MYSQL_TYPE_LONG)), None))
+}
+
 #[test]
 fn types_of_columns(rt: HostRuntime) -> Result<(), Fail> {
-    let columns: [Column<'_>; 9] = [
-        (0, Ok(Some(ColumnType::MYSQL_TYPE_ENUM)), Some(&[0xf7, 1])),
-        (
-            1,
-            Ok(Some(ColumnType::MYSQL_TYPE_STRING)),
-            Some(&[0xfe, 0x0a]),
-        ),
-        (2, Ok(Some(ColumnType::MYSQL_TYPE_STRING)), Some(&[0xee, 4])),
-        (3, Err(BadColumnType::Unexpected(49)), Some(&[0x11, 0])),
-        (4, Ok(Some(ColumnType::MYSQL_TYPE_NEWDATE)), Some(&[])),
-        (
-            5,
-            Ok(Some(ColumnType::MYSQL_TYPE_TYPED_ARRAY)),
-            Some(&[15, 1, 2, 3]),
-        ),
-        (6, Ok(Some(ColumnType::MYSQL_TYPE_TYPED_ARRAY)), Some(&[3])),
-        (7, Err(BadColumnType::Unknown(UnknownColumnType(244))), None),
-        (8, Ok(Some(ColumnType::MYSQL_TYPE_LONG)), None),
-    ];
     let bytes = with_columns(&rt, &nine_columns())?;
     let table = read(bytes.as_slice(), 8)?;
-    assert!(rt; has_columns(&table, &columns));
+    assert!(rt; has_strings_and_date(&table) && has_arrays_and_unknown(&table));
     Ok(())
 }
 
@@ -245,14 +246,18 @@ fn chunks_in_one_walk(rt: HostRuntime) -> Result<(), Fail> {
     Ok(())
 }
 
+/// Whether both columns are STRING, the second without a chunk.
+fn has_two_strings(table: &TableMapEvent<'_>) -> bool {
+    let string = Ok(Some(ColumnType::MYSQL_TYPE_STRING));
+    is_column(table, (0, string, Some(&[0, 5]))) && is_column(table, (1, string, None))
+}
+
 #[test]
 fn strings_that_stay_strings(rt: HostRuntime) -> Result<(), Fail> {
     // The first metadata byte is 0; the second column has no chunk.
-    let string = Ok(Some(ColumnType::MYSQL_TYPE_STRING));
-    let columns: [Column<'_>; 2] = [(0, string, Some(&[0, 5])), (1, string, None)];
     let bytes = with_columns(&rt, &[2, 254, 254, 2, 0, 5, 0])?;
     let table = read(bytes.as_slice(), 8)?;
-    assert!(rt; has_columns(&table, &columns));
+    assert!(rt; has_two_strings(&table));
     Ok(())
 }
 

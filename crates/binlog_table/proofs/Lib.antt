@@ -4,3 +4,5 @@ pub mod Arrays
 pub mod KeyByKey
 pub mod Strings
 pub mod CharsetByCharset
+pub mod ColumnWalk
+pub mod Bounds

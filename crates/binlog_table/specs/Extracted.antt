@@ -1,8 +1,8 @@
 -- What is kept of the optional metadata of a table.
-use Rattle.std.specs.Prelude.{◌≡◌, ℕ, List, [], Result, Option, Some, None}
+use Rattle.std.specs.Prelude.{◌≡◌, ℕ, ◌+◌, List, [], length, Result, Option, Some, None}
 use Rattle.std.specs.Option.{option_map}
 use Rattle.binlog_base.specs.declared.fault.Fault.{Fault}
-use Rattle.binlog_base.specs.Items.{items, before_fault}
+use Rattle.binlog_base.specs.Items.{items, before_fault, first_fault}
 use Rattle.binlog_table.specs.TableMap.{TableMap}
 use Rattle.binlog_table.specs.Lists.{DefaultCharset, FieldsLeft, low_bits, pair_with}
 use Rattle.binlog_table.specs.Fields.{Kept, kept, fields, numeric_count}
@@ -20,6 +20,10 @@ abbrev pub pair_bytes : Option DefaultCharset → List ℕ
 pair_bytes None = []
 pair_bytes (Some d) = d.pairs
 
+-- how many bytes the kept lists have
+abbrev pub kept_bytes : Kept → ℕ
+kept_bytes k = length (list_or k.names) + length (list_or k.simple) + length (list_or k.prefixed) + length (pair_bytes k.default) + length (list_or k.charsets) + length (pair_bytes k.enum_default) + length (list_or k.enum_charsets)
+
 -- what is left of the charsets of a group when none was taken
 pub record IsStart (d : Option DefaultCharset) (ns : Option (List ℕ)) (c : CharsetsLeft) : Type 0 where
   pub ordinal : c.ordinal ≡ 0
@@ -34,3 +38,7 @@ fields_of t = record { numeric = numeric_count t.types; columns = t.columns_coun
 
 abbrev pub kept_of : TableMap → Kept
 kept_of t = kept (before_fault (fields (fields_of t)))
+
+-- the fault of the first faulty field of the optional metadata
+abbrev pub field_fault : TableMap → Option Fault
+field_fault t = first_fault (fields (fields_of t))

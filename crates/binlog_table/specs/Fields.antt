@@ -121,11 +121,6 @@ kept fs = record { signs = last_of signs_in fs; default = last_of default_in fs;
 abbrev pub kept_after : Kept → Kept → Kept
 kept_after prefix left = record { signs = or_else left.signs prefix.signs; default = or_else left.default prefix.default; charsets = or_else left.charsets prefix.charsets; names = or_else left.names prefix.names; simple = or_else left.simple prefix.simple; prefixed = or_else left.prefixed prefix.prefixed; enum_default = or_else left.enum_default prefix.enum_default; enum_charsets = or_else left.enum_charsets prefix.enum_charsets }
 
--- what an extractor found: the kept fields, and how many fields there were
-pub record Extracted : Type 0 where
-  pub kept : Kept
-  pub fields : ℕ
-
 -- ---- the columns with a sign bit
 
 abbrev pub numeric_of : Result ColumnType Fault → Bool

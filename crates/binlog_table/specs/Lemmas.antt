@@ -5,3 +5,4 @@ pub mod Chunks
 pub mod Lists
 pub mod Variants
 pub mod TableMapWritten
+pub mod TableColumns

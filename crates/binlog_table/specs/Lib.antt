@@ -11,4 +11,6 @@ pub mod KeysLeft
 pub mod Charsets
 pub mod CharsetsLeft
 pub mod Extracted
+pub mod TableColumns
+pub mod ColumnsLeft
 pub mod Lemmas

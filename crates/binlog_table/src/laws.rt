@@ -1,7 +1,7 @@
 //! Proved facts about table map events and optional metadata, each written as the contract of a
 //! function that does nothing.
 
-ghost use Rattle.std.specs.Prelude.{◌≡◌, ◌≢◌, ℕ, List, [], Option, Result, Ok};
+ghost use Rattle.std.specs.Prelude.{◌≡◌, ◌≢◌, ℕ, List, [], Option, Some, Result, Ok, slice_get};
 ghost use Rattle.std.specs.Option.{option_map};
 ghost use Rattle.binlog_base.specs.declared.fault.Fault.{Fault};
 ghost use Rattle.binlog_base.specs.Items.{items, AreItems};
@@ -13,6 +13,7 @@ ghost use Rattle.binlog_table.specs.KeysLeft.{key_from};
 ghost use Rattle.binlog_table.specs.Charsets.{charset_items};
 ghost use Rattle.binlog_table.specs.CharsetsLeft.{CharsetsLeft, charsets_of};
 ghost use Rattle.binlog_table.specs.Extracted.{IsStart, pairs_or, list_or};
+ghost use Rattle.binlog_table.specs.TableColumns.{Column, column_at, table_columns};
 ghost use Rattle.binlog_table.specs.TableMap.{TableMap, table_map};
 ghost use Rattle.binlog_table.specs.TableMapWritten.{IsTableMap, written_table_map};
 
@@ -61,4 +62,11 @@ pub fn charsets_are_in_order()
     ensures { (limit : ℕ) (d : Option DefaultCharset) (list : Option (List ℕ)) (c : CharsetsLeft) → IsStart d list c
         → charsets_of limit c
         ≡ charset_items limit (option_map (λ f. f.default) d) (pairs_or d) (items (low_bits 16) (list_or list)) }
+{}
+
+/// Each item of a walk over the columns of a table is the column at its place, or that column's
+/// fault.
+pub fn columns_are_in_place()
+    ensures { (t : TableMap) (i : ℕ) (x : Result Column Fault)
+        → slice_get (table_columns t) i ≡ Some x → x ≡ column_at t i }
 {}

@@ -2,6 +2,7 @@
 pub mod Covers
 pub mod Loop
 pub mod Plans
+pub mod PlanReads
 pub mod Pairs
 pub mod Runs
 pub mod Equality

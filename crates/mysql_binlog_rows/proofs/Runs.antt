@@ -9,8 +9,8 @@ use Rattle.binlog_table.specs.TableMap.{TableMap, table_map}
 use Rattle.binlog_table.specs.Lemmas.TableMap.{exact_table_map}
 use Rattle.mysql_binlog_rows.specs.RowsEvent.{RowsEvent, rows_event}
 use Rattle.mysql_binlog_rows.specs.Lemmas.RowsEvent.{exact_rows_event}
-use Rattle.mysql_binlog_rows.specs.Images.{Pair, grammar_of}
-use Rattle.mysql_binlog_rows.specs.Lemmas.Images.{grammar_sound}
+use Rattle.mysql_binlog_rows.specs.Images.{Pair, pair}
+use Rattle.mysql_binlog_rows.specs.Lemmas.Images.{exact_pair}
 use Rattle.mysql_binlog_rows.specs.Cover.{Covers}
 use Rattle.mysql_binlog_rows.specs.Decodes.{Input, IsTable, IsEvent, Decodes, IsAllPairs, IsRefused}
 use Rattle.mysql_binlog_rows.proofs.Covers.{covers_one}
@@ -29,9 +29,9 @@ pub decoded_one : (i : Input) (ps qs : List Pair) (e f : Option Fault) → Decod
 decoded_one i ps qs e f a b =
     let t-is = table_one i b.table a.table b.is_table a.is_table in
     let e-is = event_one i b.event a.event b.is_event a.is_event in
-    let with_event = subst (λ (v : RowsEvent). Covers (grammar_of b.table v) v.rows_data qs f) e-is b.covers in
-    let other = subst (λ (t : TableMap). Covers (grammar_of t a.event) a.event.rows_data qs f) t-is with_event in
-    covers_one (grammar_of a.table a.event) (grammar_sound a.table a.event) a.event.rows_data ps qs e f a.covers other
+    let with_event = subst (λ (v : RowsEvent). Covers (pair b.table v) v.rows_data qs f) e-is b.covers in
+    let other = subst (λ (t : TableMap). Covers (pair t a.event) a.event.rows_data qs f) t-is with_event in
+    covers_one (pair a.table a.event) (exact_pair a.table a.event) a.event.rows_data ps qs e f a.covers other
 
 -- if the rows data is exactly a list of pairs, it is decoded to them without a fault
 pub all_decode : (i : Input) (parts : List (List ℕ)) (ps : List Pair) → IsAllPairs i parts ps → Decodes i ps None

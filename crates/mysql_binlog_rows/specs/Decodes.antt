@@ -6,7 +6,7 @@ use Rattle.binlog_base.specs.declared.fault.Fault.TheVariants.{Memory}
 use Rattle.binlog_table.specs.TableMap.{TableMap, table_map}
 use Rattle.mysql_binlog_rows.specs.declared.rows_event.event.RowsEventCtx.{RowsEventCtx}
 use Rattle.mysql_binlog_rows.specs.RowsEvent.{RowsEvent, rows_event}
-use Rattle.mysql_binlog_rows.specs.Images.{Pair, grammar_of}
+use Rattle.mysql_binlog_rows.specs.Images.{Pair, pair}
 use Rattle.mysql_binlog_rows.specs.Cover.{ArePairs, Covers}
 
 -- the bytes of both events, and what is needed to read them
@@ -31,7 +31,7 @@ pub record Decodes (i : Input) (pairs : List Pair) (end : Option Fault) : Type 0
   pub event : RowsEvent
   pub is_table : IsTable i table
   pub is_event : IsEvent i event
-  pub covers : Covers (grammar_of table event) event.rows_data pairs end
+  pub covers : Covers (pair table event) event.rows_data pairs end
 
 -- both events can be read, and the rows data is exactly these byte strings, which are these pairs
 pub record IsAllPairs (i : Input) (parts : List (List ℕ)) (pairs : List Pair) : Type 0 where
@@ -39,7 +39,7 @@ pub record IsAllPairs (i : Input) (parts : List (List ℕ)) (pairs : List Pair) 
   pub event : RowsEvent
   pub is_table : IsTable i table
   pub is_event : IsEvent i event
-  pub each : ArePairs (grammar_of table event) parts pairs
+  pub each : ArePairs (pair table event) parts pairs
   pub whole : event.rows_data ≡ concat parts
 
 -- an event is refused with this fault; the table map event's fault if both are refused

@@ -4,17 +4,17 @@ use Rattle.std.specs.List.{concat}
 use Rattle.binlog_base.specs.declared.fault.Fault.{Fault}
 use Rattle.binlog_table.specs.TableMap.{TableMap}
 use Rattle.mysql_binlog_rows.specs.RowsEvent.{RowsEvent}
-use Rattle.mysql_binlog_rows.specs.Images.{Pair, grammar_of}
+use Rattle.mysql_binlog_rows.specs.Images.{Pair, pair}
 use Rattle.mysql_binlog_rows.specs.Cover.{IsPair, ArePairs, Covers}
 
 -- two lists of pairs of an event that have the same bytes are the same list
 abbrev pub OneListOfPairs : Type 0
-OneListOfPairs = (t : TableMap) (e : RowsEvent) (xs ys : List (List ℕ)) (ps qs : List Pair) → ArePairs (grammar_of t e) xs ps → ArePairs (grammar_of t e) ys qs → concat xs ≡ concat ys → (xs ≡ ys) × (ps ≡ qs)
+OneListOfPairs = (t : TableMap) (e : RowsEvent) (xs ys : List (List ℕ)) (ps qs : List Pair) → ArePairs (pair t e) xs ps → ArePairs (pair t e) ys qs → concat xs ≡ concat ys → (xs ≡ ys) × (ps ≡ qs)
 
 -- no pair is a proper prefix of another
 abbrev pub NoProperPrefix : Type 0
-NoProperPrefix = (t : TableMap) (e : RowsEvent) (x more : List ℕ) (p q : Pair) → IsPair (grammar_of t e) x p → IsPair (grammar_of t e) (x ++ more) q → more ≡ []
+NoProperPrefix = (t : TableMap) (e : RowsEvent) (x more : List ℕ) (p q : Pair) → IsPair (pair t e) x p → IsPair (pair t e) (x ++ more) q → more ≡ []
 
 -- rows data has only one list of pairs up to its first fault, and only one such fault
 abbrev pub OneCover : Type 0
-OneCover = (t : TableMap) (e : RowsEvent) (rows_data : List ℕ) (ps qs : List Pair) (end other : Option Fault) → Covers (grammar_of t e) rows_data ps end → Covers (grammar_of t e) rows_data qs other → (ps ≡ qs) × (end ≡ other)
+OneCover = (t : TableMap) (e : RowsEvent) (rows_data : List ℕ) (ps qs : List Pair) (end other : Option Fault) → Covers (pair t e) rows_data ps end → Covers (pair t e) rows_data qs other → (ps ≡ qs) × (end ≡ other)

@@ -2,5 +2,6 @@
 pub mod RowsEvent
 pub mod Cells
 pub mod Images
+pub mod Rows
 pub mod Equality
 pub mod RowsEventWritten

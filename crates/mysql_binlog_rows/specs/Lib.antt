@@ -4,6 +4,9 @@ pub mod RowsEventWritten
 pub mod Cells
 pub mod OldTimes
 pub mod Images
+pub mod RowValues
+pub mod Options
+pub mod Plans
 pub mod Cover
 pub mod Laws
 pub mod Rows

@@ -1,31 +1,74 @@
 -- The iterator over the pairs of a rows event, and what a call of its `next` returns.
-use Rattle.std.specs.Prelude.{◌≡◌, ◌≢◌, ℕ, ◌<◌, List, [], ◌++◌, length, Option, Some, None, Result, Ok, Err}
+use Rattle.std.specs.Prelude.{◌≡◌, ◌≢◌, ℕ, ◌<◌, ◌≤◌, ◌+◌, ◌*◌, Bool, true, List, [], ◌++◌, length, Option, Some, None, Result, Ok, Err}
 use denote.Ref.{Bor}
 use Rattle.binlog_base.specs.declared.fault.Fault.{Fault}
 use Rattle.binlog_base.specs.declared.fault.Fault.TheVariants.{Memory}
+use Rattle.binlog_base.specs.Format.{Format}
 use Rattle.binlog_table.specs.TableMap.{TableMap}
+use Rattle.binlog_table.specs.Extracted.{field_fault}
+use Rattle.binlog_table.specs.TableColumns.{Column, column_at}
 use Rattle.mysql_binlog_rows.specs.RowsEvent.{RowsEvent}
-use Rattle.mysql_binlog_rows.specs.Images.{Grammar, grammar_of, Pair}
+use Rattle.mysql_binlog_rows.specs.Images.{Pair, pair}
+use Rattle.mysql_binlog_rows.specs.Plans.{Plans, plans_of, planned_pair, slot_count}
 use Rattle.mysql_binlog_rows.specs.Cover.{IsPair, NoPair, RestFault}
 
--- the state of the iterator: how pairs are read, and the bytes that are left
+-- The state of the iterator: how pairs are read, and the bytes that are left; whether the plans are
+-- made, how many steps that took, and a bound on these steps.
 pub record Rows : Type 0 where
-  pub grammar : Grammar
+  pub plans : Plans
   pub left : List ℕ
+  pub is_planned : Bool
+  pub steps : ℕ
+  pub most_steps : ℕ
+
+-- plans that were made, and the steps that this took
+pub record Made : Type 0 where
+  pub plans : Plans
+  pub steps : ℕ
 
 -- the two events that say how pairs are read
 pub record Events : Type 0 where
   pub table : TableMap
   pub event : RowsEvent
 
-abbrev pub grammar_of_events : Events → Grammar
-grammar_of_events e = grammar_of e.table e.event
+abbrev pub plans_of_events : Events → Plans
+plans_of_events e = plans_of e.table e.event
+
+-- how many columns the event has, if it has the image
+abbrev pub columns_in : Option (List Bool) → ℕ
+columns_in None = 0
+columns_in (Some present) = length present
+
+-- at most one step for each column of the event and each byte of the optional metadata, for each of
+-- two images
+abbrev pub most_steps : TableMap → RowsEvent → ℕ
+most_steps t e = 2 * (e.num_columns + length t.optional_metadata)
+
+abbrev pub most_of_events : Events → ℕ
+most_of_events e = most_steps e.table e.event
+
+-- the first n columns of the table, and its optional metadata, have no fault
+pub record IsDescribed (t : TableMap) (n : ℕ) : Type 0 where
+  pub fields : field_fault t ≡ None
+  pub columns : (i : ℕ) → i < n → (c : Column) × (column_at t i ≡ Ok c)
+
+-- by these plans, pairs of these events are read
+abbrev pub Reads : TableMap → RowsEvent → Plans → Type 0
+Reads t e plans = (x : List ℕ) → (planned_pair plans).parse x ≡ (pair t e).parse x
+
+-- This is an iterator over the pairs of these two events. It makes at most two steps for each column
+-- of the event and for each byte of the optional metadata, and at least one for each column if no
+-- column has a fault.
+pub record IsOf (t : TableMap) (e : RowsEvent) (r : Rows) : Type 0 where
+  pub reads : Reads t e r.plans
+  pub most : r.most_steps ≤ most_steps t e
+  pub least : IsDescribed t e.num_columns → e.num_columns ≤ slot_count r.plans
 
 -- the result of reading a pair at the start of the bytes: the pair and the bytes after it, or its
 -- fault
-abbrev pub PairGives : Grammar → List ℕ → Result (Pair × List ℕ) Fault → Type 0
-PairGives g old (Ok r) = (x : List ℕ) × (old ≡ x ++ r.1) × IsPair g x r.0
-PairGives g old (Err e) = e ≢ Memory → NoPair g old × RestFault g old e
+abbrev pub PairGives : Format Pair → List ℕ → Result (Pair × List ℕ) Fault → Type 0
+PairGives pair old (Ok r) = (x : List ℕ) × (old ≡ x ++ r.1) × IsPair pair x r.0
+PairGives pair old (Err e) = e ≢ Memory → NoPair pair old × RestFault pair old e
 
 -- the result of a function that returns the rest of a slice, with the bytes of the rest
 abbrev pub at_rest : Result (Pair × Bor (List ℕ)) Fault → Result (Pair × List ℕ) Fault
@@ -34,11 +77,27 @@ at_rest (Err e) = Err e
 
 -- Nothing if no bytes are left; else the pair at the start of the bytes, which leaves the bytes
 -- after it, or a fault, which leaves none.
-abbrev pub ItemGives : Grammar → List ℕ → Option (Result Pair Fault) → List ℕ → Type 0
-ItemGives g old None new = (old ≡ []) × (new ≡ [])
-ItemGives g old (Some (Ok p)) new = (0 < length old) × PairGives g old (Ok (p, new))
-ItemGives g old (Some (Err e)) new = (0 < length old) × (new ≡ []) × PairGives g old (Err e)
+abbrev pub ItemGives : Format Pair → List ℕ → Option (Result Pair Fault) → List ℕ → Type 0
+ItemGives pair old None new = (old ≡ []) × (new ≡ [])
+ItemGives pair old (Some (Ok p)) new = (0 < length old) × PairGives pair old (Ok (p, new))
+ItemGives pair old (Some (Err e)) new = (0 < length old) × (new ≡ []) × PairGives pair old (Err e)
+
+-- each item takes bytes; a fault takes all of them
+abbrev pub Shrinks : List ℕ → Option (Result Pair Fault) → List ℕ → Type 0
+Shrinks old None new = (old ≡ []) × (new ≡ [])
+Shrinks old (Some (Ok p)) new = length new < length old
+Shrinks old (Some (Err e)) new = (0 < length old) × (new ≡ [])
+
+-- Once the plans are made, they and their steps stay as they are. They are made when there are bytes
+-- left, if there is memory for them.
+pub record PlansOnce (s : Rows) (r : Option (Result Pair Fault)) (t : Rows) : Type 0 where
+  pub plans : t.plans ≡ s.plans
+  pub once : s.is_planned ≡ true → (t.is_planned ≡ true) × (t.steps ≡ s.steps)
+  pub waits : s.left ≡ [] → (t.is_planned ≡ s.is_planned) × (t.steps ≡ s.steps)
+  pub made : s.left ≢ [] → r ≢ Some (Err Memory) → t.is_planned ≡ true
+  pub most : t.most_steps ≤ s.most_steps
 
 pub record NextGives (s : Rows) (r : Option (Result Pair Fault)) (t : Rows) : Type 0 where
-  pub grammar : t.grammar ≡ s.grammar
-  pub item : ItemGives s.grammar s.left r t.left
+  pub plans : PlansOnce s r t
+  pub shrinks : Shrinks s.left r t.left
+  pub item : (table : TableMap) (event : RowsEvent) → IsOf table event s → ItemGives (pair table event) s.left r t.left

@@ -1,7 +1,9 @@
 //! Rows as they were before or after a change: the images of a rows event.
 
 mod binlog_row;
+mod options;
 mod plan;
 
-pub use binlog_row::BinlogRow;
+pub use binlog_row::{BinlogRow, BinlogRowToRowError};
+pub use options::{BinlogRowValueOptions, UnknownBinlogRowValueOptions};
 pub(crate) use plan::Plan;

@@ -1,12 +1,12 @@
 -- The string values of a column are read exactly, and take at least one byte.
-use Rattle.std.proofs.Common.{◌≡◌, ℕ, ◌<◌, List, [], length, ap, ◌∙◌, sym}
+use Rattle.std.proofs.Common.{ℕ, ◌<◌, List, length}
 use Rattle.binlog_base.specs.Format.{IsExact}
 use Rattle.binlog_base.specs.Lemmas.Format.{exact_sequence}
 use Rattle.binlog_base.specs.Numbers.{lenenc}
 use Rattle.binlog_base.specs.Lemmas.Numbers.{exact_lenenc}
 use Rattle.binlog_base.specs.Strings.{lenenc_string}
 use Rattle.binlog_base.specs.Lemmas.Strings.{exact_lenenc_string}
-use Rattle.binlog_base.specs.Items.{Eats, times}
+use Rattle.binlog_base.specs.Items.{Eats}
 use Rattle.binlog_base.specs.Lemmas.Items.{eats_both, eats_lenenc, exact_times, eats_spelled}
 use Rattle.binlog_table.specs.Variants.{variants}
 

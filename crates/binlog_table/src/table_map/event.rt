@@ -261,6 +261,13 @@ impl<'a> TableMapEvent<'a> {
         }
     }
 
+    // Returns the type bytes of the columns, in order.
+    pub(crate) fn raw_types(&self) -> &[u8]
+        ensures { result.now ≡ self.now.types }
+    {
+        self.columns_type.as_bytes()
+    }
+
     /// Returns the metadata of the columns, column by column from the first.
     pub fn column_chunks(&self) -> ColumnChunks<'_>
         ensures { result ≡ record { types = self.now.types; metadata = Some self.now.metadata } }

@@ -2,6 +2,7 @@
 //! keys, visibility and dimensions of the columns.
 
 mod charsets;
+mod columns;
 mod extractor;
 mod fields;
 mod items;
@@ -11,6 +12,7 @@ mod names;
 mod variants;
 
 pub use charsets::{DefaultCharset, IterCharset, NonDefaultCharset};
+pub use columns::{TableColumn, TableColumns};
 pub use extractor::{IterColumnName, IterSignedness, OptionalMetaExtractor};
 pub use fields::{OptionalMetadataField, OptionalMetadataIter};
 pub use items::{Items, ListKind, ListOf};

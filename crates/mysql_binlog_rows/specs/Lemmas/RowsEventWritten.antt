@@ -1,5 +1,5 @@
 -- What is written of a rows event spells it, so it is read back.
-use Rattle.std.proofs.Common.{◌≡◌, ◌≢◌, ℕ, ◌+◌, ◌≤◌, Bool, true, false, List, [], ◌++◌, length, Option, Some, None, Ok, refl, sym, ap, subst, ◌∙◌, append-nil, arith}
+use Rattle.std.proofs.Common.{◌≡◌, ◌≢◌, ℕ, ◌+◌, ◌≤◌, Bool, true, false, List, [], length, Option, Some, None, refl, sym, ap, subst, ◌∙◌, append-nil, arith}
 use Rattle.std.specs.Prelude.{◌==◌}
 use Rattle.binlog_base.specs.Endian.{little_bytes}
 use Rattle.binlog_base.specs.Format.{no_bytes, choice}
@@ -9,7 +9,7 @@ use Rattle.binlog_consts.specs.declared.consts.event_type.EventType.{EventType}
 use Rattle.binlog_table.specs.Lemmas.TableMapWritten.{table_id_written}
 use Rattle.mysql_binlog_rows.specs.declared.rows_event.event.RowsEventCtx.{RowsEventCtx}
 use Rattle.mysql_binlog_rows.specs.RowsEvent.{RowsEvent, has_before, has_after, extra_data, bitmap, rows_event}
-use Rattle.mysql_binlog_rows.specs.RowsEventWritten.{IsBitmap, IsRowsEvent, writes_extra_data, extra_data_bytes, bitmap_bytes, columns_bytes, written_rows_event, ReadsAsWritten, KeepsExtraData, WrittenEventsSpellThemselves, ReadEventsKeepExtraData, WrittenEventsReadBack}
+use Rattle.mysql_binlog_rows.specs.RowsEventWritten.{IsBitmap, IsRowsEvent, writes_extra_data, extra_data_bytes, bitmap_bytes, columns_bytes, written_rows_event, KeepsExtraData, WrittenEventsSpellThemselves, ReadEventsKeepExtraData, WrittenEventsReadBack}
 use Rattle.mysql_binlog_rows.specs.Lemmas.RowsEvent.{exact_rows_event}
 
 extra_data_written : (b : Bool) (extra : List ℕ) → length extra ≤ 65533 → (b ≡ false → extra ≡ []) → (choice b extra_data (no_bytes [])).spells (extra_data_bytes b extra) extra

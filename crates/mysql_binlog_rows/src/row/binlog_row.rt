@@ -1,23 +1,26 @@
 //! A row of an event.
 
-ghost use Rattle.std.specs.Prelude.{◌≡◌, length, map, IsTrue, ◌↔◌, IfOk};
+ghost use Rattle.std.specs.Prelude.{◌≡◌, ◌<◌, length, map, set, Some, None, IsTrue, ◌↔◌, IfOk, IfErr};
 ghost use Rattle.std.specs.Option.{option_map};
 ghost use Rattle.std.specs.Rc.{rc_slice_items};
-ghost use Rattle.mysql_binlog_rows.specs.Cells.{cell_of};
-ghost use Rattle.binlog_base.specs.Values.{value_at};
-ghost use Rattle.mysql_binlog_rows.specs.Equality.{same_cell};
+ghost use Rattle.mysql_binlog_rows.specs.Cells.{PlainCell, cell_of};
+ghost use Rattle.binlog_base.specs.Values.{plain_of, value_at};
+ghost use Rattle.mysql_binlog_rows.specs.Equality.{same_cell, plain_of_cell};
+ghost use Rattle.mysql_binlog_rows.specs.RowValues.{AreThere};
 ghost use Rattle.mysql_binlog_rows.specs.Lemmas.Equality.{same_cell_is_equivalence};
+ghost use Rattle.mysql_binlog_rows.specs.declared.row.binlog_row.BinlogRowToRowError.TheVariants as RowError;
 ghost use Rattle.std.specs.Option.{option_eq};
 ghost use Rattle.std.specs.Ordering.{on, eq_of_both};
 ghost use Rattle.binlog_base.specs.contracts.below.columns.column.ColumnPartialEq.TheImpl.Laws.{laws-law};
 ghost use Rattle.std.specs.Cmp.{and_per, on_per, partial_equiv_from_equiv};
 ghost use Rattle.std.specs.Cmp.Lexicographic.{pointwise, lists_per, options_equiv};
 
-use crate::value::BinlogValue;
-use binlog_base::below::Column;
-use std::alloc::{AllocError, Global};
+use crate::value::{BinlogValue, BinlogValueToValueError};
+use binlog_base::below::{Column, Row, Value, new_row_raw};
+use std::alloc::{AllocError, AllocFailed, Global};
 use std::marker::Model;
 use std::rc::RcSlice;
+use thiserror::Error;
 
 /// A row of an event: a value for each of its columns, `Value::NULL` for NULL, and `None` where the
 /// value was taken. Rows of one event share their columns.
@@ -102,5 +105,93 @@ impl BinlogRow {
             Some(Some(value)) => Some(value),
             _ => None,
         }
+    }
+
+    /// Takes the value of place `index` out of the row. `None` past the last place, or where the
+    /// value was taken before.
+    pub fn take(&mut self, index: usize) -> Option<BinlogValue>
+        ensures taken { option_map cell_of result ≡ value_at self.old.values index }
+        ensures left { self.new ≡ record self.old { values = set self.old.values index None } }
+    {
+        if index < self.values.len() {
+            self.values[index].take()
+        } else {
+            None
+        }
+    }
+
+    /// Puts a value at place `index`, in place of what is there.
+    pub fn place(&mut self, index: usize, value: BinlogValue)
+        requires { index < length self.old.values }
+        ensures { self.new ≡ record self.old { values = set self.old.values index (Some (cell_of value)) } }
+    {
+        self.values[index] = Some(value);
+    }
+
+    /// Returns the values. None of them may have been taken out of the row. Fails where memory for
+    /// the list is refused.
+    pub fn unwrap(self, alloc: Global) -> Result<Vec<BinlogValue>, AllocError>
+        requires { AreThere self.values }
+        ensures { IfOk result (λ values. map (λ v. Some (cell_of v)) values.items ≡ self.values) }
+    {
+        let mut values = Vec::with_capacity(alloc, self.values.len())?;
+        for value in self.values {
+            if let Some(value) = value {
+                values.push(value)?;
+            }
+        }
+        Ok(values)
+    }
+
+    /// Converts the row to a row of plain values. A value that was taken stays taken. Fails where
+    /// memory is refused, and at the first value that isn't plain.
+    pub fn into_row(self, alloc: Global) -> Result<Row, BinlogRowToRowError>
+        ensures row { IfOk result (λ row. row ≡ record {
+          columns = self.columns;
+          values = map (option_map plain_of_cell) self.values;
+        }) }
+        ensures err { IfErr result (λ e. e ≡ RowError.Memory) }
+    {
+        let mut values = Vec::with_capacity(alloc, self.values.len())?;
+        for value in self.values {
+            values.push(value.map(plain_value))?;
+        }
+        Ok(new_row_raw(values, self.columns))
+    }
+}
+
+// Returns the plain value of a cell.
+fn plain_value(value: BinlogValue) -> Value
+    ensures { PlainCell (plain_of result) ≡ cell_of value }
+{
+    match value {
+        BinlogValue::Value(value) => value,
+    }
+}
+
+/// Why a row isn't a row of plain values.
+#[derive(Debug, Drop, Error)]
+pub enum BinlogRowToRowError {
+    /// The value at this place, counted from 0, is not plain.
+    #[error("the value at place {0} of a row can't be converted: {1}")]
+    NotPlain(usize, BinlogValueToValueError),
+    /// Memory was refused.
+    #[error("no memory for the values of a row")]
+    Memory,
+}
+
+impl From<AllocError> for BinlogRowToRowError {
+    ghost from_gives = { λ _ e. e ≡ RowError.Memory };
+
+    fn from(_e: AllocError) -> BinlogRowToRowError {
+        BinlogRowToRowError::Memory
+    }
+}
+
+impl<T: Drop> From<AllocFailed<T>> for BinlogRowToRowError {
+    ghost from_gives = { λ _ e. e ≡ RowError.Memory };
+
+    fn from(_e: AllocFailed<T>) -> BinlogRowToRowError {
+        BinlogRowToRowError::Memory
     }
 }

@@ -1,158 +1,234 @@
 //! Reads the images of rows, by a plan that is made once for an event.
 
-ghost use Rattle.std.specs.Prelude.{◌≡◌, true, false, MatchResult, map, slice_get, slice_index_or};
+ghost use Rattle.std.specs.Prelude.{◌≡◌, ◌≤◌, ◌<◌, ◌+◌, ◌^◌, false, IfOk, IfErr, map, length, slice_index_or, unwrap_or};
 ghost use Rattle.std.specs.Option.{option_map};
-ghost use Rattle.std.specs.Rc.{rc_slice_items};
 ghost use Rattle.binlog_base.specs.declared.fault.Fault.TheVariants as Fault;
 ghost use Rattle.binlog_base.specs.Format.{Parses, ParsesAs, OrMemory};
-ghost use Rattle.binlog_table.specs.ColumnTypes.{raw_type_of, real_type_of};
+ghost use Rattle.binlog_base.specs.Items.{result_map};
+ghost use Rattle.binlog_table.specs.ColumnsLeft.{seen_column};
 ghost use Rattle.mysql_binlog_rows.specs.Cells.{cell_of};
-ghost use Rattle.mysql_binlog_rows.specs.Images.{image, image_of, slot_at, typed_slot, column_of, nullable_cell, cells};
+ghost use Rattle.binlog_base.specs.Values.{column_flags_of};
+ghost use Rattle.mysql_binlog_rows.specs.Images.{default_name, row_flags, row_column};
+ghost use Rattle.mysql_binlog_rows.specs.Plans.{slot_of, first_column, after_first, planned_from, plan_of, planned_image, slot_cell, slot_cells};
 
 use super::binlog_row::BinlogRow;
 use crate::value::{BinlogValue, Form, form_of, read_by};
-use binlog_base::below::{Column, ColumnType, MyDeserialize, ParseBuf, Value};
+use binlog_base::below::{Column, ColumnFlags, MyDeserialize, ParseBuf, Value};
 use binlog_base::bits::{BitOrder, BitView};
 use binlog_base::fault::Fault;
+use binlog_consts::consts::Flags;
 use binlog_table::table_map::TableMapEvent;
+use binlog_table::table_map::optional::{ColumnName, TableColumn, TableColumns};
 use std::alloc::Global;
 use std::marker::Model;
 use std::rc::RcSlice;
 
-/// A column of the event that has a type. `form`, how its cells are read, is found out once.
+/// A column of the event, as a plan keeps it: how its cells are read, and whether it is in the
+/// image.
 #[derive(Drop)]
-struct Slot<'a> {
-    column_type: ColumnType,
-    metadata: &'a [u8],
+struct Slot {
     form: Result<Form, Fault>,
     present: bool,
-    index: usize,
 }
 
-impl<'a> Model for Slot<'a> {
-    ghost use Rattle.std.specs.Prelude.{◌≡◌, false};
-    ghost use Rattle.mysql_binlog_rows.specs.Cells.{form_of};
-    ghost use Rattle.mysql_binlog_rows.specs.Images as Spec;
+impl Model for Slot {
+    ghost use Rattle.mysql_binlog_rows.specs.Plans as Spec;
 
     ghost Value = { Spec.Slot };
 
-    ghost view = { λ s. record {
-      column_type = s.column_type;
-      metadata = s.metadata.now;
-      present = s.present;
-      index = s.index;
-    } };
+    ghost view = { λ s. record { form = s.form; present = s.present } };
+}
 
-    ghost invariant = { λ s. s.form ≡ form_of s.column_type s.metadata.now false };
+/// The columns of an event up to the first with a fault: how the cells of each are read; those in
+/// the image, as rows have them; and the fault.
+#[derive(Drop)]
+struct Planned {
+    slots: Vec<Slot>,
+    columns: Vec<Column>,
+    fault: Option<Fault>,
+}
+
+impl Model for Planned {
+    ghost use Rattle.mysql_binlog_rows.specs.Plans as Spec;
+
+    ghost Value = { Spec.Planned };
+
+    ghost view = { λ p. record { slots = p.slots.items; columns = p.columns.items; fault = p.fault } };
 }
 
 /// How images with the same bitmap of columns are read. A plan is made once for an event.
 #[derive(Drop)]
-pub(crate) struct Plan<'a> {
-    slots: Vec<Slot<'a>>,
-    fault: Option<Fault>,
+pub(crate) struct Plan {
     count: usize,
+    slots: Vec<Slot>,
     columns: RcSlice<Column>,
+    fault: Option<Fault>,
 }
 
-impl<'a> Model for Plan<'a> {
+impl Model for Plan {
     ghost use Rattle.std.specs.Rc.{rc_slice_items};
-    ghost use Rattle.mysql_binlog_rows.specs.Images.{Image};
+    ghost use Rattle.mysql_binlog_rows.specs.Plans as Spec;
 
-    ghost Value = { Image };
+    ghost Value = { Spec.Plan };
 
     ghost view = { λ p. record {
-      slots = record { typed = p.slots.items; fault = p.fault };
       count = p.count;
-      columns = rc_slice_items p.columns;
+      planned = record { slots = p.slots.items; columns = rc_slice_items p.columns; fault = p.fault };
     } };
 }
 
-// Returns the column at an index, with its type and its metadata, which is empty if there is none.
-// `NoColumnType` if the table has no such column.
-#[tactic(auto, unfolding(crate::specs::Images::slot_at))]
-fn slot_of<'a>(
-    table: &'a TableMapEvent<'_>,
-    index: usize,
-    metadata: Option<&'a [u8]>,
-    present: bool,
-) -> Result<Slot<'a>, Fault>
-    ensures { result ≡ typed_slot (real_type_of (raw_type_of (slice_get table.now.types index))
-        (option_map (λ c. c.now) metadata.entry))
-        (option_map (λ c. c.now) metadata.entry) present index }
+// Returns the flags of a column in a row.
+fn flags_of(unsigned: bool, is_key: bool) -> ColumnFlags
+    ensures { result ≡ column_flags_of (row_flags unsigned is_key) }
 {
-    match table.real_column_type(index, metadata)? {
-        None => Err(Fault::NoColumnType),
-        Some(column_type) => {
-            let metadata = metadata.unwrap_or(&[]);
-            Ok(Slot {
-                column_type,
-                metadata,
-                form: form_of(column_type, metadata, false),
-                present,
-                index,
-            })
+    match (unsigned, is_key) {
+        (false, false) => ColumnFlags::empty(),
+        (true, false) => ColumnFlags::UNSIGNED_FLAG,
+        (false, true) => ColumnFlags::PRI_KEY_FLAG,
+        (true, true) => ColumnFlags::UNSIGNED_FLAG.union(ColumnFlags::PRI_KEY_FLAG),
+    }
+}
+
+// Returns the column with its name: the given one, or `@` and the column's index.
+fn with_name(
+    alloc: Global,
+    column: Column,
+    name: &Option<ColumnName<'_>>,
+    index: usize,
+) -> Result<Column, Fault>
+    ensures given { IfOk result (λ c. c ≡ record column { name = unwrap_or name.now (default_name index) }) }
+    ensures err { IfErr result (λ e. e ≡ Fault.Memory) }
+{
+    match name {
+        Some(name) => Ok(column.with_name(alloc, name.name_raw())?),
+        None => {
+            let name = format!(in alloc; "@{}", index)?;
+            Ok(column.with_name(alloc, name.as_bytes())?)
         }
     }
 }
 
-// Returns the description of a column in a row: its type, its database, its table, and the name `@`
-// with its index.
-fn column_of(alloc: Global, table: &TableMapEvent<'_>, slot: &Slot<'_>) -> Result<Column, Fault>
-    ensures { MatchResult result (λ c. c ≡ column_of table.now slot.now) (λ e. e ≡ Fault.Memory) }
+// Returns the column of this index as rows have it: its type, database, table, name, flags and
+// character set.
+fn row_column(
+    alloc: Global,
+    table: &TableMapEvent<'_>,
+    index: usize,
+    column: &TableColumn<'_>,
+) -> Result<Column, Fault>
+    ensures column { IfOk result (λ c. c ≡ row_column table.now index (seen_column column.now)) }
+    ensures err { IfErr result (λ e. e ≡ Fault.Memory) }
 {
-    let name = format!(in alloc; "@{}", slot.index)?;
-    let column = Column::new(slot.column_type)
+    let described = Column::new(column.column_type)
+        .with_flags(flags_of(column.unsigned, column.is_key))
+        .with_character_set(column.charset)
         .with_schema(alloc, table.database_name_raw())?
         .with_table(alloc, table.table_name_raw())?
-        .with_org_table(alloc, table.table_name_raw())?
-        .with_name(alloc, name.as_bytes())?;
-    Ok(column)
+        .with_org_table(alloc, table.table_name_raw())?;
+    with_name(alloc, described, &column.name, index)
 }
 
-impl<'a> Plan<'a> {
-    /// Makes the plan for images with the columns of the table whose bits are set in `present`.
-    /// `Memory` if memory can't be allocated.
-    pub fn make(
-        alloc: Global,
-        table: &'a TableMapEvent<'_>,
-        present: &BitView<'_>,
-    ) -> Result<Plan<'a>, Fault>
-        ensures { MatchResult result (λ p. p ≡ image_of table.now present.now) (λ e. e ≡ Fault.Memory) }
-    {
-        let mut slots: Vec<Slot<'a>> = Vec::new(alloc);
-        let mut columns: Vec<Column> = Vec::new(alloc);
-        let mut fault = None;
-        let mut chunks = table.column_chunks();
-        for index in 0..present.len() {
-            let metadata = chunks.next_chunk();
-            match slot_of(table, index, metadata, is_set(present, index)) {
-                Err(e) => {
-                    fault = Some(e);
-                    break;
+// Takes the next column of a table, or its fault; `NoColumnType` after the last column.
+fn next_column<'a>(walk: &mut TableColumns<'a>) -> Result<TableColumn<'a>, Fault>
+    ensures column { result_map seen_column result ≡ first_column walk.old.columns }
+    ensures rest { walk.new.columns ≡ after_first walk.old.columns }
+    ensures steps { IfOk result (λ _. walk.old.steps + 1 ≤ walk.new.steps) }
+    ensures grows { walk.old.steps ≤ walk.new.steps }
+    ensures most { walk.new.most ≤ walk.old.most + 1 }
+{
+    match walk.take_column() {
+        None => Err(Fault::NoColumnType),
+        Some(column) => column,
+    }
+}
+
+// Returns how the cells of a column are read.
+fn slot_of(column: &TableColumn<'_>, present: bool) -> Slot
+    ensures { result ≡ slot_of (seen_column column.now) present }
+{
+    let metadata = column.metadata.unwrap_or(&[]);
+    Slot {
+        form: form_of(column.column_type, metadata, column.unsigned),
+        present,
+    }
+}
+
+// Plans the columns of the event, of which those with a bit in `present` are in the image.
+fn plan_columns(
+    alloc: Global,
+    table: &TableMapEvent<'_>,
+    present: &BitView<'_>,
+    walk: &mut TableColumns<'_>,
+) -> Result<Planned, Fault>
+    ensures planned { IfOk result (λ p. p ≡ planned_from table.now 0 walk.old.columns present.now) }
+    ensures least { IfOk result (λ p. walk.old.steps + length p.slots ≤ walk.new.steps) }
+    ensures most { IfOk result (λ _. walk.new.most ≤ walk.old.most + length present.now) }
+    ensures err { IfErr result (λ e. e ≡ Fault.Memory) }
+{
+    let mut slots = Vec::new(alloc);
+    let mut columns = Vec::new(alloc);
+    let mut fault = None;
+    for index in 0..present.len() {
+        match next_column(walk) {
+            Err(e) => {
+                fault = Some(e);
+                break;
+            }
+            Ok(column) => {
+                let present = is_set(present, index);
+                if present {
+                    columns.push(row_column(alloc, table, index, &column)?)?;
                 }
-                Ok(slot) => {
-                    if slot.present {
-                        columns.push(column_of(alloc, table, &slot)?)?;
-                    }
-                    slots.push(slot)?;
-                }
+                slots.push(slot_of(&column, present))?;
             }
         }
-        let count = present.count_ones();
-        let columns = RcSlice::from_vec(columns)?;
+    }
+    Ok(Planned {
+        slots,
+        columns,
+        fault,
+    })
+}
+
+impl Plan {
+    /// Makes the plan for images with the columns of the table whose bits are set in `present`, and
+    /// adds the steps that it took. `Memory` if memory can't be allocated.
+    pub fn make(
+        alloc: Global,
+        table: &TableMapEvent<'_>,
+        present: &BitView<'_>,
+        steps: &mut u128,
+    ) -> Result<Plan, Fault>
+        requires { steps.old < 2 ^ 127 }
+        ensures plan { IfOk result (λ p. p ≡ plan_of table.now present.now) }
+        ensures least { IfOk result (λ p. steps.old + length p.planned.slots ≤ steps.new) }
+        ensures most { IfOk result (λ _. steps.new
+            ≤ steps.old + length present.now + length table.now.optional_metadata) }
+        ensures fits { IfOk result (λ _. steps.new < steps.old + 2 ^ 70) }
+        ensures err { IfErr result (λ e. e ≡ Fault.Memory) }
+    {
+        let mut walk = TableColumns::new(table);
+        let planned = match walk.fault() {
+            None => plan_columns(alloc, table, present, &mut walk)?,
+            Some(fault) => Planned {
+                slots: Vec::new(alloc),
+                columns: Vec::new(alloc),
+                fault: Some(fault),
+            },
+        };
+        *steps += walk.steps();
         Ok(Plan {
-            slots,
-            fault,
-            count,
-            columns,
+            count: present.count_ones(),
+            slots: planned.slots,
+            columns: RcSlice::from_vec(planned.columns)?,
+            fault: planned.fault,
         })
     }
 
     /// Reads one image: the null bits, and then the cells that aren't NULL.
-    #[tactic(auto, unfolding(crate::specs::Images::image))]
+    #[tactic(auto, unfolding(crate::specs::Plans::planned_image))]
     pub fn read(&self, alloc: Global, buf: &mut ParseBuf<'_>) -> Result<BinlogRow, Fault>
-        ensures { OrMemory result (Parses (image self.now) result buf.old.0.now buf.new.0.now) }
+        ensures { OrMemory result (Parses (planned_image self.now) result buf.old.0.now buf.new.0.now) }
     {
         let nulls: BitView<'_> = buf.parse((BitOrder::LeastSignificantFirst, self.count))?;
         let values = read_cells(alloc, &self.slots, self.fault, &nulls, buf)?;
@@ -160,16 +236,16 @@ impl<'a> Plan<'a> {
     }
 }
 
-// Reads a value for each column in the image. If `end` is the fault of a column without a type, it
-// is returned after the cells before that column are read.
+// Reads a value for each column in the image. If `end` is the fault of a column, it is returned
+// after the cells before that column are read.
 fn read_cells(
     alloc: Global,
-    slots: &[Slot<'_>],
+    slots: &[Slot],
     end: Option<Fault>,
     nulls: &BitView<'_>,
     buf: &mut ParseBuf<'_>,
 ) -> Result<Vec<Option<BinlogValue>>, Fault>
-    ensures { OrMemory result (ParsesAs (λ v. map (option_map cell_of) v.items) (cells slots.now end
+    ensures { OrMemory result (ParsesAs (λ v. map (option_map cell_of) v.items) (slot_cells slots.now end
         nulls.now) result buf.old.0.now buf.new.0.now) }
 {
     let mut values = Vec::with_capacity(alloc, nulls.len())?;
@@ -195,14 +271,14 @@ fn is_set(bits: &BitView<'_>, place: usize) -> bool
 }
 
 // Returns NULL if the null bit is set, and reads the cell otherwise.
-#[tactic(auto, unfolding(crate::specs::Images::nullable_cell, crate::specs::Cells::cell))]
+#[tactic(auto, unfolding(crate::specs::Plans::slot_cell))]
 fn read_nullable_cell(
     alloc: Global,
-    slot: &Slot<'_>,
+    slot: &Slot,
     is_null: bool,
     buf: &mut ParseBuf<'_>,
 ) -> Result<BinlogValue, Fault>
-    ensures { OrMemory result (ParsesAs cell_of (nullable_cell is_null slot.now) result buf.old.0.now
+    ensures { OrMemory result (ParsesAs cell_of (slot_cell is_null slot.now) result buf.old.0.now
         buf.new.0.now) }
 {
     if is_null {

@@ -2,7 +2,7 @@
 
 ghost use Rattle.std.specs.Prelude.{◌≡◌, IfOk, IfErr};
 ghost use Rattle.binlog_base.specs.declared.fault.Fault.TheVariants as Fault;
-ghost use Rattle.mysql_binlog_rows.specs.Images.{grammar_of};
+ghost use Rattle.mysql_binlog_rows.specs.Images.{pair};
 ghost use Rattle.mysql_binlog_rows.specs.Cover.{Covers};
 ghost use Rattle.mysql_binlog_rows.specs.Decodes.{input, DecodesAs};
 
@@ -27,7 +27,7 @@ fn pairs_of(
     table: &TableMapEvent<'_>,
     event: &RowsEvent<'_>,
 ) -> Result<Decoded, Fault>
-    ensures covers { IfOk result (λ d. Covers (grammar_of table.now event.now) event.now.rows_data d.pairs.items
+    ensures covers { IfOk result (λ d. Covers (pair table.now event.now) event.now.rows_data d.pairs.items
         d.fault) }
     ensures err { IfErr result (λ e. e ≡ Fault.Memory) }
 {

@@ -93,6 +93,7 @@ impl<'a> RowsEvent<'a> {
     ghost use Rattle.binlog_base.specs.Format.{Parses};
     ghost use Rattle.mysql_binlog_rows.specs.RowsEvent.{rows_event, extra_data, bitmap, image_columns, event_len};
     ghost use Rattle.binlog_base.specs.Format.{choice, no_bytes};
+    ghost use Rattle.mysql_binlog_rows.specs.RowsEventWritten.{IsRowsEvent};
 
     // Reads the extra data: a length of two bytes, which counts these two bytes as well, and the
     // data. Reads nothing if there is no extra data.
@@ -212,7 +213,9 @@ impl<'a> RowsEvent<'a> {
 
     /// Returns the rows data: the bytes of the images, one after the other.
     pub fn rows_data(&self) -> &[u8]
-        ensures { result.now ≡ self.now.rows_data }
+        ensures bytes { result.now ≡ self.now.rows_data }
+        // The event has the images that its type has.
+        ensures event { IsRowsEvent self.now }
     {
         self.rows_data.as_bytes()
     }

@@ -1,12 +1,15 @@
 //! The pairs of rows of a rows event, and the iterator over them.
 
-ghost use Rattle.std.specs.Prelude.{◌≡◌, true, false, MatchResult, IsTrue, ◌↔◌};
+ghost use Rattle.std.specs.Prelude.{◌≡◌, ◌≢◌, ◌≤◌, ◌<◌, ◌+◌, ◌^◌, true, false, length, Err, IfOk, IfErr};
 ghost use Rattle.std.specs.Option.{option_map};
 ghost use Rattle.binlog_base.specs.declared.fault.Fault.TheVariants as Fault;
 ghost use Rattle.binlog_base.specs.Format.{Parses, OrMemory};
-ghost use Rattle.mysql_binlog_rows.specs.Images.{image_of, maybe_image, pair, is_supported, IsSound};
-ghost use Rattle.mysql_binlog_rows.specs.Rows.{grammar_of_events, PairGives, at_rest};
-ghost use Rattle.mysql_binlog_rows.specs.Columns.{grammar_in};
+ghost use Rattle.binlog_table.specs.TableMap.{TableMap};
+ghost use Rattle.mysql_binlog_rows.specs.RowsEvent.{RowsEvent as Event};
+ghost use Rattle.mysql_binlog_rows.specs.Images.{is_whole, pair};
+ghost use Rattle.mysql_binlog_rows.specs.Plans.{plan_of, slots_in, slot_count, planned_maybe, planned_pair};
+ghost use Rattle.mysql_binlog_rows.specs.Rows.{Reads, PairGives, at_rest, columns_in, plans_of_events, most_of_events};
+ghost use Rattle.mysql_binlog_rows.specs.Columns.{plans_in, is_planned, PlansKept};
 
 use super::event::RowsEvent;
 use crate::row::{BinlogRow, Plan};
@@ -21,20 +24,28 @@ use std::marker::Model;
 /// The row before a change and the row after it. Each is none if the event has no such image.
 pub type RowPair = (Option<BinlogRow>, Option<BinlogRow>);
 
-/// How the pairs of rows of an event are read.
+/// How the pairs of rows of an event are read, and how many steps it took to find that out.
 #[derive(Drop)]
-struct Plans<'a> {
-    before: Option<Plan<'a>>,
-    after: Option<Plan<'a>>,
-    is_supported: bool,
+struct Plans {
+    before: Option<Plan>,
+    after: Option<Plan>,
+    is_whole: bool,
+    steps: u128,
 }
 
-impl<'a> Model for Plans<'a> {
-    ghost use Rattle.mysql_binlog_rows.specs.Images.{Grammar};
+impl Model for Plans {
+    ghost use Rattle.std.specs.Prelude.{◌≤◌};
+    ghost use Rattle.mysql_binlog_rows.specs.Plans.{slot_count};
+    ghost use Rattle.mysql_binlog_rows.specs.Rows.{Made};
 
-    ghost Value = { Grammar };
+    ghost Value = { Made };
 
-    ghost view = { λ p. record { before = p.before; after = p.after; is_supported = p.is_supported } };
+    ghost view = { λ p. record {
+      plans = record { before = p.before; after = p.after; is_whole = p.is_whole };
+      steps = p.steps;
+    } };
+
+    ghost invariant = { λ p. slot_count (record { before = p.before; after = p.after; is_whole = p.is_whole }) ≤ p.steps };
 }
 
 /// The two events that the plans are made from.
@@ -56,13 +67,14 @@ impl<'a> Model for Events<'a> {
 #[derive(Drop)]
 enum Columns<'a> {
     Events(Events<'a>),
-    Plans(Plans<'a>),
+    Plans(Plans),
 }
 
 /// An iterator over the pairs of rows of a rows event, up to and including its first fault.
 ///
-/// How the columns are read is found out at the first call of `next`, which takes memory. The
-/// number of items, the fault included, is at most the number of bytes of the rows data.
+/// How the columns are read is found out once, at the first call of `next` with bytes left, which
+/// takes memory. The number of items, the fault included, is at most the number of bytes of the
+/// rows data.
 #[derive(Drop)]
 pub struct RowsEventRows<'a> {
     alloc: Global,
@@ -72,46 +84,52 @@ pub struct RowsEventRows<'a> {
 
 impl<'a> Model for RowsEventRows<'a> {
     ghost use Rattle.mysql_binlog_rows.specs.Rows.{Rows};
-    ghost use Rattle.mysql_binlog_rows.specs.Columns.{grammar_in};
-    ghost use Rattle.mysql_binlog_rows.specs.Images.{IsSound};
+    ghost use Rattle.mysql_binlog_rows.specs.Columns.{plans_in, is_planned, steps_in, most_in};
 
     ghost Value = { Rows };
 
-    ghost view = { λ r. record { grammar = grammar_in r.columns; left = r.rows_data.now } };
-
-    ghost invariant = { λ r. IsSound (grammar_in r.columns) };
+    ghost view = { λ r. record {
+      plans = plans_in r.columns;
+      left = r.rows_data.now;
+      is_planned = is_planned r.columns;
+      steps = steps_in r.columns;
+      most_steps = most_in r.columns;
+    } };
 }
 
-// Returns whether reading the pairs is supported: the table has no optional metadata, and the event
-// has only whole images after the change.
-fn is_supported(table: &TableMapEvent<'_>, event: &RowsEvent<'_>) -> bool
-    ensures { result ≡ is_supported table.now event.now }
+// Returns whether all images of the event are whole.
+fn is_whole(event_type: EventType) -> bool
+    ensures { result ≡ is_whole event_type }
 {
-    table.optional_metadata_raw().is_empty()
-        && event.columns_before_image().is_none()
-        && !matches!(event.event_type(), EventType::PARTIAL_UPDATE_ROWS_EVENT)
+    !matches!(event_type, EventType::PARTIAL_UPDATE_ROWS_EVENT)
 }
 
-fn maybe_plan<'a>(
+// Makes the plan of an image, if the event has it, and adds the steps that it took.
+fn maybe_plan(
     alloc: Global,
-    table: &'a TableMapEvent<'_>,
+    table: &TableMapEvent<'_>,
     present: Option<BitView<'_>>,
-) -> Result<Option<Plan<'a>>, Fault>
-    ensures { MatchResult result (λ p. p ≡ option_map (image_of table.now) present.entry)
-        (λ e. e ≡ Fault.Memory) }
+    steps: &mut u128,
+) -> Result<Option<Plan>, Fault>
+    requires { steps.old < 2 ^ 127 }
+    ensures plan { IfOk result (λ p. p ≡ option_map (plan_of table.now) present.entry) }
+    ensures least { IfOk result (λ p. steps.old + slots_in p ≤ steps.new) }
+    ensures most { IfOk result (λ _. steps.new ≤ steps.old + (columns_in present.entry + length table.now.optional_metadata)) }
+    ensures fits { IfOk result (λ _. steps.new < steps.old + 2 ^ 70) }
+    ensures err { IfErr result (λ e. e ≡ Fault.Memory) }
 {
     match present {
         None => Ok(None),
-        Some(present) => Ok(Some(Plan::make(alloc, table, &present)?)),
+        Some(present) => Ok(Some(Plan::make(alloc, table, &present, steps)?)),
     }
 }
 
 fn read_maybe(
     alloc: Global,
-    plan: &Option<Plan<'_>>,
+    plan: &Option<Plan>,
     buf: &mut ParseBuf<'_>,
 ) -> Result<Option<BinlogRow>, Fault>
-    ensures { OrMemory result (Parses (maybe_image plan.now) result buf.old.0.now buf.new.0.now) }
+    ensures { OrMemory result (Parses (planned_maybe plan.now) result buf.old.0.now buf.new.0.now) }
 {
     match plan {
         None => Ok(None),
@@ -119,25 +137,30 @@ fn read_maybe(
     }
 }
 
-impl<'a> Plans<'a> {
-    fn make(alloc: Global, events: &Events<'a>) -> Result<Plans<'a>, Fault>
-        ensures { MatchResult result (λ p. p ≡ grammar_of_events events.now) (λ e. e ≡ Fault.Memory) }
+impl Plans {
+    // Makes the plans of both images. `Memory` if memory can't be allocated.
+    fn make(alloc: Global, events: &Events<'_>) -> Result<Plans, Fault>
+        ensures plans { IfOk result (λ p. p.plans ≡ plans_of_events events.now) }
+        ensures most { IfOk result (λ p. p.steps ≤ most_of_events events.now) }
+        ensures err { IfErr result (λ e. e ≡ Fault.Memory) }
     {
-        let before = maybe_plan(alloc, events.table, events.event.columns_before_image())?;
-        let after = maybe_plan(alloc, events.table, events.event.columns_after_image())?;
-        let is_supported = is_supported(events.table, events.event);
+        let mut steps = 0;
+        let (table, event) = (events.table, events.event);
+        let before = maybe_plan(alloc, table, event.columns_before_image(), &mut steps)?;
+        let after = maybe_plan(alloc, table, event.columns_after_image(), &mut steps)?;
         Ok(Plans {
             before,
             after,
-            is_supported,
+            is_whole: is_whole(event.event_type()),
+            steps,
         })
     }
 
-    #[tactic(auto, unfolding(crate::specs::Images::pair))]
+    #[tactic(auto, unfolding(crate::specs::Plans::planned_pair))]
     fn read(&self, alloc: Global, buf: &mut ParseBuf<'_>) -> Result<RowPair, Fault>
-        ensures { OrMemory result (Parses (pair self.now) result buf.old.0.now buf.new.0.now) }
+        ensures { OrMemory result (Parses (planned_pair self.now.plans) result buf.old.0.now buf.new.0.now) }
     {
-        if !self.is_supported {
+        if !self.is_whole {
             return Err(Fault::Unhandled);
         }
         let before = read_maybe(alloc, &self.before, buf)?;
@@ -152,12 +175,13 @@ impl<'a> Plans<'a> {
         alloc: Global,
         rows_data: &'d [u8],
     ) -> Result<(RowPair, &'d [u8]), Fault>
-        requires { IsSound self.now }
-        ensures { PairGives self.now rows_data.now (at_rest result) }
+        ensures pair { (t : TableMap) (e : Event) → Reads t e self.now.plans
+            → PairGives (pair t e) rows_data.now (at_rest result) }
+        ensures shrinks { IfOk result (λ r. length r.1.now < length rows_data.now) }
     {
         let mut buf = ParseBuf(rows_data);
         let pair = self.read(alloc, &mut buf)?;
-        if buf.0.len() == rows_data.len() {
+        if buf.0.len() >= rows_data.len() {
             return Err(Fault::EmptyPair);
         }
         Ok((pair, buf.0))
@@ -171,9 +195,11 @@ fn pair_from<'a>(
     columns: &mut Columns<'a>,
     rows_data: &'a [u8],
 ) -> Result<(RowPair, &'a [u8]), Fault>
-    requires { IsSound (grammar_in columns.old) }
-    ensures grammar { grammar_in columns.new ≡ grammar_in columns.old }
-    ensures pair { PairGives (grammar_in columns.old) rows_data.now (at_rest result) }
+    ensures pair { (t : TableMap) (e : Event) → Reads t e (plans_in columns.old)
+        → PairGives (pair t e) rows_data.now (at_rest result) }
+    ensures shrinks { IfOk result (λ r. length r.1.now < length rows_data.now) }
+    ensures plans { PlansKept columns.old columns.new }
+    ensures made { result ≢ Err Fault.Memory → is_planned columns.new ≡ true }
 {
     match &*columns {
         Columns::Plans(plans) => plans.next_pair(alloc, rows_data),
@@ -187,24 +213,49 @@ fn pair_from<'a>(
 }
 
 impl<'a> RowsEvent<'a> {
-    ghost use Rattle.mysql_binlog_rows.specs.Images.{grammar_of};
+    ghost use Rattle.mysql_binlog_rows.specs.Rows.{IsOf};
 
     /// Returns an iterator over the pairs of rows. `table` is the table map event that describes
     /// the columns. This call takes no memory.
     ///
-    /// The iterator ends after its first fault. The faults are `UnknownColumnType`,
-    /// `UnexpectedColumnType` and `NoColumnType` if a column has no valid type; `MissingMetadata`
-    /// if a column's metadata is too short; `UnexpectedEof` if the rows data ends within an image;
-    /// `EmptyPair` if a pair has no bytes; `Unhandled` for what isn't supported yet; `Memory` if
-    /// memory can't be allocated; and the faults of single cells, such as `DecimalGroup`.
+    /// The iterator ends after its first fault. For each image, in order: `UnexpectedEof` if the
+    /// null bits are cut; the fault of the first faulty field of the optional metadata; then, for
+    /// each column of the event in order, the faults of its type (`UnknownColumnType`,
+    /// `UnexpectedColumnType`, `NoColumnType`), of its character set, its name and its key, and,
+    /// if it is in the image and isn't NULL, of its cell: `MissingMetadata`, `UnknownEnum`,
+    /// `UnknownBlob` or `DecimalScale` for the column's metadata, `Unhandled` for a type that isn't
+    /// supported yet, `UnexpectedEof` if the cell is cut, and the faults of single types, such as
+    /// `DecimalGroup`. After the images, `EmptyPair` if they have no bytes. `Memory` if memory
+    /// can't be allocated.
     pub fn rows<'b>(&'b self, alloc: Global, table: &'b TableMapEvent<'b>) -> RowsEventRows<'b>
-        ensures grammar { result.grammar ≡ grammar_of table.now self.now }
+        ensures is_of { IsOf table.now self.now result }
         ensures left { result.left ≡ self.now.rows_data }
+        ensures waits { result.is_planned ≡ false }
+        ensures steps { result.steps ≡ 0 }
     {
         RowsEventRows {
             alloc,
             rows_data: self.rows_data(),
             columns: Columns::Events(Events { table, event: self }),
+        }
+    }
+}
+
+impl<'a> RowsEventRows<'a> {
+    /// Returns how many steps it took to find out how the columns are read: one for each field of
+    /// the optional metadata, one for each item and fault that was taken of the lists in it, and
+    /// one for each column. They are counted once for each image.
+    ///
+    /// The count is 0 before the first call of `next` with bytes left, and no later call changes
+    /// it.
+    pub fn metadata_steps(&self) -> u128
+        ensures value { result ≡ self.now.steps }
+        ensures most { result ≤ self.now.most_steps }
+        ensures least { self.now.is_planned ≡ true → slot_count self.now.plans ≤ result }
+    {
+        match &self.columns {
+            Columns::Events(_) => 0,
+            Columns::Plans(plans) => plans.steps,
         }
     }
 }

@@ -1,6 +1,6 @@
 //! The fields of optional metadata that describe the columns of rows.
 
-ghost use Rattle.std.specs.Prelude.{◌≡◌, ◌+◌, length, IfOk, IfErr, None, Some};
+ghost use Rattle.std.specs.Prelude.{◌≡◌, ◌+◌, length, IfOk, IfErr, None, Some, []};
 ghost use Rattle.binlog_base.specs.Items.{items, before_fault, first_fault};
 ghost use Rattle.binlog_base.specs.Numbers.{lenenc};
 ghost use Rattle.binlog_table.specs.Lists.{pair_with, Spends};
@@ -36,26 +36,22 @@ pub struct OptionalMetaExtractor<'a> {
     prefixed: Option<PrimaryKeysWithPrefix<'a>>,
     enum_default: Option<DefaultCharset<'a>>,
     enum_charsets: Option<ColumnCharsets<'a>>,
-    fields: u64,
 }
 
 impl<'a> Model for OptionalMetaExtractor<'a> {
-    ghost use Rattle.binlog_table.specs.Fields.{Extracted};
+    ghost use Rattle.binlog_table.specs.Fields.{Kept};
 
-    ghost Value = { Extracted };
+    ghost Value = { Kept };
 
     ghost view = { λ x. record {
-      fields = x.fields;
-      kept = record {
-        signs = x.signs;
-        default = x.default;
-        charsets = x.charsets;
-        names = x.names;
-        simple = x.simple;
-        prefixed = x.prefixed;
-        enum_default = x.enum_default;
-        enum_charsets = x.enum_charsets;
-      };
+      signs = x.signs;
+      default = x.default;
+      charsets = x.charsets;
+      names = x.names;
+      simple = x.simple;
+      prefixed = x.prefixed;
+      enum_default = x.enum_default;
+      enum_charsets = x.enum_charsets;
     } };
 }
 
@@ -63,9 +59,25 @@ impl<'a> OptionalMetaExtractor<'a> {
     /// Takes the last field of each kind. Fails with the first fault where some item is a fault.
     pub fn new(fields: OptionalMetadataIter<'a>) -> Result<OptionalMetaExtractor<'a>, Fault>
         ensures whole { IfOk result (λ _. first_fault (fields_in fields.entry) ≡ None) }
-        ensures last { IfOk result (λ x. x.kept ≡ kept (before_fault (fields_in fields.entry))) }
-        ensures count { IfOk result (λ x. x.fields ≡ fields.entry.left.taken + length (fields_in fields.entry)) }
+        ensures last { IfOk result (λ x. x ≡ kept (before_fault (fields_in fields.entry))) }
         ensures fault { IfErr result (λ e. first_fault (fields_in fields.entry) ≡ Some e) }
+    {
+        let mut fields = fields;
+        OptionalMetaExtractor::take_from(&mut fields)
+    }
+
+    /// Takes the last field of each kind from an iterator, which counts what is taken. Fails with
+    /// the first fault where some item is a fault.
+    pub fn take_from(
+        fields: &mut OptionalMetadataIter<'a>,
+    ) -> Result<OptionalMetaExtractor<'a>, Fault>
+        ensures whole { IfOk result (λ _. first_fault (fields_in fields.old) ≡ None) }
+        ensures last { IfOk result (λ x. x ≡ kept (before_fault (fields_in fields.old))) }
+        ensures count { IfOk result (λ _. fields.new.left.taken
+            ≡ fields.old.left.taken + length (fields_in fields.old)) }
+        ensures fault { IfErr result (λ e. first_fault (fields_in fields.old) ≡ Some e) }
+        ensures spends { Spends fields.old.left.taken (length fields.old.left.bytes)
+            fields.new.left.taken (length fields.new.left.bytes) }
     {
         let mut signs = None;
         let mut default = None;
@@ -75,7 +87,6 @@ impl<'a> OptionalMetaExtractor<'a> {
         let mut prefixed = None;
         let mut enum_default = None;
         let mut enum_charsets = None;
-        let mut fields = fields;
         while let Some(item) = fields.take_field() {
             match item? {
                 OptionalMetadataField::Signedness(bits) => signs = Some(bits),
@@ -104,21 +115,29 @@ impl<'a> OptionalMetaExtractor<'a> {
             prefixed,
             enum_default,
             enum_charsets,
-            fields: fields.taken(),
         })
     }
 
-    /// Returns how many fields there were.
-    pub fn fields_count(&self) -> u64
-        ensures { result ≡ self.now.fields }
+    // Returns what is kept where there are no fields.
+    pub(super) fn none() -> Self
+        ensures { result ≡ kept [] }
     {
-        self.fields
+        OptionalMetaExtractor {
+            signs: None,
+            default: None,
+            charsets: None,
+            names: None,
+            simple: None,
+            prefixed: None,
+            enum_default: None,
+            enum_charsets: None,
+        }
     }
 
     /// Returns the sign bits of the numeric columns, in order: set where a column is unsigned. There
     /// are none without such a field.
     pub fn iter_signedness(&self) -> IterSignedness<'a>
-        ensures { result ≡ list_or self.now.kept.signs }
+        ensures { result ≡ list_or self.now.signs }
     {
         match &self.signs {
             Some(bits) => bits.iter(),
@@ -128,9 +147,9 @@ impl<'a> OptionalMetaExtractor<'a> {
 
     /// Returns the character sets of the character columns, in order.
     pub fn iter_charset(&self) -> IterCharset<'a>
-        ensures start { IsStart self.now.kept.default self.now.kept.charsets result }
+        ensures start { IsStart self.now.default self.now.charsets result }
         ensures spends { Spends 0
-            (length (pair_bytes self.now.kept.default) + length (list_or self.now.kept.charsets))
+            (length (pair_bytes self.now.default) + length (list_or self.now.charsets))
             result.taken result.room }
     {
         group_of(&self.default, &self.charsets)
@@ -138,9 +157,9 @@ impl<'a> OptionalMetaExtractor<'a> {
 
     /// Returns the character sets of the ENUM and SET columns, in order.
     pub fn iter_enum_and_set_charset(&self) -> IterCharset<'a>
-        ensures start { IsStart self.now.kept.enum_default self.now.kept.enum_charsets result }
+        ensures start { IsStart self.now.enum_default self.now.enum_charsets result }
         ensures spends { Spends 0
-            (length (pair_bytes self.now.kept.enum_default) + length (list_or self.now.kept.enum_charsets))
+            (length (pair_bytes self.now.enum_default) + length (list_or self.now.enum_charsets))
             result.taken result.room }
     {
         group_of(&self.enum_default, &self.enum_charsets)
@@ -150,18 +169,18 @@ impl<'a> OptionalMetaExtractor<'a> {
     /// then those of the field with prefixes.
     pub fn iter_primary_key(&self) -> IterPrimaryKey<'a>
         ensures spends { Spends 0
-            (length (list_or self.now.kept.simple) + length (list_or self.now.kept.prefixed))
+            (length (list_or self.now.simple) + length (list_or self.now.prefixed))
             result.taken result.room }
         ensures keys { result.keys ≡ keys_left None
-            (items lenenc (list_or self.now.kept.simple))
-            (items (pair_with lenenc) (list_or self.now.kept.prefixed)) }
+            (items lenenc (list_or self.now.simple))
+            (items (pair_with lenenc) (list_or self.now.prefixed)) }
     {
         IterPrimaryKey::new(list_or_empty(&self.simple), list_or_empty(&self.prefixed))
     }
 
     /// Returns the names of the columns, in order. There are none without such a field.
     pub fn iter_column_name(&self) -> IterColumnName<'a>
-        ensures { result ≡ record { bytes = list_or self.now.kept.names; taken = 0 } }
+        ensures { result ≡ record { bytes = list_or self.now.names; taken = 0 } }
     {
         list_or_empty(&self.names)
     }

@@ -1,6 +1,6 @@
 use Rattle.std.proofs.Common.{◌≡◌, Bool, true, false, Ok, get_or, ap, sym, ◌∙◌, arith}
 use Rattle.std.proofs.lemmas.Result.{err_from_is_err_and}
-use Rattle.mysql_binlog_rows.specs.Images.{Slot, nullable_cell}
+use Rattle.mysql_binlog_rows.specs.Plans.{Slot, slot_cell}
 use Rattle.mysql_binlog_rows.specs.Cells.{cell_of}
 use Rattle.std.proofs.lemmas.List.{map-append}
 use Rattle.mysql_binlog_rows.proofs.Loop.{goes_absent, goes_on, stops, all_well, all_ill}
@@ -20,8 +20,8 @@ loop-slot-preserved c =
         place = omega arith;
         so_far =
             let present : c.slot-item.result.present ≡ true = ap (λ (s : Slot). s.present) (sym c.slot.view_is) ∙ w.if-slot.true in
-            let read : (nullable_cell (get_or c.args.nulls.now c.loop-slot.place false) c.slot-item.result).parse c.loop-slot.buf.0.now ≡ Ok (cell_of w.in_ok-value.value, w.read_nullable_cell.new.buf.0.now) =
-            ap (λ (b : Bool). (nullable_cell b c.slot-item.result).parse c.loop-slot.buf.0.now) (sym w.is_set.ensures) ∙ w.in_ok-value.ensures in
+            let read : (slot_cell (get_or c.args.nulls.now c.loop-slot.place false) c.slot-item.result).parse c.loop-slot.buf.0.now ≡ Ok (cell_of w.in_ok-value.value, w.read_nullable_cell.new.buf.0.now) =
+            ap (λ (b : Bool). (slot_cell b c.slot-item.result).parse c.loop-slot.buf.0.now) (sym w.is_set.ensures) ∙ w.in_ok-value.ensures in
             rw (w.values-is, w.buf-is, w.place-is, w.in_ok-push.ensures.items, map-append)
             (goes_on _ c.args.slots.now c.args.end c.args.nulls.now c.loop-slot.slot-index c.loop-slot.place c.loop-slot.buf.0.now w.read_nullable_cell.new.buf.0.now c.slot-item.result (cell_of w.in_ok-value.value) _
             c.loop-slot-test.true c.slot-item.is present read c.loop-slot.invariant.so_far);
@@ -43,5 +43,5 @@ returns-in_err-value c =
     rw (p.1, p.2) (λ other.
     stops _ c.args.slots.now c.args.end c.args.nulls.now c.loop-slot.slot-index c.loop-slot.place c.loop-slot.buf.0.now c.slot-item.result _ _
     c.loop-slot-test.true c.slot-item.is present
-    (ap (λ (b : Bool). (nullable_cell b c.slot-item.result).parse c.loop-slot.buf.0.now) (sym c.is_set.ensures) ∙ c.in_err-value.ensures other)
+    (ap (λ (b : Bool). (slot_cell b c.slot-item.result).parse c.loop-slot.buf.0.now) (sym c.is_set.ensures) ∙ c.in_err-value.ensures other)
     c.loop-slot.invariant.so_far)

@@ -1,12 +1,12 @@
 use Rattle.std.proofs.Common.{◌≡◌, ◌≤◌, drop, map}
 use Rattle.std.specs.Option.{option_map}
 use Rattle.mysql_binlog_rows.specs.Cells.{cell_of}
-use Rattle.mysql_binlog_rows.specs.Images.{cells}
+use Rattle.mysql_binlog_rows.specs.Plans.{slot_cells}
 use Rattle.mysql_binlog_rows.proofs.Loop.{with_front}
 use Rattle.mysql_binlog_rows.proofs.row.plan.read_cells.Given as goal
 
 abbrev pub invariant-loop-slot : goal.invariant-loop-slot
 invariant-loop-slot l = record {
   place : l.place ≤ l.slot-index;
-  so_far : with_front (map (option_map cell_of) l.values.items) ((cells (drop l.slot-index l.slots) l.end (drop l.place l.nulls)).parse l.buf.0.now) ≡ (cells l.slots l.end l.nulls).parse l.fn.buf.0.now;
+  so_far : with_front (map (option_map cell_of) l.values.items) ((slot_cells (drop l.slot-index l.slots) l.end (drop l.place l.nulls)).parse l.buf.0.now) ≡ (slot_cells l.slots l.end l.nulls).parse l.fn.buf.0.now;
 }

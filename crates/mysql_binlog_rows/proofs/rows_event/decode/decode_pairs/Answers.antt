@@ -1,7 +1,5 @@
 use Rattle.std.proofs.Common.{None, sym, inl, inr}
 use Rattle.std.proofs.lemmas.Result.{err_from_is_err_and, IfOk-weaker, IfErr-weaker}
-use Rattle.binlog_table.specs.Lemmas.TableMap.{exact_table_map}
-use Rattle.mysql_binlog_rows.specs.Lemmas.RowsEvent.{exact_rows_event}
 use Rattle.mysql_binlog_rows.proofs.Runs.{decoded_one, all_decode, table_refused, event_refused, none_refused}
 use Rattle.mysql_binlog_rows.proofs.rows_event.decode.decode_pairs.Goals as goal
 

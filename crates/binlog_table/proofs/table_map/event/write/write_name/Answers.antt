@@ -2,7 +2,7 @@ use Rattle.std.proofs.Common.{◌≡◌, [], ◌∷◌, ◌++◌, take, ap, ◌�
 use Rattle.std.proofs.lemmas.List.{take_all}
 use Rattle.std.proofs.lemmas.Result.{err_from_is_err_and}
 use Rattle.binlog_base.specs.Strings.{u8_string_bytes}
-use Rattle.binlog_base.specs.Writing.{Begins, Appends}
+use Rattle.binlog_base.specs.Writing.{Begins}
 use Rattle.binlog_base.proofs.Appending.{begins_more, appends_then}
 use Rattle.binlog_table.specs.TableMapWritten.{name_bytes}
 use Rattle.binlog_table.proofs.table_map.event.write.write_name.Goals as goal

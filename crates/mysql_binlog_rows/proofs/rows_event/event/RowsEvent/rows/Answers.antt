@@ -1,5 +1,10 @@
-use Rattle.mysql_binlog_rows.specs.Lemmas.Images.{grammar_sound}
+use Rattle.std.proofs.Common.{arith}
+use Rattle.mysql_binlog_rows.proofs.PlanReads.{plans_read, slots_least}
 use Rattle.mysql_binlog_rows.proofs.rows_event.event.RowsEvent.rows.Goals as goal
 
-pub invariant_of-result : goal.invariant_of-result
-invariant_of-result c = grammar_sound c.args.table.now c.args.self.now
+pub returns-clause-is_of : goal.returns-clause-is_of
+returns-clause-is_of c = record {
+  reads = plans_read c.args.table.now c.args.self.now;
+  most = omega arith;
+  least = slots_least c.args.table.now c.args.self.now c.rows_data.ensures.event;
+}

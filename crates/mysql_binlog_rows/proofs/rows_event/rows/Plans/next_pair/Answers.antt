@@ -1,15 +1,23 @@
-use Rattle.std.proofs.Common.{arith}
+use Rattle.std.proofs.Common.{sym, ◌∙◌, arith}
 use Rattle.std.proofs.lemmas.Result.{err_from_is_err_and}
+use Rattle.mysql_binlog_rows.specs.Images.{pair}
+use Rattle.mysql_binlog_rows.specs.Lemmas.Images.{exact_pair}
 use Rattle.mysql_binlog_rows.proofs.Pairs.{pair_found, empty_pair, no_pair}
 use Rattle.mysql_binlog_rows.proofs.rows_event.rows.Plans.next_pair.Goals as goal
 
 pub returns-in_err-pair : goal.returns-in_err-pair
 returns-in_err-pair c =
     let p = err_from_is_err_and c.from_residual.result c.from_residual.ensures.1 in
-    rw (p.1, p.2) (λ other. no_pair c.args.self.now c.requires c.args.rows_data.now _ (c.in_err-pair.ensures other))
+    rw (p.1, p.2) (record {
+      pair = λ t e reads other. no_pair (pair t e) (exact_pair t e) c.args.rows_data.now _ (sym (reads c.args.rows_data.now) ∙ c.in_err-pair.ensures other);
+      shrinks = tt;
+    })
 
 pub returns-then-buf-rows_data : goal.returns-then-buf-rows_data
-returns-then-buf-rows_data c = λ other. empty_pair c.args.self.now c.requires c.args.rows_data.now c.read.new.buf.0.now c.in_ok-pair.pair c.in_ok-pair.ensures (omega arith)
+returns-then-buf-rows_data c = record {
+  pair = λ t e reads other. empty_pair (pair t e) (exact_pair t e) c.args.rows_data.now c.read.new.buf.0.now c.in_ok-pair.pair (sym (reads c.args.rows_data.now) ∙ c.in_ok-pair.ensures) (omega arith);
+  shrinks = tt;
+}
 
-pub returns : goal.returns
-returns c = pair_found c.args.self.now c.requires c.args.rows_data.now c.read.new.buf.0.now c.in_ok-pair.pair c.in_ok-pair.ensures (omega arith)
+pub returns-clause-pair : goal.returns-clause-pair
+returns-clause-pair c = λ t e reads. pair_found (pair t e) (exact_pair t e) c.args.rows_data.now c.read.new.buf.0.now c.in_ok-pair.pair (sym (reads c.args.rows_data.now) ∙ c.in_ok-pair.ensures) (omega arith)

@@ -1,0 +1,197 @@
+-- Column by column: what is left of the lists tells of the columns that are left what the definitions tell.
+use Rattle.std.proofs.Common.{◌≡◌, ℕ, zero, suc, ◌+◌, ◌<◌, Bool, true, false, cond, ◌&&◌, eqb, List, [], ◌∷◌, length, take, Option, Some, None, Result, Ok, Err, refl, sym, ap, subst, ◌∙◌, arith}
+use Rattle.std.specs.Prelude.{◌==◌, slice_get, slice_index_or}
+use Rattle.std.proofs.lemmas.List.Sums.{sum_by-cons}
+use Rattle.binlog_base.specs.declared.fault.Fault.{Fault}
+use Rattle.binlog_base.specs.declared.below.columns.column_type.ColumnType.{ColumnType}
+use Rattle.binlog_base.specs.Numbers.{lenenc}
+use Rattle.binlog_base.specs.Strings.{lenenc_string}
+use Rattle.binlog_base.specs.Items.{items}
+use Rattle.binlog_base.specs.ColumnTypes.{is_character, is_enum_or_set}
+use Rattle.binlog_table.specs.Lists.{DefaultCharset}
+use Rattle.binlog_table.specs.declared.table_map.optional.columns.Walk.{Walk}
+use Rattle.binlog_table.specs.ColumnTypes.{json_count}
+use Rattle.binlog_table.specs.Fields.{Kept, is_numeric_number, numeric_count}
+use Rattle.binlog_table.specs.CharsetsLeft.{CharsetsLeft, row_charset}
+use Rattle.binlog_table.specs.TableColumns.{Column, Parts, column_by, column_then, columns_by, named, is_numeric_at, sign_in, one_more, ordinal_of, charset_by, charset_of_group, type_at, column_at, unless_faulty, table_columns}
+use Rattle.binlog_table.specs.Extracted.{IsStart, list_or, kept_of, field_fault}
+use Rattle.binlog_table.specs.ColumnsLeft.{parts_left, columns_left, Follows, Advances, bits_after_first, bit_here, bits_after, sign_left, type_left}
+use Rattle.binlog_table.specs.Chunks.{chunk_at, chunk_left}
+use Rattle.binlog_table.specs.TableMap.{TableMap}
+use Rattle.binlog_table.specs.Lists.{pair_with}
+use Rattle.binlog_table.specs.Keys.{key_at as key_in}
+use Rattle.binlog_table.specs.KeysLeft.{keys_left, key_from}
+use Rattle.binlog_table.proofs.KeyByKey.{key_later, keys_of_table}
+use Rattle.binlog_table.proofs.CharsetByCharset.{charsets_of_table}
+
+-- ---- columns by their parts
+
+column_is : (p q : Parts) (i j : ℕ) → q.type j ≡ p.type i → q.chunk j ≡ p.chunk i → q.sign j ≡ p.sign i → q.charset j ≡ p.charset i → q.name j ≡ p.name i
+    → q.key j ≡ p.key i → q.json_place j ≡ p.json_place i → column_by q j ≡ column_by p i
+column_is p q i j type chunk sign charset name key json = rw (type, chunk, sign, charset, name, key, json) refl
+
+columns_same : (f g : ℕ → Result Column Fault) (n : ℕ) → ((j : ℕ) → f j ≡ g j) → columns_by f n ≡ columns_by g n
+columns_same f g zero h = refl
+columns_same f g (suc n) h = rw (h 0, columns_same (λ j. f (suc j)) (λ j. g (suc j)) n (λ j. h (suc j))) refl
+
+-- each is at its place
+in_place : (r x : Result Column Fault) (more : List (Result Column Fault)) (i : ℕ) → slice_get (column_then r more) (suc i) ≡ Some x → slice_get more i ≡ Some x
+in_place (Ok c) x more i h = h
+in_place (Err e) x more i h = absurd cc
+
+first_place : (r x : Result Column Fault) (more : List (Result Column Fault)) → slice_get (column_then r more) 0 ≡ Some x → x ≡ r
+first_place (Ok c) x more h = cc
+first_place (Err e) x more h = cc
+
+pub column_in_place : (f : ℕ → Result Column Fault) (n i : ℕ) (x : Result Column Fault) → slice_get (columns_by f n) i ≡ Some x → x ≡ f i
+column_in_place f zero i x h = absurd cc
+column_in_place f (suc n) zero x h = first_place (f 0) x (columns_by (λ j. f (suc j)) n) h
+column_in_place f (suc n) (suc i) x h = column_in_place (λ j. f (suc j)) n i x (in_place (f 0) x (columns_by (λ j. f (suc j)) n) i h)
+
+in_table : (fault : Option Fault) (f : ℕ → Result Column Fault) (n i : ℕ) (x : Result Column Fault) → slice_get (unless_faulty fault (columns_by f n)) i ≡ Some x → x ≡ f i
+in_table None f n i x h = column_in_place f n i x h
+in_table (Some e) f n i x h = absurd cc
+
+pub table_column_in_place : (t : TableMap) (i : ℕ) (x : Result Column Fault) → slice_get (table_columns t) i ≡ Some x → x ≡ column_at t i
+table_column_in_place t i x h = in_table (field_fault t) (column_at t) (length t.types) i x h
+
+-- one column, and those after it
+columns_next : (p q : Parts) (n m : ℕ) (c : Column) → n ≡ m + 1 → column_by p 0 ≡ Ok c → Follows p q → columns_by (column_by p) n ≡ Ok c ∷ columns_by (column_by q) m
+columns_next p q n m c e h f =
+    let n-is : n ≡ suc m = omega (arith, e) in
+    rw (n-is, h) (ap (λ (l : List (Result Column Fault)). Ok c ∷ l)
+    (columns_same (λ j. column_by p (suc j)) (column_by q) m (λ j. sym (column_is p q (suc j) j (f.type j) (f.chunk j) (f.sign j) (f.charset j) (f.name j) (f.key j) (f.json_place j)))))
+
+columns_fault : (p : Parts) (n : ℕ) (e : Fault) → 0 < n → column_by p 0 ≡ Err e → columns_by (column_by p) n ≡ Err e ∷ []
+columns_fault p zero e lt h = absurd (omega (arith, lt))
+columns_fault p (suc n) e lt h = rw h refl
+
+-- the same of a walk
+pub walk_next : (v w : Walk) (c : Column) → length v.types.now ≡ length w.types.now + 1 → column_by (parts_left v) 0 ≡ Ok c → Follows (parts_left v) (parts_left w) → columns_left v ≡ Ok c ∷ columns_left w
+unfolding columns_left
+walk_next v w c e h f = columns_next (parts_left v) (parts_left w) (length v.types.now) (length w.types.now) c e h f
+
+pub walk_fault : (v : Walk) (e : Fault) → 0 < length v.types.now → column_by (parts_left v) 0 ≡ Err e → columns_left v ≡ Err e ∷ []
+unfolding columns_left
+walk_fault v e lt h = columns_fault (parts_left v) (length v.types.now) e lt h
+
+pub walk_end : (v : Walk) → length v.types.now ≡ 0 → columns_left v ≡ []
+unfolding columns_left
+walk_end v h = rw h refl
+
+-- ---- each part, one column on
+
+pub named_later : (xs ys : List (Result (List ℕ) Fault)) (x : Result (List ℕ) Fault) → xs ≡ x ∷ ys → (j : ℕ) → named ys j ≡ named xs (suc j)
+named_later xs ys x h j = rw h refl
+
+pub named_none : (xs ys : List (Result (List ℕ) Fault)) → xs ≡ [] → ys ≡ [] → (j : ℕ) → named ys j ≡ named xs (suc j)
+named_none xs ys h k j = rw (h, k) refl
+
+pub sign_later : (raw : ℕ) (rest all : List ℕ) (old new : List Bool) → all ≡ raw ∷ rest → new ≡ bits_after (is_numeric_number raw) old → (j : ℕ) → sign_left rest new j ≡ sign_left all old (suc j)
+sign_later raw rest all old new e h j = rw (e, h) refl
+
+pub json_later : (n m raw : ℕ) (rest all : List ℕ) → all ≡ raw ∷ rest → m ≡ n + cond (eqb raw 245) 1 0 → (j : ℕ) → m + json_count (take j rest) ≡ n + json_count (take (suc j) all)
+json_later n m raw rest all e h j =
+    let counted : json_count (raw ∷ take j rest) ≡ cond (eqb raw 245) 1 0 + json_count (take j rest) = sum_by-cons (λ x. cond (x == 245) 1 0) raw (take j rest) in
+    rw (e, h, counted) (omega arith)
+
+advance_at : (b : Bool) (f g : ℕ → Result ℕ Fault) → Advances b f g → (n : ℕ) → g n ≡ f (one_more b n)
+advance_at true f g h n = h n
+advance_at false f g h n = h n
+
+ordinal_same : (group : ColumnType → Bool) (s t : ℕ → Result ColumnType Fault) → ((j : ℕ) → s j ≡ t j) → (j : ℕ) → ordinal_of group s j ≡ ordinal_of group t j
+ordinal_same group s t h zero = refl
+ordinal_same group s t h (suc j) = rw (h 0, ordinal_same group (λ k. s (suc k)) (λ k. t (suc k)) (λ k. h (suc k)) j) refl
+
+pub charset_later : (f g f' g' : ℕ → Result ℕ Fault) (s t : ℕ → Result ColumnType Fault) (type : ColumnType) → s 0 ≡ Ok type → ((j : ℕ) → t j ≡ s (suc j))
+    → Advances (is_character type) f f' → Advances (is_enum_or_set type) g g' → (j : ℕ) → charset_by f' g' t j ≡ charset_by f g s (suc j)
+charset_later f g f' g' s t type first h ff gg j =
+    let c : ordinal_of is_character t j ≡ ordinal_of is_character (λ k. s (suc k)) j = ordinal_same is_character t (λ k. s (suc k)) h j in
+    let e : ordinal_of is_enum_or_set t j ≡ ordinal_of is_enum_or_set (λ k. s (suc k)) j = ordinal_same is_enum_or_set t (λ k. s (suc k)) h j in
+    rw (h j, c, e, first, advance_at (is_character type) f f' ff (ordinal_of is_character (λ k. s (suc k)) j), advance_at (is_enum_or_set type) g g' gg (ordinal_of is_enum_or_set (λ k. s (suc k)) j)) refl
+
+-- ---- at the first column
+
+first_sign : (b : Bool) (bits : List Bool) → bit_here b bits ≡ b && slice_index_or bits 0 false
+first_sign true [] = refl
+first_sign true (x ∷ bits) = refl
+first_sign false bits = refl
+
+later_bit : (bits : List Bool) (k : ℕ) → slice_index_or (bits_after_first bits) k false ≡ slice_index_or bits (suc k) false
+later_bit [] k = refl
+later_bit (b ∷ bits) k = refl
+
+later_at : (n b : Bool) (bits : List Bool) (k : ℕ) → n && slice_index_or (bits_after b bits) k false ≡ n && slice_index_or bits (cond b 1 0 + k) false
+later_at n true bits k = let one : 1 + k ≡ suc k = omega arith in rw (one, later_bit bits k) refl
+later_at n false bits k = let none : 0 + k ≡ k = omega arith in rw none refl
+
+pub sign_law : (types : List ℕ) (bits : List Bool) (i : ℕ) → sign_left types bits i ≡ sign_in types bits i
+sign_law [] bits i = refl
+sign_law (raw ∷ types) bits zero = first_sign (is_numeric_number raw) bits
+sign_law (raw ∷ types) bits (suc i) = sign_law types (bits_after (is_numeric_number raw) bits) i ∙ later_at (is_numeric_at types i) (is_numeric_number raw) bits (numeric_count (take i types)) ∙
+    ap (λ (k : ℕ). is_numeric_at types i && slice_index_or bits k false) (sym (sum_by-cons (λ x. cond (is_numeric_number x) 1 0) raw (take i types)))
+
+group_start : (c : CharsetsLeft) (d : Option DefaultCharset) (list : Option (List ℕ)) → IsStart d list c → (k : ℕ) → row_charset c k ≡ charset_of_group d list k
+group_start c d list s k = charsets_of_table c s.ordinal k ∙ rw (s.default, s.pairs, s.list) refl
+
+pub columns_start : (p q : Parts) (n : ℕ) → ((j : ℕ) → q.type j ≡ p.type j) → ((j : ℕ) → q.chunk j ≡ p.chunk j) → ((j : ℕ) → q.sign j ≡ p.sign j) → ((j : ℕ) → q.charset j ≡ p.charset j)
+    → ((j : ℕ) → q.name j ≡ p.name j) → ((j : ℕ) → q.key j ≡ p.key j) → ((j : ℕ) → q.json_place j ≡ p.json_place j) → columns_by (column_by q) n ≡ columns_by (column_by p) n
+columns_start p q n type chunk sign charset name key json =
+    columns_same (column_by q) (column_by p) n (λ j. column_is p q j j (type j) (chunk j) (sign j) (charset j) (name j) (key j) (json j))
+
+pub charset_start : (c e : CharsetsLeft) (d ed : Option DefaultCharset) (list elist : Option (List ℕ)) (s t : ℕ → Result ColumnType Fault) → IsStart d list c → IsStart ed elist e
+    → ((j : ℕ) → s j ≡ t j) → (j : ℕ) → charset_by (row_charset c) (row_charset e) s j ≡ charset_by (charset_of_group d list) (charset_of_group ed elist) t j
+charset_start c e d ed list elist s t sc se h j =
+    rw (
+      h j,
+      ordinal_same is_character s t h j,
+      ordinal_same is_enum_or_set s t h j,
+      group_start c d list sc (ordinal_of is_character t j),
+      group_start e ed elist se (ordinal_of is_enum_or_set t j),
+    ) refl
+
+-- ---- a walk
+
+pub walk_follows : (v w : Walk) (raw : ℕ) (type : ColumnType) → v.types.now ≡ raw ∷ w.types.now → type_left v 0 ≡ Ok type
+    → ((j : ℕ) → chunk_left w.chunks j ≡ chunk_left v.chunks (suc j)) → w.signs ≡ bits_after (is_numeric_number raw) v.signs
+    → Advances (is_character type) (row_charset v.characters) (row_charset w.characters) → Advances (is_enum_or_set type) (row_charset v.enums) (row_charset w.enums)
+    → ((j : ℕ) → named (items lenenc_string w.names.bytes) j ≡ named (items lenenc_string v.names.bytes) (suc j))
+    → w.column ≡ v.column + 1 → ((i : ℕ) → v.column < i → key_from (suc v.column) w.keys.keys i ≡ key_from v.column v.keys.keys i)
+    → w.json_place ≡ v.json_place + cond (eqb raw 245) 1 0 → Follows (parts_left v) (parts_left w)
+unfolding parts_left
+walk_follows v w raw type types first chunks signs characters enums names column keys json =
+    let types_later : (j : ℕ) → type_left w j ≡ type_left v (suc j) = λ j. rw (types, chunks j) refl in
+    record {
+      type = types_later;
+      chunk = chunks;
+      sign = sign_later raw w.types.now v.types.now v.signs w.signs types signs;
+      charset = charset_later (row_charset v.characters) (row_charset v.enums) (row_charset w.characters) (row_charset w.enums) (type_left v) (type_left w) type first types_later characters enums;
+      name = names;
+      key = λ j. rw column (key_later v.column v.keys.keys w.keys.keys keys j);
+      json_place = json_later v.json_place w.json_place raw w.types.now v.types.now types json;
+    }
+
+-- what the kept fields tell
+abbrev parts_with : TableMap → Kept → Parts
+parts_with t k = record {
+  type = type_at t;
+  chunk = chunk_at t.types t.metadata;
+  sign = λ i. sign_in t.types (list_or k.signs) i;
+  charset = λ i. charset_by (charset_of_group k.default k.charsets) (charset_of_group k.enum_default k.enum_charsets) (type_at t) i;
+  name = λ i. named (items lenenc_string (list_or k.names)) i;
+  key = λ i. key_in (keys_left None (items lenenc (list_or k.simple)) (items (pair_with lenenc) (list_or k.prefixed))) i;
+  json_place = λ i. json_count (take i t.types);
+}
+
+pub walk_start : (w : Walk) (t : TableMap) (k : Kept) → k ≡ kept_of t → w.types.now ≡ t.types → w.chunks ≡ record { types = t.types; metadata = Some t.metadata } → w.signs ≡ list_or k.signs
+    → IsStart k.default k.charsets w.characters → IsStart k.enum_default k.enum_charsets w.enums → w.names ≡ record { bytes = list_or k.names; taken = 0 }
+    → w.keys.keys ≡ keys_left None (items lenenc (list_or k.simple)) (items (pair_with lenenc) (list_or k.prefixed)) → w.column ≡ 0 → w.json_place ≡ 0
+    → columns_left w ≡ columns_by (column_at t) (length t.types)
+unfolding columns_left parts_left column_at
+walk_start w t k is types chunks signs characters enums names keys column json =
+    let types_same : (j : ℕ) → type_left w j ≡ type_at t j = λ j. rw (types, chunks) refl in
+    subst (λ (x : Kept). columns_by (column_by (parts_left w)) (length w.types.now) ≡ columns_by (column_by (parts_with t x)) (length t.types)) is
+    (ap (λ (n : ℕ). columns_by (column_by (parts_left w)) n) (ap length types) ∙
+    columns_start (parts_with t k) (parts_left w) (length t.types) types_same (λ j. rw chunks refl) (λ j. rw (types, signs) (sign_law t.types (list_or k.signs) j))
+    (charset_start w.characters w.enums k.default k.enum_default k.charsets k.enum_charsets (type_left w) (type_at t) characters enums types_same)
+    (λ j. rw names refl) (λ j. rw (column, keys) (keys_of_table _ j)) (λ j. rw (json, types) (omega arith)))

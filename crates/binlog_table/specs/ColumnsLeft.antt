@@ -1,0 +1,94 @@
+-- The columns that are left, as they are visited in order.
+use Rattle.std.specs.Prelude.{◌≡◌, ℕ, zero, suc, ◌+◌, ◌<◌, ◌^◌, Bool, true, false, List, [], ◌∷◌, length, take, Result, Ok, slice_get, if◌then◌else◌}
+use Rattle.std.specs.Option.{option_map}
+use Rattle.binlog_base.specs.declared.fault.Fault.{Fault}
+use Rattle.binlog_base.specs.declared.below.columns.column_type.ColumnType.{ColumnType}
+use Rattle.binlog_base.specs.Strings.{lenenc_string}
+use Rattle.binlog_base.specs.Items.{items}
+use Rattle.binlog_base.specs.ColumnTypes.{is_character, is_enum_or_set}
+use Rattle.binlog_table.specs.declared.table_map.optional.columns.Walk.{Walk}
+use Rattle.binlog_table.specs.declared.table_map.optional.columns.TableColumn.{TableColumn}
+use Rattle.binlog_table.specs.Chunks.{chunk_left}
+use Rattle.binlog_table.specs.ColumnTypes.{raw_type_of, real_type_of, json_count}
+use Rattle.binlog_table.specs.Fields.{is_numeric_number}
+use Rattle.binlog_table.specs.KeysLeft.{key_left}
+use Rattle.binlog_table.specs.CharsetsLeft.{row_charset}
+use Rattle.binlog_table.specs.TableColumns.{Column, Parts, column_by, columns_by, typed, named, charset_by}
+
+abbrev pub seen_column : TableColumn → Column
+seen_column c = record { column_type = c.column_type; metadata = option_map (λ m. m.now) c.metadata; unsigned = c.unsigned; charset = c.charset; name = c.name; is_key = c.is_key; json_place = c.json_place }
+
+-- a bit at the start, and those after it
+abbrev pub first_bit : List Bool → Bool
+first_bit [] = false
+first_bit (b ∷ bits) = b
+
+abbrev pub bits_after_first : List Bool → List Bool
+bits_after_first [] = []
+bits_after_first (b ∷ bits) = bits
+
+-- the sign of the column j places after, by the raw types and the sign bits that are left
+abbrev pub bits_after : Bool → List Bool → List Bool
+bits_after true bits = bits_after_first bits
+bits_after false bits = bits
+
+abbrev pub bit_here : Bool → List Bool → Bool
+bit_here true bits = first_bit bits
+bit_here false bits = false
+
+abbrev pub sign_left : List ℕ → List Bool → ℕ → Bool
+sign_left [] bits j = false
+sign_left (raw ∷ types) bits zero = bit_here (is_numeric_number raw) bits
+sign_left (raw ∷ types) bits (suc j) = sign_left types (bits_after (is_numeric_number raw) bits) j
+
+abbrev pub type_left : Walk → ℕ → Result ColumnType Fault
+type_left w j = typed (real_type_of (raw_type_of (slice_get w.types.now j)) (chunk_left w.chunks j))
+
+-- the parts of the columns that are left, each by how far the column is from the next one
+unfoldable pub parts_left : Walk → Parts
+parts_left w = record {
+  type = type_left w;
+  chunk = chunk_left w.chunks;
+  sign = sign_left w.types.now w.signs;
+  charset = charset_by (row_charset w.characters) (row_charset w.enums) (type_left w);
+  name = named (items lenenc_string w.names.bytes);
+  key = key_left w.column w.keys.keys;
+  json_place = λ j. w.json_place + json_count (take j w.types.now);
+}
+
+-- Behind the first column the one tells what the other tells.
+pub record Follows (p q : Parts) : Type 0 where
+  pub type : (j : ℕ) → q.type j ≡ p.type (suc j)
+  pub chunk : (j : ℕ) → q.chunk j ≡ p.chunk (suc j)
+  pub sign : (j : ℕ) → q.sign j ≡ p.sign (suc j)
+  pub charset : (j : ℕ) → q.charset j ≡ p.charset (suc j)
+  pub name : (j : ℕ) → q.name j ≡ p.name (suc j)
+  pub key : (j : ℕ) → q.key j ≡ p.key (suc j)
+  pub json_place : (j : ℕ) → q.json_place j ≡ p.json_place (suc j)
+
+-- the charset of a column of a type, by those of the next ordinals of the groups
+abbrev pub charset_here : ColumnType → Result ℕ Fault → Result ℕ Fault → Result ℕ Fault
+charset_here type character enum = if is_character type then character else (if is_enum_or_set type then enum else Ok 0)
+
+-- a group of which a column was asked, if it is in the group
+abbrev pub Advances : Bool → (ℕ → Result ℕ Fault) → (ℕ → Result ℕ Fault) → Type 0
+Advances true f g = (k : ℕ) → g k ≡ f (suc k)
+Advances false f g = (k : ℕ) → g k ≡ f k
+
+-- the steps so far: one for each field, for each item of its lists, and for each column; and the most
+-- that there can be without a further column, each item taking at least a byte
+abbrev pub steps_of : Walk → ℕ
+steps_of w = w.fields + w.column + w.names.taken + w.keys.taken + w.characters.taken + w.enums.taken
+
+abbrev pub most_of : Walk → ℕ
+most_of w = w.fields + w.column + (w.names.taken + length w.names.bytes) + (w.keys.taken + w.keys.room) + (w.characters.taken + w.characters.room) + (w.enums.taken + w.enums.room)
+
+-- the counts fit, whatever is left
+pub record HasRoom (w : Walk) : Type 0 where
+  pub characters : w.characters.ordinal + length w.types.now < 2 ^ 64
+  pub enums : w.enums.ordinal + length w.types.now < 2 ^ 64
+  pub column : w.column + length w.types.now < 2 ^ 64
+  pub json_place : w.json_place + length w.types.now < 2 ^ 64
+
+unfoldable pub columns_left : Walk → List (Result Column Fault)
+columns_left w = columns_by (column_by (parts_left w)) (length w.types.now)

@@ -1,0 +1,139 @@
+-- The columns of a table, by its table map event.
+use Rattle.std.specs.Prelude.{ℕ, zero, suc, ◌&&◌, Bool, true, false, List, [], ◌∷◌, length, take, Result, Ok, Err, Option, Some, None, slice_index_or, if◌then◌else◌}
+use Rattle.std.specs.Option.{option_map}
+use Rattle.binlog_base.specs.declared.fault.Fault.{Fault}
+use Rattle.binlog_base.specs.declared.fault.Fault.TheVariants.{NoColumnType}
+use Rattle.binlog_base.specs.declared.below.columns.column_type.ColumnType.{ColumnType}
+use Rattle.binlog_base.specs.Format.{◌>>=◌}
+use Rattle.binlog_base.specs.Numbers.{lenenc}
+use Rattle.binlog_base.specs.Strings.{lenenc_string}
+use Rattle.binlog_base.specs.Items.{items, result_map}
+use Rattle.binlog_base.specs.ColumnTypes.{is_character, is_enum_or_set}
+use Rattle.binlog_table.specs.declared.table_map.bad_column_type.BadColumnType.{BadColumnType}
+use Rattle.binlog_table.specs.TableMap.{TableMap}
+use Rattle.binlog_table.specs.Chunks.{chunk_at}
+use Rattle.binlog_table.specs.ColumnTypes.{column_type_at, json_count, fault_of}
+use Rattle.binlog_table.specs.Lists.{DefaultCharset, low_bits, pair_with}
+use Rattle.binlog_table.specs.Fields.{is_numeric_number, numeric_count}
+use Rattle.binlog_table.specs.Keys.{key_at as key_in}
+use Rattle.binlog_table.specs.KeysLeft.{keys_left}
+use Rattle.binlog_table.specs.Charsets.{charset_at as charset_in, zero_without}
+use Rattle.binlog_table.specs.Extracted.{list_or, pairs_or, kept_of, field_fault}
+
+-- a column
+pub record Column : Type 0 where
+  pub column_type : ColumnType
+  pub metadata : Option (List ℕ)
+  pub unsigned : Bool
+  pub charset : ℕ
+  pub name : Option (List ℕ)
+  pub is_key : Bool
+  pub json_place : ℕ
+
+-- the parts of the columns, each by the number of the column
+pub record Parts : Type 0 where
+  pub type : ℕ → Result ColumnType Fault
+  pub chunk : ℕ → Option (List ℕ)
+  pub sign : ℕ → Bool
+  pub charset : ℕ → Result ℕ Fault
+  pub name : ℕ → Result (Option (List ℕ)) Fault
+  pub key : ℕ → Result Bool Fault
+  pub json_place : ℕ → ℕ
+
+-- column i, or its first fault: of its type, its charset, its name, its key
+abbrev pub column_by : Parts → ℕ → Result Column Fault
+column_by p i =
+    p.type i >>= λ type. p.charset i >>= λ charset. p.name i >>= λ name. p.key i >>= λ is_key.
+    Ok (record { column_type = type; metadata = p.chunk i; unsigned = p.sign i; charset = charset; name = name; is_key = is_key; json_place = p.json_place i })
+
+-- A walk over the columns: the fault of the optional metadata, the columns that are left, the steps
+-- that were made, and how many there can be if no further column is taken.
+pub record ToCome : Type 0 where
+  pub fault : Option Fault
+  pub columns : List (Result Column Fault)
+  pub steps : ℕ
+  pub most : ℕ
+
+-- the first n columns, in order, up to the first fault
+abbrev pub column_then : Result Column Fault → List (Result Column Fault) → List (Result Column Fault)
+column_then (Ok c) more = Ok c ∷ more
+column_then (Err e) more = Err e ∷ []
+
+abbrev pub columns_by : (ℕ → Result Column Fault) → ℕ → List (Result Column Fault)
+columns_by f zero = []
+columns_by f (suc n) = column_then (f 0) (columns_by (λ i. f (suc i)) n)
+
+-- ---- one part after another
+
+abbrev pub typed : Result (Option ColumnType) BadColumnType → Result ColumnType Fault
+typed (Ok (Some type)) = Ok type
+typed (Ok None) = Err NoColumnType
+typed (Err e) = Err (fault_of e)
+
+-- the i-th name, if there are so many
+abbrev pub named : List (Result (List ℕ) Fault) → ℕ → Result (Option (List ℕ)) Fault
+named [] i = Ok None
+named (x ∷ xs) zero = result_map Some x
+named (x ∷ xs) (suc i) = named xs i
+
+abbrev pub is_numeric_at : List ℕ → ℕ → Bool
+is_numeric_at [] i = false
+is_numeric_at (raw ∷ types) zero = is_numeric_number raw
+is_numeric_at (raw ∷ types) (suc i) = is_numeric_at types i
+
+-- the k-th numeric column has the k-th bit
+abbrev pub sign_in : List ℕ → List Bool → ℕ → Bool
+sign_in types bits i = is_numeric_at types i && slice_index_or bits (numeric_count (take i types)) false
+
+-- the place of column i in a group of types: how many columns before it are in the group
+abbrev pub in_group : (ColumnType → Bool) → Result ColumnType Fault → Bool
+in_group group (Ok type) = group type
+in_group group (Err e) = false
+
+abbrev pub one_more : Bool → ℕ → ℕ
+one_more true n = suc n
+one_more false n = n
+
+abbrev pub ordinal_of : (ColumnType → Bool) → (ℕ → Result ColumnType Fault) → ℕ → ℕ
+ordinal_of group type zero = 0
+ordinal_of group type (suc i) = one_more (in_group group (type 0)) (ordinal_of group (λ k. type (suc k)) i)
+
+-- the charset of column i, by those of the places of two groups; a column of neither has 0
+abbrev pub charset_by : (ℕ → Result ℕ Fault) → (ℕ → Result ℕ Fault) → (ℕ → Result ColumnType Fault) → ℕ → Result ℕ Fault
+charset_by characters enums type i =
+    if in_group is_character (type i) then characters (ordinal_of is_character type i) else
+    (if in_group is_enum_or_set (type i) then enums (ordinal_of is_enum_or_set type i) else Ok 0)
+
+abbrev pub charset_of_group : Option DefaultCharset → Option (List ℕ) → ℕ → Result ℕ Fault
+charset_of_group d list k = zero_without (charset_in (option_map (λ d. d.default) d) (pairs_or d) (items (low_bits 16) (list_or list)) k)
+
+-- ---- by the table map event alone
+
+abbrev pub type_at : TableMap → ℕ → Result ColumnType Fault
+type_at t i = typed (column_type_at t.types t.metadata i)
+
+abbrev pub sign_at : TableMap → ℕ → Bool
+sign_at t i = sign_in t.types (list_or (kept_of t).signs) i
+
+abbrev pub charset_at : TableMap → ℕ → Result ℕ Fault
+charset_at t i = charset_by (charset_of_group (kept_of t).default (kept_of t).charsets) (charset_of_group (kept_of t).enum_default (kept_of t).enum_charsets) (type_at t) i
+
+abbrev pub name_at : TableMap → ℕ → Result (Option (List ℕ)) Fault
+name_at t i = named (items lenenc_string (list_or (kept_of t).names)) i
+
+abbrev pub key_at : TableMap → ℕ → Result Bool Fault
+key_at t i = key_in (keys_left None (items lenenc (list_or (kept_of t).simple)) (items (pair_with lenenc) (list_or (kept_of t).prefixed))) i
+
+abbrev pub parts_of : TableMap → Parts
+parts_of t = record { type = type_at t; chunk = chunk_at t.types t.metadata; sign = sign_at t; charset = charset_at t; name = name_at t; key = key_at t; json_place = λ i. json_count (take i t.types) }
+
+unfoldable pub column_at : TableMap → ℕ → Result Column Fault
+column_at t i = column_by (parts_of t) i
+
+-- the columns up to the first fault; none where a field of the optional metadata is faulty
+abbrev pub unless_faulty : {A : Type 0} → Option Fault → List A → List A
+unless_faulty None xs = xs
+unless_faulty (Some e) xs = []
+
+abbrev pub table_columns : TableMap → List (Result Column Fault)
+table_columns t = unless_faulty (field_fault t) (columns_by (column_at t) (length t.types))

@@ -1,0 +1,295 @@
+//! The columns of a table, in one walk over the lists that describe them.
+
+ghost use Rattle.std.specs.Prelude.{◌≡◌, ◌<◌, ◌≤◌, ◌+◌, ◌^◌, ℕ, suc, List, [], ◌∷◌, length, Some, None, Ok, Err, OnOk, IfOk, IfErr, ◌==◌, if◌then◌else◌};
+ghost use Rattle.std.specs.Option.{option_map};
+ghost use Rattle.std.specs.Iterator.{YieldsFirstBy, item_count};
+ghost use Rattle.binlog_base.specs.Items.{items, result_map};
+ghost use Rattle.binlog_base.specs.Strings.{lenenc_string};
+ghost use Rattle.binlog_base.specs.ColumnTypes.{is_character, is_enum_or_set};
+ghost use Rattle.binlog_table.specs.ColumnTypes.{raw_type_of, real_type_of};
+ghost use Rattle.binlog_table.specs.Fields.{is_numeric_number};
+ghost use Rattle.binlog_table.specs.CharsetsLeft.{row_charset};
+ghost use Rattle.binlog_table.specs.TableColumns.{typed, named, column_by, columns_by, column_at, table_columns};
+ghost use Rattle.binlog_table.specs.Extracted.{kept_of, kept_bytes, field_fault};
+ghost use Rattle.binlog_table.specs.ColumnsLeft.{seen_column, bit_here, bits_after, charset_here, parts_left, columns_left, Follows, Advances, HasRoom, steps_of, most_of};
+ghost use Rattle.binlog_table.specs.Lists.{Spends, count_of};
+
+use super::charsets::IterCharset;
+use super::extractor::OptionalMetaExtractor;
+use super::keys::IterPrimaryKey;
+use super::lists::IterNames;
+use super::names::ColumnName;
+use crate::table_map::TableMapEvent;
+use crate::table_map::column_chunks::ColumnChunks;
+use crate::table_map::metadata::{is_numeric, real_type};
+use binlog_base::below::ColumnType;
+use binlog_base::bits::BitIter;
+use binlog_base::fault::Fault;
+use std::marker::Model;
+
+/// A column of a table.
+#[derive(Debug, Drop)]
+pub struct TableColumn<'a> {
+    /// The real type.
+    pub column_type: ColumnType,
+    /// The chunk of metadata, if there is one.
+    pub metadata: Option<&'a [u8]>,
+    /// Whether it holds numbers without a sign.
+    pub unsigned: bool,
+    /// The charset's number, 0 without one.
+    pub charset: u16,
+    /// The name, if it has one.
+    pub name: Option<ColumnName<'a>>,
+    /// Whether it is in the primary key.
+    pub is_key: bool,
+    /// How many columns before it have the raw type JSON.
+    pub json_place: usize,
+}
+
+/// What is left of a table's columns, and of the lists that tell of them.
+#[derive(Drop)]
+struct Walk<'a> {
+    types: &'a [u8],
+    chunks: ColumnChunks<'a>,
+    signs: BitIter<'a>,
+    characters: IterCharset<'a>,
+    enums: IterCharset<'a>,
+    names: IterNames<'a>,
+    keys: IterPrimaryKey<'a>,
+    column: u64,
+    json_place: usize,
+    fields: u64,
+}
+
+// The real type of a column by its raw type and its chunk.
+fn type_of(raw: u8, chunk: Option<&[u8]>) -> Result<ColumnType, Fault>
+    ensures { result ≡ typed (real_type_of (raw_type_of (Some raw)) (option_map (λ c. c.now) chunk.entry)) }
+{
+    let raw_type = ColumnType::try_from(raw)?;
+    Ok(real_type(raw_type, chunk)?)
+}
+
+// The sign of the next column; only a numeric one takes a bit.
+fn next_sign(raw: u8, signs: &mut BitIter<'_>) -> bool
+    ensures now { result ≡ bit_here (is_numeric_number raw) signs.old }
+    ensures left { signs.new ≡ bits_after (is_numeric_number raw) signs.old }
+{
+    if is_numeric(raw) {
+        signs.next().unwrap_or(false)
+    } else {
+        false
+    }
+}
+
+// The name of the next column.
+#[tactic(auto, using(crate::proofs::ColumnWalk::named_later, crate::proofs::ColumnWalk::named_none))]
+fn next_name<'a>(names: &mut IterNames<'a>) -> Result<Option<ColumnName<'a>>, Fault>
+    ensures now { result ≡ named (items lenenc_string names.old.bytes) 0 }
+    ensures later { (j : ℕ) → named (items lenenc_string names.new.bytes) j ≡ named (items lenenc_string names.old.bytes) (suc j) }
+    ensures spends { Spends names.old.taken (length names.old.bytes) names.new.taken (length names.new.bytes) }
+{
+    match names.take_item() {
+        None => Ok(None),
+        Some(Ok(name)) => Ok(Some(name)),
+        Some(Err(e)) => Err(e),
+    }
+}
+
+// The charset of the next column, by its type.
+fn next_charset(
+    column_type: ColumnType,
+    characters: &mut IterCharset<'_>,
+    enums: &mut IterCharset<'_>,
+) -> Result<u16, Fault>
+    requires characters_left { characters.old.ordinal + 1 < 2 ^ 64 }
+    requires enums_left { enums.old.ordinal + 1 < 2 ^ 64 }
+    ensures now { result ≡ charset_here column_type (row_charset characters.old 0) (row_charset enums.old 0) }
+    ensures characters { OnOk result (Advances (is_character column_type) (row_charset characters.old) (row_charset characters.new)) }
+    ensures enums { OnOk result (Advances (is_enum_or_set column_type) (row_charset enums.old) (row_charset enums.new)) }
+    ensures characters_most { characters.new.ordinal ≤ characters.old.ordinal + 1 }
+    ensures enums_most { enums.new.ordinal ≤ enums.old.ordinal + 1 }
+    ensures characters_spent { Spends characters.old.taken characters.old.room characters.new.taken characters.new.room }
+    ensures enums_spent { Spends enums.old.taken enums.old.room enums.new.taken enums.new.room }
+{
+    if column_type.is_character_type() {
+        characters.next_in_row()
+    } else if column_type.is_enum_or_set_type() {
+        enums.next_in_row()
+    } else {
+        Ok(0)
+    }
+}
+
+// How many JSON columns a column of this raw type is.
+fn json_columns(raw: u8) -> usize
+    ensures { result ≡ if raw == 245 then 1 else 0 }
+{
+    if raw == 245 { 1 } else { 0 }
+}
+
+// The next column.
+#[tactic(auto, unfolding(crate::specs::ColumnsLeft::parts_left))]
+fn next_column<'a>(walk: &mut Walk<'a>) -> Result<TableColumn<'a>, Fault>
+    requires room { HasRoom walk.old }
+    ensures now { result_map seen_column result ≡ column_by (parts_left walk.old) 0 }
+    ensures later { OnOk result (Follows (parts_left walk.old) (parts_left walk.new)) }
+    ensures one { OnOk result (length walk.old.types.now ≡ length walk.new.types.now + 1) }
+    ensures room { HasRoom walk.new }
+    ensures steps { 0 < length walk.old.types.now → steps_of walk.old + 1 ≤ steps_of walk.new }
+    ensures most { most_of walk.new ≤ most_of walk.old + 1 }
+{
+    let Some((raw, types)) = walk.types.split_first() else {
+        return Err(Fault::NoColumnType);
+    };
+    walk.types = types;
+    let index = walk.column;
+    walk.column += 1;
+    let metadata = walk.chunks.next_chunk();
+    let column_type = type_of(*raw, metadata)?;
+    let unsigned = next_sign(*raw, &mut walk.signs);
+    let charset = next_charset(column_type, &mut walk.characters, &mut walk.enums)?;
+    let name = next_name(&mut walk.names)?;
+    let is_key = walk.keys.is_key(index)?;
+    let json_place = walk.json_place;
+    walk.json_place += json_columns(*raw);
+    Ok(TableColumn {
+        column_type,
+        metadata,
+        unsigned,
+        charset,
+        name,
+        is_key,
+        json_place,
+    })
+}
+
+// Begins the walk over columns of these type bytes, by what is kept of the optional metadata, after
+// so many fields and faults were taken of it.
+fn walk_of<'a>(
+    table: &'a TableMapEvent<'_>,
+    types: &'a [u8],
+    kept: &OptionalMetaExtractor<'a>,
+    fields: u64,
+) -> Walk<'a>
+    ensures columns { kept.now ≡ kept_of table.now → types.now ≡ table.now.types
+        → columns_left result ≡ columns_by (column_at table.now) (length table.now.types) }
+    ensures none { types.now ≡ [] → columns_left result ≡ [] }
+    ensures most { most_of result ≤ fields + kept_bytes kept.now }
+    ensures room { HasRoom result }
+{
+    Walk {
+        types,
+        chunks: table.column_chunks(),
+        signs: kept.iter_signedness(),
+        characters: kept.iter_charset(),
+        enums: kept.iter_enum_and_set_charset(),
+        names: kept.iter_column_name(),
+        keys: kept.iter_primary_key(),
+        column: 0,
+        json_place: 0,
+        fields,
+    }
+}
+
+/// An iterator over the columns of a table map event, in order, up to the first column with a fault,
+/// which is the last item. There are no items where a field of the optional metadata is faulty.
+///
+/// It counts its steps. Contracts see the fault of the optional metadata, the items still to come,
+/// and the steps.
+#[derive(Drop)]
+pub struct TableColumns<'a> {
+    fault: Option<Fault>,
+    walk: Walk<'a>,
+}
+
+impl<'a> Model for TableColumns<'a> {
+    ghost use Rattle.binlog_table.specs.TableColumns.{ToCome};
+    ghost use Rattle.binlog_table.specs.ColumnsLeft.{columns_left, steps_of, most_of, HasRoom};
+
+    ghost Value = { ToCome };
+
+    ghost view = { λ c. record {
+      fault = c.fault;
+      columns = columns_left c.walk;
+      steps = steps_of c.walk;
+      most = most_of c.walk;
+    } };
+
+    ghost invariant = { λ c. HasRoom c.walk };
+}
+
+impl<'a> TableColumns<'a> {
+    /// Returns the columns of a table.
+    pub fn new(table: &'a TableMapEvent<'_>) -> TableColumns<'a>
+        ensures fault { result.fault ≡ field_fault table.now }
+        ensures columns { result.columns ≡ table_columns table.now }
+        ensures most { result.most ≤ length table.now.optional_metadata }
+    {
+        let mut fields = table.iter_optional_meta();
+        match OptionalMetaExtractor::take_from(&mut fields) {
+            Ok(kept) => TableColumns {
+                fault: None,
+                walk: walk_of(table, table.raw_types(), &kept, fields.taken()),
+            },
+            Err(fault) => TableColumns {
+                fault: Some(fault),
+                walk: walk_of(table, &[], &OptionalMetaExtractor::none(), fields.taken()),
+            },
+        }
+    }
+
+    /// Returns the fault of the first faulty field of the optional metadata, if there is one.
+    pub fn fault(&self) -> Option<Fault>
+        ensures { result ≡ self.now.fault }
+    {
+        self.fault
+    }
+
+    /// Returns how many steps were made: one for each field of the optional metadata, one for each
+    /// item and fault that was taken of its lists, and one for each column.
+    pub fn steps(&self) -> u128
+        ensures value { result ≡ self.now.steps }
+        ensures bounded { result ≤ self.now.most }
+        ensures fits { result < 2 ^ 70 }
+    {
+        let walk = &self.walk;
+        u128::from(walk.fields)
+            + u128::from(walk.column)
+            + u128::from(walk.names.taken())
+            + walk.keys.taken()
+            + walk.characters.taken()
+            + walk.enums.taken()
+    }
+
+    /// Takes the next column, or its fault. This is `next`, with the count of the steps.
+    #[tactic(auto, using(crate::proofs::ColumnWalk::walk_next, crate::proofs::ColumnWalk::walk_fault, crate::proofs::ColumnWalk::walk_end))]
+    pub fn take_column(&mut self) -> Option<Result<TableColumn<'a>, Fault>>
+        ensures gives { YieldsFirstBy (λ r. result_map seen_column r) (λ s. s.columns) self.old result self.new }
+        ensures fault { self.new.fault ≡ self.old.fault }
+        ensures steps { self.old.steps + count_of result ≤ self.new.steps }
+        ensures most { self.new.most ≤ self.old.most + count_of result }
+    {
+        if self.walk.types.is_empty() {
+            return None;
+        }
+        match next_column(&mut self.walk) {
+            Ok(column) => Some(Ok(column)),
+            Err(e) => {
+                self.walk.types = &[];
+                Some(Err(e))
+            }
+        }
+    }
+}
+
+impl<'a> Iterator for TableColumns<'a> {
+    type Item = Result<TableColumn<'a>, Fault>;
+
+    ghost next_gives = { YieldsFirstBy (λ r. result_map seen_column r) (λ s. s.columns) };
+
+    ghost remaining = { item_count (λ s. s.columns) };
+
+    fn next(&mut self) -> Option<Result<TableColumn<'a>, Fault>> {
+        self.take_column()
+    }
+}

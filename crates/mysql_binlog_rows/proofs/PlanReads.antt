@@ -188,8 +188,8 @@ slots_all t (p ∷ ps) i (suc n) f whole each h =
     let first = h 0 (omega arith) in
     let here : f 0 ≡ Ok first.0 = each 0 ∙ first.1 in
     let later = slots_all t ps (suc i) n (λ j. f (suc j)) (omega (arith, whole)) (each_later t i f each) (λ j lt.
-        let next = h (suc j) (omega (arith, lt)) in
-        (next.0, ap (column_at t) (omega arith) ∙ next.1)) in
+    let next = h (suc j) (omega (arith, lt)) in
+    (next.0, ap (column_at t) (omega arith) ∙ next.1)) in
     rw here (ap suc later)
 
 plan_slots : (t : TableMap) (ps : List Bool) → IsDescribed t (length ps) → slots_in (Some (plan_of t ps)) ≡ length ps

@@ -1,5 +1,6 @@
 //! Tests of rows events and their pairs of rows.
 
+mod images;
 mod optional_metadata;
 mod table_map;
 
@@ -488,18 +489,6 @@ fn refused_runs(rt: HostRuntime) {
             Fault::UnexpectedEof
         )
     );
-}
-
-#[test]
-fn what_is_not_supported(rt: HostRuntime) {
-    // A deleted row, and a table with optional metadata.
-    let rows = two_rows();
-    let deleted = decode(&rt, &two_columns(), &rows, EventType::DELETE_ROWS_EVENT, 10);
-    assert!(rt; ends(&deleted, 0, Some(Fault::Unhandled)));
-    let table = [
-        1, 0, 0, 0, 0, 0, 1, 0, 1, 0x64, 0, 1, 0x74, 0, 2, 3, 0x0f, 2, 0x0a, 0, 2, 1, 1, 0x80,
-    ];
-    assert!(rt; ends(&inserted(&rt, &table, &rows), 0, Some(Fault::Unhandled)));
 }
 
 /// What four calls of `next` give: a pair, a fault, or nothing.

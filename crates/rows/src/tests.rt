@@ -83,16 +83,30 @@ fn rows_of_a_table(rt: HostRuntime) -> Result<(), Fail> {
 }
 
 #[test]
+fn described_columns(rt: HostRuntime) -> Result<(), Fail> {
+    // A sign bit, two names, a key column, and a default character set.
+    let table = "010000000000010001640001740002030F020A0002010180040401610162080100020121";
+    let inserted = "010000000000010002000203002A00000002616202FFFFFFFF";
+    let text = "- -> {a=42, b=x6162}\n- -> {a=4294967295, b=NULL}\n";
+    let words = ["8", "1E", "10", "10", table, inserted];
+    assert!(rt; prints(rt.alloc(), &words, 0, text, "")?);
+    // An update of column a to column b.
+    let updated = "01000000000001000200020102000700000001";
+    let words = ["8", "1F", "10", "10", table, updated];
+    assert!(rt; prints(rt.alloc(), &words, 0, "{a=7} -> {b=NULL}\n", "")?);
+    Ok(())
+}
+
+#[test]
 fn other_tables(rt: HostRuntime) -> Result<(), Fail> {
     let rows = "010000000000010002000203002A0000000261620200000000";
     let cases = [
-        // A deleted row, and optional metadata, aren't supported.
-        ("20", TABLE, 1, "fault Unhandled\n"),
+        // Two deleted rows.
         (
-            "1E",
-            "010000000000010001640001740002030F020A0002010180",
-            1,
-            "fault Unhandled\n",
+            "20",
+            TABLE,
+            0,
+            "{@0=42, @1=x6162} -> -\n{@0=0, @1=NULL} -> -\n",
         ),
         // VARCHAR without metadata, an unknown type, and a STRING column whose metadata names
         // another type.

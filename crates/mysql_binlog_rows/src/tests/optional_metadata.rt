@@ -1,13 +1,15 @@
 //! Tests of optional metadata: its fields, the lists in them, and what is extracted for rows.
 
-use binlog_base::below::{GeometryType, MyDeserialize, MySerialize, ParseBuf};
+use super::two_columns;
+use binlog_base::below::{ColumnType, GeometryType, MyDeserialize, MySerialize, ParseBuf};
 use binlog_base::fault::Fault;
+use binlog_table::laws::columns_are_in_place;
 use binlog_table::table_map::TableMapEvent;
 use binlog_table::table_map::optional::{
     ColumnCharsets, ColumnName, ColumnNames, DefaultCharset, GeometryTypes, ListOf,
     NonDefaultCharset, OptionalMetaExtractor, OptionalMetadataField, OptionalMetadataIter,
     PrimaryKeyWithPrefix, PrimaryKeysWithPrefix, SetStrValue, SetStrValues, SetsStrValues,
-    SimplePrimaryKey, VectorDimensionalities,
+    SimplePrimaryKey, TableColumn, TableColumns, VectorDimensionalities,
 };
 use std::borrow::CowSlice;
 use std::test::Fail;
@@ -264,8 +266,61 @@ fn signs_and_names(rt: HostRuntime) -> Result<(), Fail> {
     let extracted = extract(2, &[1, 1, 0x40, 4, 2, 1, 0x61])?;
     assert!(rt; extracted.iter_signedness().eq([false, true]));
     assert!(rt; is_a(&extracted.iter_column_name().next()));
-    assert_eq!(rt; extracted.fields_count(), 2);
     assert!(rt; matches!(extract(2, &[1, 0]), Err(Fault::UnexpectedEof)));
+    Ok(())
+}
+
+#[test]
+fn fields_are_counted(rt: HostRuntime) -> Result<(), Fail> {
+    // The second of three fields is faulty.
+    let bytes = [4, 0, 14, 0, 4, 0];
+    let mut fields = OptionalMetadataIter::new(0, 0, &bytes);
+    let refused = OptionalMetaExtractor::take_from(&mut fields).is_err();
+    assert!(rt; refused && fields.taken() == 2);
+    assert!(rt; OptionalMetaExtractor::take_from(&mut fields).is_ok());
+    assert_eq!(rt; fields.taken(), 3);
+    Ok(())
+}
+
+/// Whether an item is the column of this type, sign and name, and no key column.
+fn is_column(
+    item: &Option<Result<TableColumn<'_>, Fault>>,
+    column_type: ColumnType,
+    unsigned: bool,
+    name: &[u8],
+) -> bool {
+    match item {
+        Some(Ok(column)) => {
+            column.column_type == column_type
+                && column.unsigned == unsigned
+                && matches!(&column.name, Some(other) if other.name_raw() == name)
+                && !column.is_key
+                && column.json_place == 0
+        }
+        _ => false,
+    }
+}
+
+#[test]
+fn columns_in_one_walk(rt: HostRuntime) -> Result<(), Fail> {
+    let mut bytes = two_columns().to_vec(rt.alloc())?;
+    bytes.extend_from_slice(&[1, 1, 0x80, 4, 4, 1, 0x61, 1, 0x62])?;
+    let table: TableMapEvent<'_> = ParseBuf(&bytes).parse(8)?;
+    let mut columns = TableColumns::new(&table);
+    assert!(rt; columns.fault().is_none());
+    assert!(rt; is_column(&columns.next(), ColumnType::MYSQL_TYPE_LONG, true, b"a"));
+    assert!(rt;
+        is_column(
+            &columns.take_column(),
+            ColumnType::MYSQL_TYPE_VARCHAR,
+            false,
+            b"b"
+        )
+    );
+    assert!(rt; columns.next().is_none());
+    // Two fields, two names and two columns.
+    assert!(rt; columns.steps() == 6);
+    columns_are_in_place();
     Ok(())
 }
 

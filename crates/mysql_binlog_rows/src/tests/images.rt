@@ -1,0 +1,264 @@
+//! Tests of images: the columns of rows, updates and deletes, and what is found out once.
+
+use super::{
+    decode, ends, inserted, is_faulty, is_number, is_text, read, row_of, two_columns, two_rows,
+};
+use crate::row::{
+    BinlogRow, BinlogRowToRowError, BinlogRowValueOptions, UnknownBinlogRowValueOptions,
+};
+use crate::rows_event::{Decoded, RowPair, RowsEvent};
+use crate::value::BinlogValue;
+use binlog_base::below::{Column, ParseBuf, Value};
+use binlog_base::fault::Fault;
+use binlog_consts::consts::{BinlogVersion, EventType, Flags};
+use binlog_table::table_map::TableMapEvent;
+use std::alloc::AllocError;
+use std::test::Fail;
+
+/// The table d.t with this optional metadata.
+fn with_metadata(rt: &HostRuntime, optional_metadata: &[u8]) -> Result<Vec<u8>, Fail> {
+    let mut bytes = two_columns().to_vec(rt.alloc())?;
+    bytes.extend_from_slice(optional_metadata)?;
+    Ok(bytes)
+}
+
+/// A rows event of the table d.t without extra data, with these bytes from the count of the columns
+/// on.
+fn with_rows(rt: &HostRuntime, rows: &[u8]) -> Result<Vec<u8>, Fail> {
+    let mut bytes = two_rows()[..10].to_vec(rt.alloc())?;
+    bytes.extend_from_slice(rows)?;
+    Ok(bytes)
+}
+
+/// Whether the row has one column of this name, and this value.
+fn is_one_cell(row: &Option<BinlogRow>, name: &[u8], number: Option<i64>) -> bool {
+    match row {
+        Some(row) => match row.columns_ref() {
+            [column] => column.name_ref() == name && row.len() == 1 && is_number(row, 0, number),
+            _ => false,
+        },
+        None => false,
+    }
+}
+
+/// Whether the only pair is the update of column 0, which was 7, to column 1, which is NULL.
+fn is_update(decoded: &Decoded) -> bool {
+    match decoded.pairs.as_slice() {
+        [(before, after)] => {
+            is_one_cell(before, b"@0", Some(7)) && is_one_cell(after, b"@1", None)
+        }
+        _ => false,
+    }
+}
+
+#[test]
+fn an_update_with_other_columns_in_each_image(rt: HostRuntime) -> Result<(), Fail> {
+    let rows = with_rows(&rt, &[2, 1, 2, 0, 7, 0, 0, 0, 1])?;
+    let event = read(&rows, EventType::UPDATE_ROWS_EVENT, 10)?;
+    assert_eq!(rt; event.len(BinlogVersion::Version4), 19);
+    let decoded = decode(&rt, &two_columns(), &rows, EventType::UPDATE_ROWS_EVENT, 10)?;
+    assert!(rt; decoded.fault.is_none() && is_update(&decoded));
+    Ok(())
+}
+
+/// Whether the pair is a deleted row of this number.
+fn is_deleted(pair: &RowPair, number: i64) -> bool {
+    match pair {
+        (Some(row), None) => row.len() == 2 && is_number(row, 0, Some(number)),
+        _ => false,
+    }
+}
+
+#[test]
+fn deleted_rows(rt: HostRuntime) -> Result<(), Fail> {
+    for event_type in [
+        EventType::DELETE_ROWS_EVENT,
+        EventType::DELETE_ROWS_EVENT_V1,
+    ] {
+        let decoded = decode(&rt, &two_columns(), &two_rows(), event_type, 10)?;
+        match decoded.pairs.as_slice() {
+            [first, second] => assert!(rt; is_deleted(first, 42) && is_deleted(second, -1)),
+            _ => assert!(rt; false),
+        }
+    }
+    Ok(())
+}
+
+#[test]
+fn partial_updates_are_not_supported(rt: HostRuntime) -> Result<(), Fail> {
+    let rows = with_rows(&rt, &[2, 0, 3, 0xfb])?;
+    let event_type = EventType::PARTIAL_UPDATE_ROWS_EVENT;
+    let decoded = decode(&rt, &two_columns(), &rows, event_type, 10);
+    assert!(rt; ends(&decoded, 0, Some(Fault::Unhandled)));
+    Ok(())
+}
+
+/// A column by its name, its flags and its character set.
+type Described<'a> = (&'a [u8], u16, u16);
+
+fn is_described(column: &Column, described: Described<'_>) -> bool {
+    let (name, flags, character_set) = described;
+    column.name_ref() == name
+        && column.flags().bits() == flags
+        && column.character_set() == character_set
+}
+
+/// Whether the pair is an inserted row with these columns, and this number in the first.
+fn has_columns(pair: &RowPair, first: Described<'_>, second: Described<'_>, number: i64) -> bool {
+    match pair {
+        (None, Some(row)) => match row.columns_ref() {
+            [a, b] => {
+                is_described(a, first) && is_described(b, second) && is_number(row, 0, Some(number))
+            }
+            _ => false,
+        },
+        _ => false,
+    }
+}
+
+/// Whether the two inserted rows have these columns, and the number 42 and this one.
+fn describes(
+    rt: &HostRuntime,
+    optional_metadata: &[u8],
+    first: Described<'_>,
+    second: Described<'_>,
+    number: i64,
+) -> Result<bool, Fail> {
+    let table = with_metadata(rt, optional_metadata)?;
+    let decoded = inserted(rt, &table, &two_rows())?;
+    match decoded.pairs.as_slice() {
+        [one, other] => Ok(
+            decoded.fault.is_none()
+                && has_columns(one, first, second, 42)
+                && has_columns(other, first, second, number),
+        ),
+        _ => Ok(false),
+    }
+}
+
+#[test]
+fn columns_with_metadata(rt: HostRuntime) -> Result<(), Fail> {
+    // A sign bit, two names, a key column, and a default character set.
+    let full = [1, 1, 0x80, 4, 4, 1, 0x61, 1, 0x62, 8, 1, 0, 2, 1, 0x21];
+    assert!(rt; describes(&rt, &full, (b"a", 34, 0), (b"b", 0, 33), 4294967295)?);
+    // One name for two columns.
+    let name = [4, 2, 1, 0x61];
+    assert!(rt; describes(&rt, &name, (b"a", 0, 0), (b"@1", 0, 0), -1)?);
+    // Column 0 is a key column twice, and then comes a fault that belongs to no column.
+    let key = [8, 3, 0, 0, 0xfb];
+    assert!(rt; describes(&rt, &key, (b"@0", 2, 0), (b"@1", 0, 0), -1)?);
+    // A key column with a prefix.
+    let prefixed = [9, 2, 1, 3];
+    assert!(rt; describes(&rt, &prefixed, (b"@0", 0, 0), (b"@1", 2, 0), -1)?);
+    Ok(())
+}
+
+/// Whether the inserted rows of the table with this optional metadata give no pair and this fault.
+fn is_refused(
+    rt: &HostRuntime,
+    optional_metadata: &[u8],
+    rows: &[u8],
+    fault: Fault,
+) -> Result<bool, Fail> {
+    let table = with_metadata(rt, optional_metadata)?;
+    let rows = with_rows(rt, rows)?;
+    Ok(is_faulty(rt, &table, &rows, fault)?)
+}
+
+#[test]
+fn faults_in_their_order(rt: HostRuntime) -> Result<(), Fail> {
+    // The key's fault belongs to column 1. The cell of column 0 comes before it.
+    let key = [8, 2, 0, 0xfb];
+    assert!(rt; is_refused(&rt, &key, &[2, 3, 0, 0x2a], Fault::UnexpectedEof)?);
+    let whole = [2, 3, 0, 0x2a, 0, 0, 0, 2, 0x61, 0x62];
+    assert!(rt; is_refused(&rt, &key, &whole, Fault::BadLenEnc)?);
+    // Column 0 takes its key, although it isn't in the image.
+    let second = [2, 2, 0, 2, 0x61, 0x62];
+    assert!(rt; is_refused(&rt, &key, &second, Fault::BadLenEnc)?);
+    // An unknown field comes before the cells, and after the null bits.
+    let unknown = [14, 0];
+    assert!(rt;
+        is_refused(
+            &rt,
+            &unknown,
+            &[2, 3, 0, 0x2a],
+            Fault::UnknownOptionalField(14)
+        )?
+    );
+    assert!(rt; is_refused(&rt, &unknown, &[9, 0xff, 1, 0], Fault::UnexpectedEof)?);
+    // No column is in the image, and none at all is in the event.
+    assert!(rt; is_refused(&rt, &unknown, &[2, 0, 5], Fault::UnknownOptionalField(14))?);
+    assert!(rt; is_refused(&rt, &unknown, &[0, 5], Fault::UnknownOptionalField(14))?);
+    Ok(())
+}
+
+/// The steps before the first call of `next`, after it, and after the fourth.
+fn steps(rt: &HostRuntime, event: &RowsEvent<'_>, table: &TableMapEvent<'_>) -> (u128, u128, u128) {
+    let mut rows = event.rows(rt.alloc(), table);
+    let before = rows.metadata_steps();
+    let _first = rows.next();
+    let after = rows.metadata_steps();
+    let _second = rows.next();
+    let _third = rows.next();
+    let _fourth = rows.next();
+    (before, after, rows.metadata_steps())
+}
+
+#[test]
+fn steps_of_a_plan(rt: HostRuntime) -> Result<(), Fail> {
+    // One field, two names and two columns.
+    let bytes = with_metadata(&rt, &[4, 4, 1, 0x61, 1, 0x62])?;
+    let table: TableMapEvent<'_> = ParseBuf(&bytes).parse(8)?;
+    let inserted = two_rows();
+    let event = read(&inserted, EventType::WRITE_ROWS_EVENT, 10)?;
+    assert!(rt; steps(&rt, &event, &table) == (0, 5, 5));
+    // An update has two images.
+    let updated = with_rows(&rt, &[2, 1, 2, 0, 7, 0, 0, 0, 1])?;
+    let event = read(&updated, EventType::UPDATE_ROWS_EVENT, 10)?;
+    assert!(rt; steps(&rt, &event, &table) == (0, 10, 10));
+    // No bytes are left from the start.
+    let event = read(&inserted[..12], EventType::WRITE_ROWS_EVENT, 10)?;
+    assert!(rt; steps(&rt, &event, &table) == (0, 0, 0));
+    Ok(())
+}
+
+#[test]
+fn values_taken_out_of_a_row(rt: HostRuntime) -> Result<(), Fail> {
+    let mut row = row_of(rt.alloc(), Some(Value::Int(7)))?;
+    assert!(rt; row.take(1).is_none());
+    assert!(rt; matches!(row.take(0), Some(BinlogValue::Value(Value::Int(7)))));
+    assert!(rt; row.take(0).is_none());
+    row.place(0, BinlogValue::Value(Value::Int(8)));
+    assert!(rt; is_number(&row, 0, Some(8)));
+    let values = row.unwrap(rt.alloc())?;
+    assert!(rt; matches!(values.as_slice(), [BinlogValue::Value(Value::Int(8))]));
+    Ok(())
+}
+
+#[test]
+fn rows_of_plain_values(rt: HostRuntime) -> Result<(), Fail> {
+    let there = row_of(rt.alloc(), Some(Value::Int(7)))?.into_row(rt.alloc());
+    match there {
+        Ok(row) => assert!(rt; row.len() == 1 && matches!(row.as_ref(0), Some(Value::Int(7)))),
+        Err(_) => assert!(rt; false),
+    }
+    let taken = row_of(rt.alloc(), None)?.into_row(rt.alloc());
+    match taken {
+        Ok(row) => assert!(rt; row.len() == 1 && row.as_ref(0).is_none()),
+        Err(_) => assert!(rt; false),
+    }
+    let error: BinlogRowToRowError = AllocError.into();
+    assert!(rt; matches!(error, BinlogRowToRowError::Memory));
+    Ok(())
+}
+
+#[test]
+fn options_of_row_values(rt: HostRuntime) {
+    let partial = BinlogRowValueOptions::PARTIAL_JSON_UPDATES;
+    assert!(rt; BinlogRowValueOptions::try_from(1_u64) == Ok(partial));
+    for number in [0_u64, 2] {
+        let refused = UnknownBinlogRowValueOptions(number);
+        assert!(rt; BinlogRowValueOptions::try_from(number) == Err(refused));
+        assert_eq!(rt; u64::from(refused), number);
+    }
+}

@@ -1,12 +1,13 @@
 #!/usr/bin/env bash
 # Counts what the built program does for a row: instructions, by valgrind's callgrind, and calls of `write`.
 #
-# usage: scripts/instructions.sh [COLUMNS]
-#        scripts/instructions.sh FEW MANY
+# usage: scripts/instructions.sh [COLUMNS [full]]
+#        scripts/instructions.sh FEW MANY MORE
 #
-# COLUMNS are the letters of scripts/make_rows.py; without them the table has ten columns. FEW and MANY are files of the program's six words,
-# one a line, of the same table with 30 and with 330 rows. The instructions of a row are the difference of two runs, divided by 300. Build
-# the program with `rt run` in crates/rows.
+# COLUMNS are the letters of scripts/make_rows.py; without them the table has ten columns. With `full` it has optional metadata. FEW, MANY and
+# MORE are files of the program's six words, one a line, of the same table with 30, 330 and 630 rows. The instructions of a row are the
+# difference of two runs, divided by 300: of the whole program, and of the call of `decode_pairs` alone. Build the program with `rt run` in
+# crates/rows.
 set -eu
 here=$(cd "$(dirname "$0")/.." && pwd)
 program=$here/crates/rows/out/rows
@@ -16,24 +17,31 @@ if [ ! -x "$program" ]; then
 fi
 folder=$(mktemp -d)
 trap 'rm -rf "$folder"' EXIT
-if [ $# -eq 2 ]; then
-    cp "$1" "$folder/few"
-    cp "$2" "$folder/many"
+if [ $# -eq 3 ]; then
+    cp "$1" "$folder/30"
+    cp "$2" "$folder/330"
+    cp "$3" "$folder/630"
 else
-    "$here/scripts/make_rows.py" "${1:-all}" 30 >"$folder/few"
-    "$here/scripts/make_rows.py" "${1:-all}" 330 >"$folder/many"
+    for count in 30 330 630; do
+        "$here/scripts/make_rows.py" "${1:-all}" $count ${2:+"$2"} >"$folder/$count"
+    done
 fi
 
-# The instructions of a run on a file of words.
+# The instructions of a run on a file of words, with further words for callgrind.
 instructions() {
     mapfile -t words <"$1"
-    valgrind --tool=callgrind --callgrind-out-file="$folder/callgrind" "$program" "${words[@]}" 2>"$folder/log" >"$folder/out"
+    valgrind --tool=callgrind --callgrind-out-file="$folder/callgrind" "${@:2}" "$program" "${words[@]}" 2>"$folder/log" >"$folder/out"
     sed -n 's/^==[0-9]*== Collected : //p' "$folder/log"
 }
 
-few=$(instructions "$folder/few")
-many=$(instructions "$folder/many")
-mapfile -t words <"$folder/many"
+decoding=(--collect-atstart=no '--toggle-collect=*decode_pairs*')
+few=$(instructions "$folder/30" "${decoding[@]}")
+many=$(instructions "$folder/330" "${decoding[@]}")
+more=$(instructions "$folder/630" "${decoding[@]}")
+few_all=$(instructions "$folder/30")
+many_all=$(instructions "$folder/330")
+mapfile -t words <"$folder/330"
 writes=$(valgrind --tool=none --trace-syscalls=yes "$program" "${words[@]}" 2>&1 >/dev/null | grep -c 'sys_write')
-echo "instructions a row: $(((many - few) / 300))"
+echo "instructions a row: $(((many_all - few_all) / 300)), of which decoding: $(((many - few) / 300))"
+echo "decoding, a row of the rows 331 to 630: $(((more - many) / 300))"
 echo "calls of write for 330 rows: $writes, for $(wc -c <"$folder/out") bytes"

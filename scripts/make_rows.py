@@ -1,7 +1,9 @@
 #!/usr/bin/env python3
 """Prints the program's six words, one a line, for a WRITE_ROWS_EVENT of COUNT rows.
 
-usage: scripts/make_rows.py COLUMNS COUNT
+usage: scripts/make_rows.py COLUMNS COUNT [full]
+
+With `full`, the table map event has signs, character sets, names and a key as optional metadata; else it has none.
 
 COLUMNS are letters, one a column: b LONGLONG, i LONG, v VARCHAR(80), t DATETIME2(0), n NEWDECIMAL(12,2), y TINY, d DOUBLE, x BLOB with a
 length in two bytes, e ENUM in one byte. `all` stands for bivvtnydxe. The values are the same for each run; about one in ten is NULL.
@@ -63,8 +65,23 @@ COLUMNS = {
 }
 
 
+def field(kind, value):
+    """A field of optional metadata, whose value has fewer than 251 bytes."""
+    return bytes([kind, len(value)]) + value
+
+
+def optional_metadata(letters):
+    """Signs (the first numeric column is unsigned), character sets (255, and 63 for a BLOB), names and a key of the first column."""
+    numeric = sum(letter in "binyd" for letter in letters)
+    signs = bytes([0x80]) + bytes((numeric - 1) // 8) if numeric else b""
+    group = [letter for letter in letters if letter in "vx"]
+    charsets = b"\xfc\xff\x00" + b"".join(bytes([place, 63]) for place, letter in enumerate(group) if letter == "x")
+    names = [b"column_%d" % number for number in range(len(letters))]
+    return field(1, signs) + field(2, charsets) + field(4, b"".join(bytes([len(name)]) + name for name in names)) + field(8, b"\0")
+
+
 def main():
-    if len(sys.argv) != 3:
+    if len(sys.argv) not in (3, 4) or sys.argv[3:] not in ([], ["full"]):
         sys.exit(__doc__)
     letters = "bivvtnydxe" if sys.argv[1] == "all" else sys.argv[1]
     columns = [COLUMNS[letter] for letter in letters]
@@ -73,6 +90,8 @@ def main():
     metadata = b"".join(column[1] for column in columns)
     types = bytes(column[0] for column in columns)
     table = bytes(6) + b"\1\0" + b"\1d\0" + b"\1t\0" + bytes([len(columns)]) + types + bytes([len(metadata)]) + metadata + ones
+    if sys.argv[3:]:
+        table += optional_metadata(letters)
     rows = bytearray(bytes(6) + b"\1\0" + b"\2\0" + bytes([len(columns)]) + ones)
     random = numbers()
     for _ in range(int(sys.argv[2])):

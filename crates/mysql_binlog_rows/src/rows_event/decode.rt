@@ -59,6 +59,8 @@ fn pairs_of(
 /// is that of the table map event. Reading the events takes no memory. The error is `Memory` if
 /// memory can't be allocated for the pairs. A fault in the rows data is not an error: it is
 /// returned with the pairs before it.
+// Not inlined, so that a profiler can count the instructions of this call alone.
+#[inline(never)]
 pub fn decode_pairs(
     alloc: Global,
     table_bytes: &[u8],

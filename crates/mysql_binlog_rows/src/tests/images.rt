@@ -8,11 +8,12 @@ use crate::row::{
 };
 use crate::rows_event::{Decoded, RowPair, RowsEvent};
 use crate::value::BinlogValue;
-use binlog_base::below::{Column, ParseBuf, Value};
+use binlog_base::below::{Column, ColumnType, ParseBuf, Value};
 use binlog_base::fault::Fault;
 use binlog_consts::consts::{BinlogVersion, EventType, Flags};
 use binlog_table::table_map::TableMapEvent;
 use std::alloc::AllocError;
+use std::rc::RcSlice;
 use std::test::Fail;
 
 /// The table d.t with this optional metadata.
@@ -230,6 +231,15 @@ fn values_taken_out_of_a_row(rt: HostRuntime) -> Result<(), Fail> {
     assert!(rt; row.take(0).is_none());
     row.place(0, BinlogValue::Value(Value::Int(8)));
     assert!(rt; is_number(&row, 0, Some(8)));
+    Ok(())
+}
+
+#[test]
+fn all_values_of_a_row(rt: HostRuntime) -> Result<(), Fail> {
+    let column = Column::new(ColumnType::MYSQL_TYPE_LONG);
+    let columns = RcSlice::from_vec(vec![in rt.alloc(); column]?)?;
+    let number = BinlogValue::Value(Value::Int(8));
+    let row = BinlogRow::new(vec![in rt.alloc(); Some(number)]?, columns);
     let values = row.unwrap(rt.alloc())?;
     assert!(rt; matches!(values.as_slice(), [BinlogValue::Value(Value::Int(8))]));
     Ok(())

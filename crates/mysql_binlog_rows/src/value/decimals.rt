@@ -10,13 +10,17 @@ use binlog_base::below::{ParseBuf, Value};
 use binlog_base::fault::Fault;
 use binlog_values::decimal::Decimal;
 use std::alloc::{AllocError, Global};
+use std::fmt::Write;
 
-// Returns the text of a decimal as a value.
-fn text_of(alloc: Global, decimal: &Decimal) -> Result<BinlogValue, AllocError>
+// Returns the text of a decimal as a value. The text has room for `len` bytes from the start.
+fn text_of(alloc: Global, decimal: &Decimal, len: usize) -> Result<BinlogValue, AllocError>
     ensures { IfOk result (λ value. cell_of value ≡ bytes_cell (decimal_text decimal.now)) }
 {
-    let text = format!(in alloc; "{decimal}")?;
-    Ok(BinlogValue::Value(Value::Bytes(text.into_bytes())))
+    let mut text = String::with_capacity(alloc, len)?;
+    match write!(text, "{decimal}") {
+        Ok(()) => Ok(BinlogValue::Value(Value::Bytes(text.into_bytes()))),
+        Err(_) => Err(AllocError),
+    }
 }
 
 // Reads a NEWDECIMAL of this precision and scale, in the packed DECIMAL format, as text.
@@ -33,5 +37,6 @@ pub(super) fn read_decimal(
     let precision = usize::from(precision);
     let scale = usize::from(scale);
     let decimal = Decimal::read_bin(alloc, buf, precision, scale, false)?;
-    Ok(text_of(alloc, &decimal)?)
+    // A sign, a zero before the point, and the point.
+    Ok(text_of(alloc, &decimal, precision + 3)?)
 }

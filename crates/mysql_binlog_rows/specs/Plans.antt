@@ -8,6 +8,7 @@ use Rattle.binlog_base.specs.Format.{Format, no_bytes, refusal, check, sequence,
 use Rattle.binlog_base.specs.Bits.{count_set, bit_list}
 use Rattle.binlog_base.specs.Values.{ColumnView, Null}
 use Rattle.binlog_table.specs.TableMap.{TableMap}
+use Rattle.binlog_table.specs.ColumnTypes.{json_count}
 use Rattle.binlog_table.specs.Extracted.{field_fault}
 use Rattle.binlog_table.specs.TableColumns.{Column, table_columns}
 use Rattle.mysql_binlog_rows.specs.declared.value.form.Form.{Form}
@@ -17,9 +18,11 @@ use Rattle.mysql_binlog_rows.specs.Images.{BinlogRow, Pair, row_column, is_whole
 
 -- ---- what is kept
 
--- how the cells of a column are read, or their fault, and whether the column is in the image
+-- how the cells of a column are read, or their fault; how many columns before it have the raw type
+-- JSON; and whether the column is in the image
 pub record Slot : Type 0 where
   pub form : Result Form Fault
+  pub json_place : ℕ
   pub present : Bool
 
 -- The columns of an event up to the first with a fault; those in the image as rows have them; and
@@ -30,7 +33,7 @@ pub record Planned : Type 0 where
   pub fault : Option Fault
 
 abbrev pub slot_of : Column → Bool → Slot
-slot_of c present = record { form = form_of c.column_type (unwrap_or c.metadata []) c.unsigned; present = present }
+slot_of c present = record { form = form_of c.column_type (unwrap_or c.metadata []) c.unsigned; json_place = c.json_place; present = present }
 
 abbrev pub when_present : {A : Type 0} → Bool → A → List A → List A
 when_present true x more = x ∷ more
@@ -65,13 +68,15 @@ abbrev pub unless_refused : Option Fault → Planned → Planned
 unless_refused None planned = planned
 unless_refused (Some e) planned = nothing_then (Some e)
 
--- how images with the same bitmap are read: the count of null bits, and the columns
+-- how images with the same bitmap are read: the count of null bits, how many columns of the table
+-- have the raw type JSON, and the columns of the event
 pub record Plan : Type 0 where
   pub count : ℕ
+  pub json_columns : ℕ
   pub planned : Planned
 
 abbrev pub plan_of : TableMap → List Bool → Plan
-plan_of t present = record { count = count_set present; planned = unless_refused (field_fault t) (planned_from t 0 (table_columns t) present) }
+plan_of t present = record { count = count_set present; json_columns = json_count t.types; planned = unless_refused (field_fault t) (planned_from t 0 (table_columns t) present) }
 
 -- how the pairs of an event are read
 pub record Plans : Type 0 where

@@ -23,11 +23,12 @@ use std::alloc::Global;
 use std::marker::Model;
 use std::rc::RcSlice;
 
-/// A column of the event, as a plan keeps it: how its cells are read, and whether it is in the
-/// image.
+/// A column of the event, as a plan keeps it: how its cells are read, its place among the table's
+/// JSON columns, and whether it is in the image.
 #[derive(Drop)]
 struct Slot {
     form: Result<Form, Fault>,
+    json_place: usize,
     present: bool,
 }
 
@@ -36,7 +37,7 @@ impl Model for Slot {
 
     ghost Value = { Spec.Slot };
 
-    ghost view = { λ s. record { form = s.form; present = s.present } };
+    ghost view = { λ s. record { form = s.form; json_place = s.json_place; present = s.present } };
 }
 
 /// The columns of an event up to the first with a fault: how the cells of each are read; those in
@@ -60,6 +61,7 @@ impl Model for Planned {
 #[derive(Drop)]
 pub(crate) struct Plan {
     count: usize,
+    json_columns: usize,
     slots: Vec<Slot>,
     columns: RcSlice<Column>,
     fault: Option<Fault>,
@@ -73,6 +75,7 @@ impl Model for Plan {
 
     ghost view = { λ p. record {
       count = p.count;
+      json_columns = p.json_columns;
       planned = record { slots = p.slots.items; columns = rc_slice_items p.columns; fault = p.fault };
     } };
 }
@@ -149,6 +152,7 @@ fn slot_of(column: &TableColumn<'_>, present: bool) -> Slot
     let metadata = column.metadata.unwrap_or(&[]);
     Slot {
         form: form_of(column.column_type, metadata, column.unsigned),
+        json_place: column.json_place,
         present,
     }
 }
@@ -219,6 +223,7 @@ impl Plan {
         *steps += walk.steps();
         Ok(Plan {
             count: present.count_ones(),
+            json_columns: table.json_column_count(),
             slots: planned.slots,
             columns: RcSlice::from_vec(planned.columns)?,
             fault: planned.fault,

@@ -65,8 +65,7 @@ pub enum Fault {
     /// The length of a BLOB column's cells doesn't take 1 to 4 bytes.
     #[error("unknown width of a blob's length")]
     UnknownBlob,
-    /// Something that isn't supported: cells of the column's type, optional metadata, an image
-    /// before the change, or a partial update.
+    /// Something that isn't supported: cells of the column's type, or a partial update.
     #[error("not supported")]
     Unhandled,
     /// A decimal's scale is above its precision.

@@ -4,7 +4,8 @@ ghost use Rattle.std.specs.Prelude.{⊤, [], ◌∷◌, codes};
 
 use bitflags::{Flag, Flags, bitflag_items};
 
-/// The flags of a MySQL column definition. The reader of rows sets none of them yet.
+/// The flags of a MySQL column definition. The reader of rows sets `UNSIGNED_FLAG` and
+/// `PRI_KEY_FLAG` alone.
 #[derive(Clone, Copy, Debug, PartialEq, Eq, Hash)]
 pub struct ColumnFlags(u16);
 

@@ -7,10 +7,10 @@ ghost use Rattle.binlog_base.specs.Items.{items, result_map};
 ghost use Rattle.binlog_base.specs.Strings.{lenenc_string};
 ghost use Rattle.binlog_base.specs.ColumnTypes.{is_character, is_enum_or_set};
 ghost use Rattle.binlog_table.specs.ColumnTypes.{raw_type_of, real_type_of};
-ghost use Rattle.binlog_table.specs.Fields.{is_numeric_number};
+ghost use Rattle.binlog_table.specs.Fields.{is_numeric_number, fields};
 ghost use Rattle.binlog_table.specs.CharsetsLeft.{row_charset};
 ghost use Rattle.binlog_table.specs.TableColumns.{typed, named, column_by, columns_by, column_at, table_columns};
-ghost use Rattle.binlog_table.specs.Extracted.{kept_of, kept_bytes, field_fault};
+ghost use Rattle.binlog_table.specs.Extracted.{kept_of, kept_bytes, field_fault, fields_of};
 ghost use Rattle.binlog_table.specs.ColumnsLeft.{seen_column, bit_here, bits_after, charset_here, parts_left, columns_left, Follows, Advances, HasRoom, steps_of, most_of};
 ghost use Rattle.binlog_table.specs.Lists.{Spends, count_of};
 
@@ -174,6 +174,7 @@ fn walk_of<'a>(
     ensures columns { kept.now ≡ kept_of table.now → types.now ≡ table.now.types
         → columns_left result ≡ columns_by (column_at table.now) (length table.now.types) }
     ensures none { types.now ≡ [] → columns_left result ≡ [] }
+    ensures steps { fields ≤ steps_of result }
     ensures most { most_of result ≤ fields + kept_bytes kept.now }
     ensures room { HasRoom result }
 {
@@ -223,6 +224,8 @@ impl<'a> TableColumns<'a> {
     pub fn new(table: &'a TableMapEvent<'_>) -> TableColumns<'a>
         ensures fault { result.fault ≡ field_fault table.now }
         ensures columns { result.columns ≡ table_columns table.now }
+        // Each field is a step.
+        ensures steps { result.fault ≡ None → length (fields (fields_of table.now)) ≤ result.steps }
         ensures most { result.most ≤ length table.now.optional_metadata }
     {
         let mut fields = table.iter_optional_meta();

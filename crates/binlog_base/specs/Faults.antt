@@ -1,5 +1,5 @@
 -- The numbers and kinds of faults, and which faults bytes can have.
-use Rattle.std.specs.Prelude.{ℕ, Bool, true, false, IsTrue}
+use Rattle.std.specs.Prelude.{ℕ, Bool, true, false, IsTrue, Result, IfErr}
 use Rattle.binlog_base.specs.declared.fault.Fault.{Fault}
 use Rattle.binlog_base.specs.declared.fault.Fault.TheVariants as fault
 use Rattle.binlog_base.specs.declared.fault.FaultKind.{FaultKind}
@@ -53,3 +53,7 @@ is_of_bytes _ = true
 
 abbrev pub IsOfBytes : Fault → Type 0
 IsOfBytes e = IsTrue (is_of_bytes e)
+
+-- a value, or a fault that bytes can have
+abbrev pub OfBytes : {A : Type 0} → Result A Fault → Type 0
+OfBytes r = IfErr r IsOfBytes

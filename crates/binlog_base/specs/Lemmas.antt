@@ -1,6 +1,7 @@
 -- What follows from the definitions in the folder above. All of it is proved, so a reader of the
 -- contracts can skip it.
 pub mod Format
+pub mod Faults
 pub mod Tables
 pub mod ColumnTypes
 pub mod Powers

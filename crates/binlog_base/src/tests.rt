@@ -360,6 +360,7 @@ fn strings_are_written(rt: HostRuntime) -> Result<(), Fail> {
         written(&rt, &owned)?.as_slice(),
         [7, 3, 97, 0xff, 98].as_slice()
     );
+    assert_eq!(rt; owned.into_bytes().as_slice(), [97, 0xff, 98].as_slice());
     let long = vec![in alloc; 5u8; 300]?;
     let cut = RawBytes::<U8Bytes>::new(CowSlice::Borrowed(&long));
     assert_eq!(rt; written(&rt, &cut)?.len(), 1 + 1 + 255);

@@ -7,3 +7,4 @@ pub mod DecimalPrinting
 pub mod DecimalRanges
 pub mod DecimalSources
 pub mod DecimalGrammar
+pub mod JsonbElements

@@ -2,3 +2,4 @@
 pub mod DecimalGroups
 pub mod DecimalMasks
 pub mod PackedDecimals
+pub mod JsonbValues

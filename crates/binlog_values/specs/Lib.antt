@@ -8,4 +8,10 @@ pub mod DecimalReads
 pub mod PackedDecimals
 pub mod DecimalLaws
 pub mod DecimalText
+pub mod JsonbTypes
+pub mod JsonbLayout
+pub mod JsonbValues
+pub mod JsonbSeen
+pub mod JsonbViews
+pub mod JsonbElements
 pub mod Lemmas

@@ -1,7 +1,8 @@
-//! Proved facts about decimals, each written as the contract of a function that does nothing.
+//! Proved facts about decimals and binary JSON, each written as the contract of a function that does nothing.
 
 ghost use Rattle.std.specs.Prelude.{ℕ, Bool};
 ghost use Rattle.binlog_base.specs.Format.{IsExact};
+ghost use Rattle.binlog_values.specs.JsonbValues.{Frame, element};
 ghost use Rattle.binlog_values.specs.PackedDecimals.{packed_decimal, counted_decimal};
 ghost use Rattle.binlog_values.specs.DecimalLaws.{PackedReadsBack, PackedHasSize, EqualWherePackedAlike, PrintedReadsBack, PackedWhereInRange, TextsAreNumerals};
 
@@ -40,4 +41,10 @@ pub fn decimals_are_packed_in_range()
 /// dropped, it is an optional sign, digits, an optional point and digits.
 pub fn texts_are_numerals()
     ensures { TextsAreNumerals }
+{}
+
+/// The bytes of a container determine each of its elements, or the element's fault.
+#[tactic(auto, using(crate::specs::Lemmas::JsonbValues::exact_element))]
+pub fn elements_are_exact()
+    ensures { (c : Frame) (i : ℕ) → IsExact (element c i) }
 {}

@@ -4,6 +4,7 @@
 
 pub mod decimal;
 mod digits;
+pub mod jsonb;
 pub mod laws;
 #[cfg(test)]
 mod tests;

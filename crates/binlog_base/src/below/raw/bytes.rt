@@ -135,9 +135,14 @@ impl<'a, T: BytesRepr> RawBytes<'a, T> {
             kind: PhantomData,
         })
     }
-}
 
-impl<'a, T: BytesRepr> RawBytes<'a, T> {
+    /// Returns the string's bytes, still borrowed or owned.
+    pub fn into_bytes(self) -> CowSlice<'a, u8>
+        ensures { cow_slice_items result ≡ self.entry }
+    {
+        self.text
+    }
+
     /// Returns the same string, with bytes of its own.
     pub fn clone(&self, alloc: Global) -> Result<Self, AllocError>
         ensures { IfOk result (λ copy. copy ≡ self.now) }

@@ -124,7 +124,11 @@ fn next_charset(
 fn json_columns(raw: u8) -> usize
     ensures { result ≡ if raw == 245 then 1 else 0 }
 {
-    if raw == 245 { 1 } else { 0 }
+    if raw == ColumnType::MYSQL_TYPE_JSON as u8 {
+        1
+    } else {
+        0
+    }
 }
 
 // The next column.

@@ -1,0 +1,18 @@
+//! Binary JSON, as MySQL stores it in its documents and in the binlog: containers with offsets, and
+//! scalars.
+
+mod complex;
+mod elements;
+mod format;
+mod strings;
+#[cfg(test)]
+mod tests;
+mod types;
+mod value;
+
+pub use complex::ComplexValue;
+pub use elements::{ArrayIter, ObjectIter, ObjectKeys};
+pub use format::{Array, ComplexType, Large, Object, Small, StorageFormat};
+pub use strings::{JsonbString, ObjectKey, OpaqueValue};
+pub use types::{JsonbType, LiteralType, UnknownJsonbType, UnknownLiteralType};
+pub use value::Value;

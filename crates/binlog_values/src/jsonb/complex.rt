@@ -1,0 +1,275 @@
+//! Containers: their elements and keys.
+
+ghost use Rattle.std.specs.Prelude.{◌≡◌, ◌+◌, ◌*◌, ◌≤◌, ◌<◌, length, false, IfOk, true};
+ghost use Rattle.std.specs.Cow.{cow_slice_items};
+ghost use Rattle.binlog_base.specs.Format.{ParsesAs, Parses};
+ghost use Rattle.binlog_base.specs.Items.{result_map};
+ghost use Rattle.binlog_values.specs.JsonbLayout.{number_at, offset_size, header_len};
+ghost use Rattle.binlog_values.specs.JsonbValues.{container, typed_at, key_at};
+ghost use Rattle.binlog_values.specs.JsonbSeen.{typed};
+
+use super::format::{ComplexType, StorageFormat};
+use super::types::JsonbType;
+use binlog_base::below::{MyDeserialize, ParseBuf};
+use binlog_base::fault::{Fault, JsonbError};
+use byteorder::{ByteOrder, LittleEndian};
+use std::alloc::{AllocError, Global};
+use std::borrow::CowSlice;
+use std::marker::{Model, PhantomData};
+
+/// A container of a storage format and a kind, over bytes that it borrows.
+#[derive(Drop)]
+pub(super) struct Lent<'a, T: StorageFormat, U: ComplexType> {
+    element_count: u32,
+    bytes: &'a [u8],
+    format: PhantomData<(T, U)>,
+}
+
+impl<'a, T: StorageFormat, U: ComplexType> Model for Lent<'a, T, U> {
+    ghost use Rattle.std.specs.Prelude.{◌≤◌, length};
+    ghost use Rattle.binlog_values.specs.JsonbLayout.{header_len};
+    ghost use Rattle.binlog_values.specs.JsonbValues.{Frame};
+
+    ghost Value = { Frame };
+
+    ghost view = { λ v. record {
+      is_array = U.IS_ARRAY;
+      is_large = T.IS_LARGE;
+      count = v.element_count;
+      bytes = v.bytes.now;
+    } };
+
+    ghost invariant = { λ v. header_len U.IS_ARRAY T.IS_LARGE v.element_count ≤ length v.bytes.now };
+}
+
+/// A type, and bytes that begin with a value of that type.
+#[derive(Clone, Copy)]
+pub(super) struct TypedBytes<'a> {
+    pub value_type: JsonbType,
+    pub bytes: &'a [u8],
+}
+
+// Returns the offset at a place of a container.
+fn offset_at<T: StorageFormat>(bytes: &[u8], at: usize) -> u32
+    requires { at + offset_size T.IS_LARGE ≤ length bytes.now }
+    ensures { result ≡ number_at (offset_size T.IS_LARGE) at bytes.now }
+{
+    T::eat_offset(&mut ParseBuf(&bytes[at..]))
+}
+
+// Returns how many bytes an offset takes.
+fn offset_width<T: StorageFormat>() -> usize
+    ensures { result ≡ offset_size T.IS_LARGE }
+{
+    usize::from(T::OFFSET_SIZE)
+}
+
+impl<'a, T: StorageFormat, U: ComplexType> Lent<'a, T, U> {
+    /// Reads a container at the start of the bytes, and takes as many bytes as its size says.
+    #[tactic(auto, unfolding(crate::specs::JsonbValues::container))]
+    pub fn read(buf: &mut ParseBuf<'a>) -> Result<Self, Fault>
+        ensures { Parses (container U.IS_ARRAY T.IS_LARGE) result buf.old.0.now buf.new.0.now }
+    {
+        let bytes = buf.0;
+        let width = offset_width::<T>();
+        if bytes.len() < 2 * width {
+            return Err(Fault::UnexpectedEof);
+        }
+        let element_count = offset_at::<T>(bytes, 0);
+        let size = offset_at::<T>(bytes, width) as usize;
+        if size < U::header_size::<T>(element_count) || bytes.len() < size {
+            return Err(Fault::Jsonb(JsonbError::SizeOverflow));
+        }
+        buf.0 = &bytes[size..];
+        Ok(Lent {
+            element_count,
+            bytes: &bytes[..size],
+            format: PhantomData,
+        })
+    }
+
+    /// Returns how many elements the container has.
+    pub fn element_count(&self) -> u32
+        ensures { result ≡ self.now.count }
+    {
+        self.element_count
+    }
+
+    /// Returns the type and the bytes of an element's value.
+    #[tactic(auto, unfolding(crate::specs::JsonbValues::typed_at))]
+    pub fn typed_at(&self, pos: u32) -> Result<TypedBytes<'a>, Fault>
+        requires { pos < self.now.count }
+        ensures { result_map typed result ≡ typed_at self.now pos }
+    {
+        let width = offset_width::<T>();
+        let at = U::value_entry_offset::<T>(self.element_count, pos);
+        let value_type = JsonbType::try_from(self.bytes[at])?;
+        if value_type.is_inlined(T::IS_LARGE) {
+            return Ok(TypedBytes {
+                value_type,
+                bytes: &self.bytes[at + 1..at + 1 + width],
+            });
+        }
+        let offset = offset_at::<T>(self.bytes, at + 1) as usize;
+        if offset < at + 1 + width || self.bytes.len() < offset {
+            return Err(Fault::Jsonb(JsonbError::InvalidValueOffsetPointer));
+        }
+        Ok(TypedBytes {
+            value_type,
+            bytes: &self.bytes[offset..],
+        })
+    }
+
+    /// Returns the bytes of the key of an entry. Objects alone have keys.
+    #[tactic(auto, unfolding(crate::specs::JsonbValues::key_at))]
+    pub fn key_bytes(&self, pos: u32) -> Result<&'a [u8], Fault>
+        requires object { self.now.is_array ≡ false }
+        requires there { pos < self.now.count }
+        ensures { result_map (λ b. b.now) result ≡ key_at self.now pos }
+    {
+        let width = offset_width::<T>();
+        let at = 2 * width + (width + 2) * pos as usize;
+        let offset = offset_at::<T>(self.bytes, at) as usize;
+        let bytes = self.bytes;
+        let len = usize::from(LittleEndian::read_u16(&bytes[at + width..]));
+        if offset < U::header_size::<T>(self.element_count) || bytes.len() < offset + len {
+            return Err(Fault::Jsonb(JsonbError::InvalidKeyOffsetPointer));
+        }
+        Ok(&bytes[offset..offset + len])
+    }
+}
+
+/// A container of binary JSON: an object or an array, in the small or the large storage format. Its
+/// elements are read when they are asked for. Contracts see it as a `Frame`: its kind and format, the
+/// count of its elements, and its bytes.
+#[derive(Drop)]
+pub struct ComplexValue<'a, T: StorageFormat, U: ComplexType> {
+    element_count: u32,
+    bytes: CowSlice<'a, u8>,
+    format: PhantomData<(T, U)>,
+}
+
+impl<'a, T: StorageFormat, U: ComplexType> Model for ComplexValue<'a, T, U> {
+    ghost use Rattle.std.specs.Prelude.{◌≤◌, length};
+    ghost use Rattle.std.specs.Cow.{cow_slice_items};
+    ghost use Rattle.binlog_values.specs.JsonbLayout.{header_len};
+    ghost use Rattle.binlog_values.specs.JsonbValues.{Frame};
+
+    ghost Value = { Frame };
+
+    ghost view = { λ v. record {
+      is_array = U.IS_ARRAY;
+      is_large = T.IS_LARGE;
+      count = v.element_count;
+      bytes = cow_slice_items v.bytes;
+    } };
+
+    ghost invariant = { λ v. header_len U.IS_ARRAY T.IS_LARGE v.element_count ≤ length (cow_slice_items v.bytes) };
+}
+
+impl<'a, T: StorageFormat, U: ComplexType> ComplexValue<'a, T, U> {
+    // Reads a container at the start of the bytes, and takes as many bytes as its size says.
+    pub(super) fn read(buf: &mut ParseBuf<'a>) -> Result<Self, Fault>
+        ensures { Parses (container U.IS_ARRAY T.IS_LARGE) result buf.old.0.now buf.new.0.now }
+    {
+        let lent: Lent<'a, T, U> = Lent::read(buf)?;
+        Ok(ComplexValue {
+            element_count: lent.element_count,
+            bytes: CowSlice::Borrowed(lent.bytes),
+            format: PhantomData,
+        })
+    }
+
+    // Returns the same container over the bytes of this one.
+    pub(super) fn lent(&self) -> Lent<'_, T, U>
+        ensures { result ≡ self.now }
+    {
+        Lent {
+            element_count: self.element_count,
+            bytes: self.bytes.as_slice(),
+            format: PhantomData,
+        }
+    }
+
+    /// Returns how many elements the container has.
+    pub fn element_count(&self) -> u32
+        ensures { result ≡ self.now.count }
+    {
+        self.element_count
+    }
+
+    // Returns whether the container is an array.
+    pub(super) fn is_array(&self) -> bool
+        ensures { result ≡ self.now.is_array }
+    {
+        let _ = &self.element_count;
+        U::IS_ARRAY
+    }
+
+    // Returns the same container, with bytes of its own.
+    pub(super) fn clone(&self, alloc: Global) -> Result<Self, AllocError>
+        ensures { IfOk result (λ copy. copy ≡ self.now) }
+    {
+        Ok(ComplexValue {
+            element_count: self.element_count,
+            bytes: CowSlice::Owned(self.bytes.as_slice().to_vec(alloc)?),
+            format: PhantomData,
+        })
+    }
+
+    /// Returns the container with bytes that it owns. Borrowed bytes are copied, and the call fails
+    /// where memory is refused.
+    pub fn into_owned(self, alloc: Global) -> Result<ComplexValue<'static, T, U>, AllocError>
+        ensures { IfOk result (λ owned. owned ≡ self.entry) }
+    {
+        let ComplexValue {
+            element_count,
+            bytes,
+            format: _,
+        } = self;
+        Ok(ComplexValue {
+            element_count,
+            bytes: CowSlice::Owned(bytes.into_owned(alloc)?),
+            format: PhantomData,
+        })
+    }
+}
+
+/// A container is read by its own, and leaves the bytes after it.
+impl<'de, T: StorageFormat, U: ComplexType> MyDeserialize<'de> for ComplexValue<'de, T, U> {
+    ghost use Rattle.binlog_values.specs.JsonbValues.{Frame, container};
+    ghost use Rattle.binlog_values.specs.Lemmas.JsonbValues.{exact_container};
+
+    ghost Seen = { Frame };
+
+    ghost seen = { λ c. c };
+
+    ghost format = { λ _. container U.IS_ARRAY T.IS_LARGE };
+
+    ghost exact = { λ _. exact_container U.IS_ARRAY T.IS_LARGE };
+
+    const SIZE: Option<usize> = None;
+
+    type Ctx = ();
+
+    fn deserialize(_ctx: (), buf: &mut ParseBuf<'de>) -> Result<Self, Fault> {
+        ComplexValue::read(buf)
+    }
+}
+
+/// Two containers are equal where their counts and their bytes are.
+impl<'a, T: StorageFormat, U: ComplexType> PartialEq for ComplexValue<'a, T, U> {
+    ghost use Rattle.std.specs.Prelude.{◌==◌};
+    ghost use Rattle.std.proofs.Common.{rules};
+    ghost use Rattle.std.specs.Cmp.Lexicographic.{pointwise};
+    ghost use Rattle.std.specs.Cmp.Rules.{comparing};
+    ghost use Rattle.std.specs.Ordering.{on, eq_of_both};
+
+    ghost eq = { eq_of_both (on (λ c. c.count) (◌==◌)) (on (λ c. c.bytes) (pointwise (◌==◌))) };
+
+    ghost laws = { Prim.search (comparing, rules) };
+
+    fn eq(&self, other: &ComplexValue<'a, T, U>) -> bool {
+        self.element_count == other.element_count && self.bytes.as_slice() == other.bytes.as_slice()
+    }
+}

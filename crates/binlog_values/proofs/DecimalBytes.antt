@@ -1,106 +1,23 @@
 -- The bytes of whole packed decimals: how they are written, read and refused.
-use Rattle.std.proofs.Common.{◌≡◌, ◌≢◌, ℕ, zero, suc, ◌+◌, ◌-◌, ◌*◌, ◌/◌, ◌%◌, ◌<◌, ◌≤◌, Bool, true, false, List, [], ◌∷◌, ◌++◌, length, take, drop, replicate, Option, Some, None, Result, Ok, Err, refl, sym, ap, subst, ◌∙◌, append-nil, arith, inr}
-use Rattle.std.specs.Prelude.{nat_lt, ◌==◌, ◌&&◌}
+use Rattle.std.proofs.Common.{◌≡◌, ℕ, ◌+◌, ◌*◌, ◌/◌, ◌%◌, ◌<◌, ◌≤◌, Bool, List, [], ◌∷◌, ◌++◌, length, take, drop, replicate, Option, Result, Ok, Err, sym, ap, subst, ◌∙◌, append-nil, arith, inr}
 use Rattle.std.specs.Result.{OnOk}
 use Rattle.std.specs.Int.Digits.{AllBelowBase}
-use Rattle.std.specs.Io.KnownBytes.{Appends, Consumes}
+use Rattle.std.specs.Io.KnownBytes.{Appends}
 use Rattle.std.proofs.KnownBytes.{Appends-trans}
-use Rattle.std.proofs.Math.Dec.{eqb-suc-zero}
-use Rattle.std.proofs.lemmas.Bool.{le-ltb, lt-ltb, ltb-true}
-use Rattle.std.proofs.lemmas.List.{length-append, length-take-le, length-drop, take_all, take-append-drop, take_at, drop_at}
+use Rattle.std.proofs.lemmas.List.{length-take-le, length-drop, take_all, take-append-drop, take_at, drop_at}
 use Rattle.binlog_base.specs.declared.fault.Fault.{Fault}
-use Rattle.binlog_base.specs.declared.fault.Fault.TheVariants as fault
-use Rattle.binlog_base.specs.declared.fault.Fault.TheVariants.{DecimalScale}
 use Rattle.binlog_base.specs.Format.{Parses, OrMemory}
-use Rattle.binlog_values.specs.Decimals.{DecimalView, IsPacked, packed_bytes, packed_size, group_width, group_bytes, grouped_bytes, integer_groups, fraction_groups, digits_size, inverted_bytes, flipped_bytes, zero_decimal, kept_decimal}
-use Rattle.binlog_values.specs.DecimalGroups.{IsCut, digits_in, bytes_in}
-use Rattle.binlog_values.specs.Lemmas.DecimalGroups.{digits_in-nines, bytes_in-nines, digits_in-integer, digits_in-fraction, bytes_in-integer, grouped_bytes-append, length-grouped_bytes, length-group_bytes}
-use Rattle.binlog_values.specs.DecimalMasks.{masked_bytes, is_nil, is_minus, unmasked_bytes}
-use Rattle.binlog_values.specs.Lemmas.DecimalMasks.{masked_bytes-append, masked_bytes-unmasked_bytes}
+use Rattle.binlog_values.specs.Decimals.{DecimalView, IsPacked, packed_bytes, packed_size, group_width, grouped_bytes, integer_groups, fraction_groups, digits_size, inverted_bytes, flipped_bytes}
+use Rattle.binlog_values.specs.DecimalGroups.{IsCut, digits_in}
+use Rattle.binlog_values.specs.Lemmas.DecimalGroups.{bytes_in-nines, digits_in-integer, digits_in-fraction, bytes_in-integer, length-grouped_bytes}
+use Rattle.binlog_values.specs.DecimalMasks.{is_minus, unmasked_bytes}
+use Rattle.binlog_values.specs.Lemmas.DecimalMasks.{masked_bytes-unmasked_bytes}
 use Rattle.binlog_values.specs.DecimalReads.{Unpacks, UnpacksDecimal}
-use Rattle.binlog_values.specs.PackedDecimals.{decimal_in_bytes, packed_digits, packed_decimal, counted_decimal}
-use Rattle.binlog_values.specs.Lemmas.PackedDecimals.{unmasked_bytes-packed_bytes, some_sum, exact_packed_digits, exact_packed_decimal}
+use Rattle.binlog_values.specs.PackedDecimals.{packed_digits}
+use Rattle.binlog_values.specs.Lemmas.PackedDecimals.{unmasked_bytes-packed_bytes, exact_packed_digits}
 use Rattle.binlog_values.proofs.DecimalSteps.{unpacks-then, unpacks-stop}
 
 -- ---- what is written
-
-nil_is : (xs : List ℕ) → is_nil xs ≡ (length xs == 0)
-nil_is [] = refl
-nil_is (x ∷ xs) = sym (eqb-suc-zero (length xs))
-
--- two numbers, each of which is 0 only if the other is
-both_zero : (m n : ℕ) → (m ≡ 0 → n ≡ 0) → (n ≡ 0 → m ≡ 0) → (m == 0) ≡ (n == 0)
-both_zero zero zero f g = refl
-both_zero zero (suc n) f g = absurd (omega (arith, f refl))
-both_zero (suc m) zero f g = absurd (omega (arith, g refl))
-both_zero (suc m) (suc n) f g = eqb-suc-zero m ∙ sym (eqb-suc-zero n)
-
-nil_group : (ds : List ℕ) → is_nil (group_bytes ds) ≡ (length ds == 0)
-nil_group ds =
-    let width = length-group_bytes ds in
-    nil_is (group_bytes ds) ∙ both_zero (length (group_bytes ds)) (length ds) (λ h. omega (arith, width, h)) (λ h. omega (arith, width, h))
-
-nil_grouped : (sizes ds : List ℕ) → length ds ≡ digits_in sizes → (bytes_in sizes ≡ 0 → digits_in sizes ≡ 0) → (digits_in sizes ≡ 0 → bytes_in sizes ≡ 0) → is_nil (grouped_bytes sizes ds) ≡ (length ds == 0)
-nil_grouped sizes ds long f g =
-    let width = length-grouped_bytes sizes ds long in
-    nil_is (grouped_bytes sizes ds) ∙ both_zero (length (grouped_bytes sizes ds)) (length ds) (λ h. long ∙ f (sym width ∙ h)) (λ h. width ∙ g (sym long ∙ h))
-
-pub integer-masked_bytes : (negative : Bool) (ds group nines : List ℕ) → group ≡ take (length ds % 9) ds → nines ≡ drop (length ds % 9) ds
-    → masked_bytes negative true (grouped_bytes (integer_groups (length ds)) ds) ≡ masked_bytes negative true (group_bytes group) ++ masked_bytes negative (true && (length group == 0)) (grouped_bytes (replicate (length nines / 9) 9) nines)
-unfolding grouped_bytes
-integer-masked_bytes negative ds group nines is after =
-    let long : length nines ≡ length ds - length ds % 9 = ap length after ∙ length-drop (length ds % 9) ds in
-    let count : length ds / 9 ≡ length nines / 9 = omega arith in
-    let parts : grouped_bytes (integer_groups (length ds)) ds ≡ group_bytes group ++ grouped_bytes (replicate (length nines / 9) 9) nines =
-    ap (λ (n : ℕ). group_bytes (take (length ds % 9) ds) ++ grouped_bytes (replicate n 9) (drop (length ds % 9) ds)) count
-    ∙ ap (λ (l : List ℕ). group_bytes l ++ grouped_bytes (replicate (length nines / 9) 9) (drop (length ds % 9) ds)) (sym is)
-    ∙ ap (λ (l : List ℕ). group_bytes group ++ grouped_bytes (replicate (length nines / 9) 9) l) (sym after) in
-    ap (masked_bytes negative true) parts ∙ masked_bytes-append negative true (group_bytes group) (grouped_bytes (replicate (length nines / 9) 9) nines)
-    ∙ ap (λ (b : Bool). masked_bytes negative true (group_bytes group) ++ masked_bytes negative b (grouped_bytes (replicate (length nines / 9) 9) nines)) (nil_group group)
-
-one_group : (size : ℕ) (ds : List ℕ) → length ds ≡ size → grouped_bytes (size ∷ []) ds ≡ group_bytes ds
-unfolding grouped_bytes
-one_group size ds long = append-nil (group_bytes (take size ds)) ∙ ap group_bytes (take_all size ds (omega arith))
-
-pub fraction-masked_bytes : (negative first : Bool) (ds nines group : List ℕ) → nines ≡ take (length ds / 9 * 9) ds → group ≡ drop (length ds / 9 * 9) ds
-    → masked_bytes negative first (grouped_bytes (fraction_groups (length ds)) ds) ≡ masked_bytes negative first (grouped_bytes (replicate (length nines / 9) 9) nines) ++ masked_bytes negative (first && (length nines == 0)) (group_bytes group)
-fraction-masked_bytes negative first ds nines group is after =
-    let n = length ds / 9 in
-    let within : n * 9 ≤ length ds = omega arith in
-    let front : length nines ≡ n * 9 = ap length is ∙ length-take-le (n * 9) ds within in
-    let back : length group ≡ length ds % 9 = omega (arith, ap length after, length-drop (n * 9) ds) in
-    let count : length nines / 9 ≡ n = omega arith in
-    let decimal_in_bytes : length nines ≡ digits_in (replicate n 9) = omega (arith, front, digits_in-nines n) in
-    let all : nines ++ group ≡ ds = ap (λ (l : List ℕ). l ++ group) is ∙ ap (λ (l : List ℕ). take (n * 9) ds ++ l) after ∙ take-append-drop (n * 9) ds in
-    let sizes = fraction_groups (length ds) in
-    let parts : grouped_bytes sizes ds ≡ grouped_bytes (replicate (length nines / 9) 9) nines ++ group_bytes group =
-    ap (grouped_bytes sizes) (sym all) ∙ grouped_bytes-append (replicate n 9) ((length ds % 9) ∷ []) nines group decimal_in_bytes
-    ∙ ap (λ (l : List ℕ). grouped_bytes (replicate n 9) nines ++ l) (one_group (length ds % 9) group back)
-    ∙ ap (λ (k : ℕ). grouped_bytes (replicate k 9) nines ++ group_bytes group) (sym count) in
-    let again : length nines ≡ digits_in (replicate (length nines / 9) 9) = decimal_in_bytes ∙ ap (λ (k : ℕ). digits_in (replicate k 9)) (sym count) in
-    let none = nil_grouped (replicate (length nines / 9) 9) nines again
-    (λ h. omega (arith, h, digits_in-nines (length nines / 9), bytes_in-nines (length nines / 9)))
-    (λ h. omega (arith, h, digits_in-nines (length nines / 9), bytes_in-nines (length nines / 9))) in
-    ap (masked_bytes negative first) parts ∙ masked_bytes-append negative first (grouped_bytes (replicate (length nines / 9) 9) nines) (group_bytes group)
-    ∙ ap (λ (b : Bool). masked_bytes negative first (grouped_bytes (replicate (length nines / 9) 9) nines) ++ masked_bytes negative (first && b) (group_bytes group)) none
-
-pub packed_bytes-masked_bytes : (d : DecimalView) → packed_bytes d ≡ masked_bytes d.negative true (grouped_bytes (integer_groups (length d.integer)) d.integer) ++ masked_bytes d.negative (true && (length d.integer == 0)) (grouped_bytes (fraction_groups (length d.fraction)) d.fraction)
-unfolding packed_bytes
-packed_bytes-masked_bytes d =
-    let i = length d.integer in
-    let front = grouped_bytes (integer_groups i) d.integer in
-    let back = grouped_bytes (fraction_groups (length d.fraction)) d.fraction in
-    let none = nil_grouped (integer_groups i) d.integer (sym (digits_in-integer i))
-    (λ h. omega (arith, h, digits_in-integer i, bytes_in-integer i)) (λ h. omega (arith, h, digits_in-integer i, bytes_in-integer i)) in
-    masked_bytes-append d.negative true front back ∙ ap (λ (b : Bool). masked_bytes d.negative true front ++ masked_bytes d.negative b back) none
-
-pub packed_bytes-parts : (d : DecimalView) (x y z : List ℕ) (first : Bool) → x ≡ d.integer → y ≡ d.fraction → z ≡ d.integer → first ≡ (length z == 0)
-    → packed_bytes d ≡ masked_bytes d.negative true (grouped_bytes (integer_groups (length x)) x) ++ masked_bytes d.negative first (grouped_bytes (fraction_groups (length y)) y)
-packed_bytes-parts d x y z first i f again none =
-    packed_bytes-masked_bytes d
-    ∙ ap (λ (b : Bool). masked_bytes d.negative true (grouped_bytes (integer_groups (length d.integer)) d.integer) ++ masked_bytes d.negative b (grouped_bytes (fraction_groups (length d.fraction)) d.fraction)) (sym (none ∙ ap (λ (l : List ℕ). length l == 0) again))
-    ∙ ap (λ (l : List ℕ). masked_bytes d.negative true (grouped_bytes (integer_groups (length l)) l) ++ masked_bytes d.negative first (grouped_bytes (fraction_groups (length d.fraction)) d.fraction)) (sym i)
-    ∙ ap (λ (l : List ℕ). masked_bytes d.negative true (grouped_bytes (integer_groups (length x)) x) ++ masked_bytes d.negative first (grouped_bytes (fraction_groups (length l)) l)) (sym f)
 
 -- appending bytes in two steps is appending them all
 pub appended : {X : Type 0} (r : Result X Fault) (old mid new : Option (List ℕ)) (a b all : List ℕ) → Appends old mid a → OnOk r (Appends mid new b) → all ≡ a ++ b → OnOk r (Appends old new all)

@@ -12,7 +12,7 @@ use Rattle.binlog_base.specs.Numbers.{big_endian}
 use Rattle.binlog_base.specs.Widths.{IsOfWidth}
 use Rattle.binlog_base.specs.Lemmas.Widths.{map_value_is_of_width, choice_is_of_width}
 use Rattle.binlog_base.specs.Failures.{CountsFailure, IsShort, count_after}
-use Rattle.binlog_base.specs.Sources.{TakesSpelling, IsLeft, Answers, ReadsFrom, ReadsFromOrMemory}
+use Rattle.binlog_base.specs.Sources.{TakesSpelling, IsLeft, ReadsFrom, ReadsFromOrMemory}
 use Rattle.binlog_base.proofs.Known.{answers}
 use Rattle.binlog_base.proofs.Filled.{short_answers, filled_answers}
 use Rattle.binlog_base.proofs.Sequences.{Consumes-nil, takes_first, takes_then}

@@ -2,8 +2,6 @@
 use Rattle.std.proofs.Common.{◌≡◌, ℕ, zero, suc, ◌+◌, ◌-◌, ◌*◌, ◌/◌, ◌%◌, ◌^◌, ◌<◌, ◌≤◌, Bool, true, false, List, [], ◌∷◌, ◌++◌, length, get_or, take, drop, set, map, replicate, Result, Ok, Err, refl, sym, ap, subst, ◌∙◌, append_assoc, append-nil, arith}
 use Rattle.std.specs.Prelude.{slice_index, ◌&&◌, ◌==◌}
 use Rattle.std.specs.Int.{bytes_high_first}
-use Rattle.binlog_values.specs.DecimalMasks.{masked_bytes, is_nil}
-use Rattle.binlog_values.specs.Lemmas.DecimalMasks.{masked_bytes-append, masked_bytes-nil}
 use Rattle.std.specs.List.{list_all}
 use Rattle.std.specs.Int.Digits.{AllBelowBase, number_from_digits}
 use Rattle.byteorder.specs.Endian.{big_bytes}
@@ -12,9 +10,9 @@ use Rattle.std.proofs.Math.Nat.{pow-le-pow_right}
 use Rattle.std.proofs.lemmas.Int.Digits.{number_more, number_lt}
 use Rattle.std.proofs.lemmas.List.{length-take-le, length-drop, take_all, take-append-drop, drop_all, drop_more, take_more, set_at, get_or_at, map-append, length-map}
 use Rattle.binlog_base.specs.declared.fault.Fault.{Fault}
-use Rattle.binlog_values.specs.Decimals.{group_width, group_bytes, grouped_bytes, integer_groups, without_zero_groups}
+use Rattle.binlog_values.specs.Decimals.{group_width, group_bytes, integer_groups, without_zero_groups}
 use Rattle.binlog_values.specs.DecimalGroups.{low_digits, IsCut, bytes_in, digits_in}
-use Rattle.binlog_values.specs.Lemmas.DecimalGroups.{below-front, below-back, length-low_digits, below-low_digits, number-low_digits, bytes-low_digits, same_digits, number-group_bytes, length-group_bytes, cut-group, group-cut, cut-append, cut-parts, cut-length, cut-nil}
+use Rattle.binlog_values.specs.Lemmas.DecimalGroups.{below-front, below-back, length-low_digits, below-low_digits, number-low_digits, bytes-low_digits, same_digits, number-group_bytes, cut-group, group-cut, cut-append, cut-parts, cut-length, cut-nil}
 use Rattle.binlog_values.specs.DecimalReads.{Unpacks}
 
 -- ---- numbers of digits
@@ -41,9 +39,6 @@ next_below base i ds some within below fits =
 -- with one more digit, the number is still below the bound
 pub number-step : (base i n : ℕ) (ds : List ℕ) → n ≡ number_from_digits base (take i ds) → 1 ≤ base → i < length ds → AllBelowBase base ds → base ^ length ds ≤ 2 ^ 32 → n * base + get_or ds i 0 < 2 ^ 32
 number-step base i n ds is some within below fits = subst (λ (m : ℕ). m * base + get_or ds i 0 < 2 ^ 32) (sym is) (next_below base i ds some within below fits)
-
-pub ten-fits : (k : ℕ) → k ≤ 9 → 10 ^ k ≤ 2 ^ 32
-ten-fits k most = let h : 10 ^ k ≤ 10 ^ 9 = pow-le-pow_right (omega arith) most in omega (arith, h)
 
 pub bytes-fit : (k : ℕ) → k ≤ 4 → 256 ^ k ≤ 2 ^ 32
 bytes-fit k most = let h : 256 ^ k ≤ 256 ^ 4 = pow-le-pow_right (omega arith) most in omega (arith, h)
@@ -134,35 +129,9 @@ last_bytes (suc (suc (suc zero))) n h = refl
 last_bytes (suc (suc (suc (suc zero)))) n h = refl
 last_bytes (suc (suc (suc (suc (suc w))))) n h = absurd (omega arith)
 
-some_group : (ds : List ℕ) → 0 < length ds → is_nil (group_bytes ds) ≡ false
-some_group ds some = not_nil (group_bytes ds) (omega (arith, length-group_bytes ds))
-  where
-    not_nil : (xs : List ℕ) → 0 < length xs → is_nil xs ≡ false
-    not_nil [] h = absurd (omega arith)
-    not_nil (x ∷ xs) h = refl
-
 and_false : (b : Bool) → (b && false) ≡ false
 and_false true = refl
 and_false false = refl
-
--- writing full groups of nine digits: the first, and those after it
-pub nines-masked_bytes : (negative front : Bool) (left group rest : List ℕ) → 9 ≤ length left → group ≡ take 9 left → rest ≡ drop 9 left → masked_bytes negative front (grouped_bytes (replicate (length left / 9) 9) left) ≡ masked_bytes negative front (group_bytes group) ++ masked_bytes negative false (grouped_bytes (replicate (length rest / 9) 9) rest)
-unfolding grouped_bytes
-nines-masked_bytes negative front left group rest some is after =
-    let count : 0 < length group = omega (arith, ap length is, length-take-le 9 left some) in
-    let parts : grouped_bytes (replicate (length left / 9) 9) left ≡ group_bytes group ++ grouped_bytes (replicate (length rest / 9) 9) rest =
-    ap (λ (sizes : List ℕ). grouped_bytes sizes left) (nines-of left rest some after)
-    ∙ ap (λ (l : List ℕ). group_bytes l ++ grouped_bytes (replicate (length rest / 9) 9) (drop 9 left)) (sym is)
-    ∙ ap (λ (l : List ℕ). group_bytes group ++ grouped_bytes (replicate (length rest / 9) 9) l) (sym after) in
-    let later : (front && is_nil (group_bytes group)) ≡ false = ap (λ (b : Bool). front && b) (some_group group count) ∙ and_false front in
-    ap (masked_bytes negative front) parts ∙ masked_bytes-append negative front (group_bytes group) (grouped_bytes (replicate (length rest / 9) 9) rest)
-    ∙ ap (λ (b : Bool). masked_bytes negative front (group_bytes group) ++ masked_bytes negative b (grouped_bytes (replicate (length rest / 9) 9) rest)) later
-
-pub nines-none : (negative front : Bool) (left : List ℕ) → length left ≡ 0 → masked_bytes negative front (grouped_bytes (replicate (length left / 9) 9) left) ≡ []
-unfolding grouped_bytes
-nines-none negative front left none =
-    let count : length left / 9 ≡ 0 = omega arith in
-    ap (λ (n : ℕ). masked_bytes negative front (grouped_bytes (replicate n 9) left)) count ∙ masked_bytes-nil negative front
 
 -- ---- groups that are read
 

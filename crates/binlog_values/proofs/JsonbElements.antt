@@ -1,5 +1,5 @@
 -- One element after another.
-use Rattle.std.proofs.Common.{◌≡◌, ℕ, suc, ◌+◌, ◌-◌, ◌<◌, ◌≤◌, List, [], ◌∷◌, length, Result, refl, ap, arith}
+use Rattle.std.proofs.Common.{◌≡◌, ℕ, suc, ◌+◌, ◌-◌, ◌<◌, ◌≤◌, [], ◌∷◌, Result, refl, ap, arith}
 use Rattle.binlog_base.specs.declared.fault.Fault.{Fault}
 use Rattle.binlog_base.specs.Faults.{OfBytes}
 use Rattle.binlog_base.specs.Items.{result_map}

@@ -1,6 +1,7 @@
 -- The proofs of this crate.
 pub mod DecimalSteps
 pub mod DigitCharacters
+pub mod DecimalPacking
 pub mod DecimalBytes
 pub mod DecimalTexts
 pub mod DecimalPrinting
@@ -8,3 +9,4 @@ pub mod DecimalRanges
 pub mod DecimalSources
 pub mod DecimalGrammar
 pub mod JsonbElements
+pub mod DecimalOrders

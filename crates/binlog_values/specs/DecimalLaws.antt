@@ -4,7 +4,8 @@ use Rattle.std.specs.List.{list_all, flat_map}
 use Rattle.std.specs.Fmt.{decimal}
 use Rattle.std.specs.Int.Digits.{AllBelowBase, number_from_digits}
 use Rattle.std.specs.Ordering.{nat_cmp}
-use Rattle.std.specs.declared.cmp.Ordering.TheVariants.{Equal}
+use Rattle.std.specs.declared.cmp.Ordering.{Ordering}
+use Rattle.std.specs.declared.cmp.Ordering.TheVariants.{Less, Equal, Greater}
 use Rattle.std.specs.Cmp.Lexicographic.{slice_cmp}
 use Rattle.binlog_base.specs.Laws.{ReadsBack}
 use Rattle.binlog_values.specs.Decimals.{DecimalView, IsDecimal, IsPacked, packed_bytes, packed_size, group_width, integer_groups, fraction_groups}
@@ -23,6 +24,23 @@ PackedHasSize = (d : DecimalView) → length (packed_bytes d) ≡ packed_size (l
 -- two decimals compare as equal if and only if their packed forms are the same
 abbrev pub EqualWherePackedAlike : Type 0
 EqualWherePackedAlike = (a b : DecimalView) → (slice_cmp nat_cmp (packed_bytes a) (packed_bytes b) ≡ Equal) ↔ (packed_bytes a ≡ packed_bytes b)
+
+-- all digits of a decimal as one number
+abbrev pub value_of : DecimalView → ℕ
+value_of d = number_from_digits 10 (d.integer ++ d.fraction)
+
+-- the order of two numbers by their signs (true is a minus) and absolute values; negative zero is just
+-- below zero
+abbrev pub signed_order : Bool → ℕ → Bool → ℕ → Ordering
+signed_order false m false n = nat_cmp m n
+signed_order true m true n = nat_cmp n m
+signed_order true m false n = Less
+signed_order false m true n = Greater
+
+-- decimals with the same counts of digits before the point and after it are ordered as their numbers
+abbrev pub OrderedAsNumbers : Type 0
+OrderedAsNumbers = (a b : DecimalView) → IsDecimal a → IsDecimal b → length a.integer ≡ length b.integer → length a.fraction ≡ length b.fraction
+    → slice_cmp nat_cmp (packed_bytes a) (packed_bytes b) ≡ signed_order a.negative (value_of a) b.negative (value_of b)
 
 -- the same sign, the same digits after the point, and the same number before it
 pub record IsSameNumber (a b : DecimalView) : Type 0 where

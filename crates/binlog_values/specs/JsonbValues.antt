@@ -1,5 +1,5 @@
 -- The values of binary JSON, and the containers and their entries.
-use Rattle.std.specs.Prelude.{◌≡◌, ℕ, ◌+◌, ◌*◌, ◌<◌, ◌≤◌, nat_lt, ◌||◌, if◌then◌else◌, ℤ, Bool, true, false, List, [], ◌∷◌, ◌++◌, length, take, drop, slice_index, not, Option, Some, None, Result, Ok, Err, ◌⊎◌}
+use Rattle.std.specs.Prelude.{◌≡◌, ℕ, ◌+◌, ◌*◌, ◌<◌, ◌≤◌, nat_lt, ◌||◌, if◌then◌else◌, ℤ, Bool, true, false, List, [], length, take, drop, slice_index, not, Option, Some, None, Result, Ok, Err, ◌⊎◌}
 use Rattle.binlog_base.specs.declared.below.columns.column_type.ColumnType.{ColumnType}
 use Rattle.binlog_base.specs.declared.fault.Fault.{Fault}
 use Rattle.binlog_base.specs.declared.fault.Fault.TheVariants.{UnexpectedEof, Jsonb}

@@ -4,6 +4,7 @@ pub mod TimeText
 pub mod Decimals
 pub mod DecimalGroups
 pub mod DecimalMasks
+pub mod DecimalPacking
 pub mod DecimalReads
 pub mod PackedDecimals
 pub mod DecimalLaws

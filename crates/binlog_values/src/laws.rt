@@ -4,7 +4,7 @@ ghost use Rattle.std.specs.Prelude.{ℕ, Bool};
 ghost use Rattle.binlog_base.specs.Format.{IsExact};
 ghost use Rattle.binlog_values.specs.JsonbValues.{Frame, element};
 ghost use Rattle.binlog_values.specs.PackedDecimals.{packed_decimal, counted_decimal};
-ghost use Rattle.binlog_values.specs.DecimalLaws.{PackedReadsBack, PackedHasSize, EqualWherePackedAlike, PrintedReadsBack, PackedWhereInRange, TextsAreNumerals};
+ghost use Rattle.binlog_values.specs.DecimalLaws.{PackedReadsBack, PackedHasSize, EqualWherePackedAlike, OrderedAsNumbers, PrintedReadsBack, PackedWhereInRange, TextsAreNumerals};
 
 /// If a prefix of some bytes is a packed decimal, that decimal is read from them. Otherwise reading
 /// fails, and the bytes determine the fault.
@@ -23,6 +23,13 @@ pub fn packed_decimals_read_back()
 /// Two decimals compare as equal if and only if their packed forms are the same.
 pub fn equal_decimals_are_packed_alike()
     ensures { EqualWherePackedAlike }
+{}
+
+/// Decimals with the same number of digits before the point and the same number after it are ordered
+/// as their numbers, with negative zero just below zero.
+#[tactic(auto, using(crate::proofs::DecimalOrders::ordered_as_numbers))]
+pub fn decimals_are_ordered_as_numbers()
+    ensures { OrderedAsNumbers }
 {}
 
 /// If a decimal was read from a text, its printed text can be read again, and gives the same number

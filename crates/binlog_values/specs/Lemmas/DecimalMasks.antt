@@ -1,5 +1,5 @@
 -- The sign encoding of packed decimals can be undone.
-use Rattle.std.proofs.Common.{◌≡◌, ℕ, ◌+◌, ◌-◌, ◌%◌, ◌<◌, Bool, true, false, List, [], ◌∷◌, ◌++◌, length, map, refl, ap, arith}
+use Rattle.std.proofs.Common.{◌≡◌, ℕ, ◌+◌, ◌-◌, ◌%◌, ◌<◌, Bool, true, false, List, [], ◌∷◌, ◌++◌, length, refl, ap, arith}
 use Rattle.std.specs.Prelude.{slice_index, ◌&&◌}
 use Rattle.std.specs.Int.Digits.{AllBelowBase}
 use Rattle.std.proofs.lemmas.Bool.{lt-ltb, le-ltb}
@@ -19,14 +19,6 @@ pub length-flipped_bytes : (xs : List ℕ) → length (flipped_bytes xs) ≡ len
 length-flipped_bytes [] = refl
 length-flipped_bytes (x ∷ xs) = refl
 
-inverted_bytes-nil : (negative : Bool) → inverted_bytes negative [] ≡ []
-inverted_bytes-nil true = refl
-inverted_bytes-nil false = refl
-
-inverted_bytes-cons : (negative : Bool) (x : ℕ) (xs : List ℕ) → (y : ℕ) × (inverted_bytes negative (x ∷ xs) ≡ y ∷ inverted_bytes negative xs)
-inverted_bytes-cons true x xs = (255 - x, refl)
-inverted_bytes-cons false x xs = (x, refl)
-
 -- bytes that come after others are encoded as bytes that aren't at the start, unless there are no
 -- others
 pub masked_bytes-append : (negative first : Bool) (xs ys : List ℕ) → masked_bytes negative first (xs ++ ys) ≡ masked_bytes negative first xs ++ masked_bytes negative (first && is_nil xs) ys
@@ -35,12 +27,6 @@ masked_bytes-append true true [] ys = refl
 masked_bytes-append false true [] ys = refl
 masked_bytes-append true true (x ∷ xs) ys = ap (λ (l : List ℕ). ((255 - x + 128) % 256) ∷ l) (map-append (λ (byte : ℕ). 255 - byte) xs ys)
 masked_bytes-append false true (x ∷ xs) ys = refl
-
-pub masked_bytes-nil : (negative first : Bool) → masked_bytes negative first [] ≡ []
-masked_bytes-nil true true = refl
-masked_bytes-nil true false = refl
-masked_bytes-nil false true = refl
-masked_bytes-nil false false = refl
 
 pub inverted_bytes-inverted_bytes : (negative : Bool) (xs : List ℕ) → AllBelowBase 256 xs → inverted_bytes negative (inverted_bytes negative xs) ≡ xs
 inverted_bytes-inverted_bytes true [] h = refl
@@ -53,11 +39,6 @@ inverted_bytes-inverted_bytes false xs h = refl
 pub flipped_bytes-flipped_bytes : (xs : List ℕ) → AllBelowBase 256 xs → flipped_bytes (flipped_bytes xs) ≡ xs
 flipped_bytes-flipped_bytes [] h = refl
 flipped_bytes-flipped_bytes (x ∷ xs) h = ap (λ (y : ℕ). y ∷ xs) (omega (arith, h.0))
-
-pub flipped_bytes-inverted_bytes : (negative : Bool) (xs : List ℕ) → AllBelowBase 256 xs → flipped_bytes (inverted_bytes negative xs) ≡ inverted_bytes negative (flipped_bytes xs)
-flipped_bytes-inverted_bytes true [] h = refl
-flipped_bytes-inverted_bytes true (x ∷ xs) h = ap (λ (y : ℕ). y ∷ map (λ (byte : ℕ). 255 - byte) xs) (omega (arith, h.0))
-flipped_bytes-inverted_bytes false xs h = refl
 
 pub below-inverted_bytes : (negative : Bool) (xs : List ℕ) → AllBelowBase 256 xs → AllBelowBase 256 (inverted_bytes negative xs)
 below-inverted_bytes true [] h = tt

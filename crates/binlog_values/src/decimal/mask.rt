@@ -1,7 +1,7 @@
 //! The sign encoding of the packed DECIMAL format: all bits of a negative decimal are inverted, and
 //! then the first bit of every decimal is flipped.
 
-ghost use Rattle.std.specs.Prelude.{◌≡◌, ◌-◌, ◌==◌, ◌&&◌, length, map};
+ghost use Rattle.std.specs.Prelude.{◌≡◌, ◌-◌, map};
 ghost use Rattle.std.specs.Int.Digits.{AllBelowBase};
 ghost use Rattle.binlog_values.specs.Decimals.{inverted_bytes, flipped_bytes};
 ghost use Rattle.binlog_values.specs.DecimalMasks.{masked_bytes, is_minus};
@@ -22,14 +22,6 @@ fn flip(bytes: &mut [u8])
     if let Some(byte) = bytes.first_mut() {
         *byte = byte.wrapping_add(128);
     }
-}
-
-// Returns whether the bytes after those of `digits` are at the start of the packed form: those of
-// `digits` are (`first`), and there are no digits.
-pub(super) fn still_first(first: bool, digits: &[u8]) -> bool
-    ensures { result ≡ (first && (length digits.now == 0)) }
-{
-    first && digits.is_empty()
 }
 
 // Applies the sign encoding to the bytes of groups. `first` says that they are at the start of the

@@ -1,64 +1,56 @@
 //! Compares decimals by their packed bytes.
 
-ghost use Rattle.std.specs.Prelude.{◌≡◌, Some, IfOk};
+ghost use Rattle.std.specs.Prelude.{Some, refl};
 ghost use Rattle.std.specs.Ordering.{nat_cmp};
-ghost use Rattle.std.specs.Cmp.Lexicographic.{slice_cmp};
+ghost use Rattle.std.specs.Cmp.{on_per, on_equiv, on_po, on_total, partial_equiv_from_equiv};
+ghost use Rattle.std.specs.Cmp.Lexicographic.{pointwise, slice_cmp, nat_list_eq_equiv, nat_list_cmp_total, texts_ties, texts_po};
 ghost use Rattle.binlog_values.specs.Decimals.{packed_bytes};
 
 use super::Decimal;
-use binlog_base::below::{Failed, Sink};
-use std::alloc::{AllocError, Global};
 use std::cmp::Ordering;
 
-// A sink that keeps all bytes in memory, and counts the allocations that failed.
-#[derive(Drop)]
-struct Buffer {
-    bytes: Vec<u8>,
-    failures: u64,
-}
+/// Two decimals are equal where their packed forms are the same.
+impl PartialEq for Decimal {
+    ghost use Rattle.std.specs.Prelude.{nat_eq};
 
-impl Sink for Buffer {
-    ghost failures = { λ b. b.failures };
+    ghost eq = { λ x y. pointwise nat_eq (packed_bytes x) (packed_bytes y) };
 
-    ghost contents = { λ b. Some b.bytes.items };
+    ghost laws = { on_per packed_bytes (partial_equiv_from_equiv nat_list_eq_equiv) };
 
-    fn write_some(&mut self, buf: &[u8]) -> Result<usize, Failed> {
-        match self.bytes.extend_from_slice(buf) {
-            Ok(()) => Ok(buf.len()),
-            Err(_) => {
-                self.failures = self.failures.saturating_add(1);
-                Err(Failed)
-            }
-        }
+    fn eq(&self, other: &Decimal) -> bool {
+        self.cmp(other).is_eq()
     }
 }
 
-impl Decimal {
-    // Returns the bytes of the decimal in the packed DECIMAL format.
-    fn packed_bytes(&self, alloc: Global) -> Result<Vec<u8>, AllocError>
-        ensures { IfOk result (λ bytes. bytes.items ≡ packed_bytes self.now) }
-    {
-        let mut buffer = Buffer {
-            bytes: Vec::new(alloc),
-            failures: 0,
-        };
-        match self.write_bin(&mut buffer) {
-            Ok(()) => Ok(buffer.bytes),
-            Err(_) => Err(AllocError),
-        }
-    }
+impl Eq for Decimal {
+    ghost laws = { on_equiv packed_bytes nat_list_eq_equiv };
+}
 
-    /// Compares the packed forms of two decimals, byte by byte. If one form is a prefix of the
-    /// other, the shorter one is the lesser.
-    ///
-    /// This is the order of the numbers only if both decimals have the same number of digits before
-    /// the point and the same number of digits after it. Fails if memory can't be allocated.
-    pub fn try_cmp(&self, alloc: Global, other: &Decimal) -> Result<Ordering, AllocError>
-        ensures { IfOk result (λ order. order ≡ slice_cmp nat_cmp (packed_bytes self.now) (packed_bytes
-            other.now)) }
-    {
-        let mine = self.packed_bytes(alloc)?;
-        let theirs = other.packed_bytes(alloc)?;
-        Ok(mine.cmp(&theirs))
+impl PartialOrd for Decimal {
+    ghost partial_cmp = { λ x y. Some (slice_cmp nat_cmp (packed_bytes x) (packed_bytes y)) };
+
+    ghost laws = { on_po packed_bytes texts_po };
+
+    fn partial_cmp(&self, other: &Decimal) -> Option<Ordering> {
+        Some(self.cmp(other))
+    }
+}
+
+/// The order of the packed forms, byte by byte. If one form is a prefix of the other, the shorter
+/// one is the lesser.
+///
+/// This is the order of the numbers if both decimals have the same number of digits before the point
+/// and the same number of digits after it, with negative zero just below zero.
+impl Ord for Decimal {
+    ghost cmp = { λ x y. slice_cmp nat_cmp (packed_bytes x) (packed_bytes y) };
+
+    ghost total = { on_total packed_bytes nat_list_cmp_total };
+
+    ghost matches_partial_cmp = { λ x y. refl };
+
+    ghost matches_eq = { λ x y. texts_ties (packed_bytes x) (packed_bytes y) };
+
+    fn cmp(&self, other: &Decimal) -> Ordering {
+        self.packed_bytes().cmp(other.packed_bytes())
     }
 }

@@ -1,97 +1,156 @@
-//! Writes decimals in MySQL's packed DECIMAL format.
+//! MySQL's packed DECIMAL format, made group by group.
 
-ghost use Rattle.std.specs.Prelude.{◌≡◌, ◌≤◌, ◌/◌, ◌*◌, true, length, replicate, OnOk, IfErr};
+ghost use Rattle.std.specs.Prelude.{◌≡◌, ◌≤◌, ◌<◌, ◌+◌, [], length, MatchOption, OnOk, IfErr};
 ghost use Rattle.std.specs.Int.Digits.{AllBelowBase};
 ghost use Rattle.std.specs.Io.KnownBytes.{Appends};
+ghost use Rattle.std.specs.Iterator.{YieldsFirstBy, item_count, at_most};
 ghost use Rattle.binlog_base.specs.declared.fault.Fault.TheVariants.{Reader};
 ghost use Rattle.binlog_base.specs.Failures.{CountsFailure};
-ghost use Rattle.binlog_values.specs.Decimals.{group_bytes, grouped_bytes, packed_bytes, integer_groups, fraction_groups};
+ghost use Rattle.binlog_values.specs.Decimals.{group_bytes, packed_bytes};
 ghost use Rattle.binlog_values.specs.DecimalMasks.{masked_bytes};
+ghost use Rattle.binlog_values.specs.DecimalPacking.{group_left, plain_left, groups_left, packed_left, AreDigits, TakesDigits, TakesGroup};
 
 use super::group::{group_width, number_of};
-use super::mask::{mask, still_first};
+use super::mask::mask;
 use super::{DIG_PER_DEC, Decimal};
 use binlog_base::below::{Sink, write_all};
 use binlog_base::fault::Fault;
 
-// Writes one group of at most nine digits. `first` says that it is at the start of the packed form.
-fn write_group<S: Sink>(
-    sink: &mut S,
-    digits: &[u8],
-    negative: bool,
-    first: bool,
-) -> Result<(), Fault>
-    requires most { length digits.now ≤ 9 }
-    requires below { AllBelowBase 10 digits.now }
-    ensures bytes { OnOk result (Appends (S.contents sink.old) (S.contents sink.new)
-        (masked_bytes negative first (group_bytes digits.now))) }
-    ensures faults { IfErr result (λ e. e ≡ Reader) }
-    ensures counts { CountsFailure result (S.failures sink.old) (S.failures sink.new) }
-{
-    let mut bytes = (number_of(digits, 10) as u32).to_be_bytes();
-    let group = &mut bytes[4 - group_width(digits.len())..];
-    mask(negative, first, group);
-    write_all(sink, group)
+// The packed bytes of a group: the last of four bytes, from `start` on.
+#[derive(Clone, Copy)]
+pub(super) struct Group {
+    bytes: [u8; 4],
+    start: usize,
 }
 
-// Writes full groups of nine digits. `first` says that they are at the start of the packed form.
-fn write_nines<S: Sink>(
-    sink: &mut S,
-    digits: &[u8],
-    negative: bool,
-    first: bool,
-) -> Result<(), Fault>
-    requires whole { 9 * (length digits.now / 9) ≡ length digits.now }
-    requires below { AllBelowBase 10 digits.now }
-    ensures bytes { OnOk result (Appends (S.contents sink.old) (S.contents sink.new)
-        (masked_bytes negative first (grouped_bytes (replicate (length digits.now / 9) 9) digits.now))) }
-    ensures faults { IfErr result (λ e. e ≡ Reader) }
-    ensures counts { CountsFailure result (S.failures sink.old) (S.failures sink.new) }
-{
-    let mut left = digits;
-    let mut front = first;
-    while !left.is_empty() {
-        let (group, rest) = left.split_at(DIG_PER_DEC);
-        write_group(sink, group, negative, front)?;
-        front = false;
-        left = rest;
+impl Group {
+    // Packs a group of digits. `first` says that it is at the start of the packed form.
+    fn new(digits: &[u8], negative: bool, first: bool) -> Group
+        requires some { 0 < length digits.now }
+        requires most { length digits.now ≤ 9 }
+        requires below { AllBelowBase 10 digits.now }
+        ensures bytes { group_left result ≡ masked_bytes negative first (group_bytes digits.now) }
+        ensures some { result.start < 4 }
+    {
+        let mut bytes = (number_of(digits, 10) as u32).to_be_bytes();
+        let start = 4 - group_width(digits.len());
+        mask(negative, first, &mut bytes[start..]);
+        Group { bytes, start }
     }
-    Ok(())
+
+    // Returns the packed bytes.
+    fn as_bytes(&self) -> &[u8]
+        requires { self.now.start < 4 }
+        ensures { result.now ≡ group_left self.now }
+    {
+        &self.bytes[self.start..]
+    }
 }
 
-// Writes the digits before the point: first the short group, then the full groups.
-fn write_integer<S: Sink>(sink: &mut S, digits: &[u8], negative: bool) -> Result<(), Fault>
-    requires below { AllBelowBase 10 digits.now }
-    ensures bytes { OnOk result (Appends (S.contents sink.old) (S.contents sink.new)
-        (masked_bytes negative true (grouped_bytes (integer_groups (length digits.now)) digits.now))) }
-    ensures faults { IfErr result (λ e. e ≡ Reader) }
-    ensures counts { CountsFailure result (S.failures sink.old) (S.failures sink.new) }
-{
-    let (group, nines) = digits.split_at(digits.len() % DIG_PER_DEC);
-    write_group(sink, group, negative, true)?;
-    write_nines(sink, nines, negative, still_first(true, group))
-}
-
-// Writes the digits after the point: first the full groups, then the short group. `first` says that
-// there are no digits before the point.
-fn write_fraction<S: Sink>(
-    sink: &mut S,
-    digits: &[u8],
+// The groups of a packed form: those of the digits before the point, and then those of the digits
+// after it. `first` says that no byte came before them.
+#[derive(Clone, Copy)]
+pub(super) struct Groups<'a> {
     negative: bool,
     first: bool,
-) -> Result<(), Fault>
-    requires below { AllBelowBase 10 digits.now }
-    ensures bytes { OnOk result (Appends (S.contents sink.old) (S.contents sink.new)
-        (masked_bytes negative first (grouped_bytes (fraction_groups (length digits.now)) digits.now))) }
-    ensures faults { IfErr result (λ e. e ≡ Reader) }
-    ensures counts { CountsFailure result (S.failures sink.old) (S.failures sink.new) }
-{
-    let (nines, group) = digits.split_at(digits.len() / DIG_PER_DEC * DIG_PER_DEC);
-    write_nines(sink, nines, negative, first)?;
-    write_group(sink, group, negative, still_first(first, nines))
+    integer: &'a [u8],
+    fraction: &'a [u8],
+}
+
+impl<'a> Groups<'a> {
+    // Takes the digits of the next group.
+    fn next_digits(&mut self) -> Option<&'a [u8]>
+        requires { AreDigits self.old }
+        ensures { MatchOption result ((plain_left self.old ≡ []) × (self.new ≡ self.old))
+            (λ digits. TakesDigits self.old digits.now self.new) }
+    {
+        if !self.integer.is_empty() {
+            let (group, rest) = self
+                .integer
+                .split_at((self.integer.len() - 1) % DIG_PER_DEC + 1);
+            self.integer = rest;
+            Some(group)
+        } else if !self.fraction.is_empty() {
+            let (group, rest) = self.fraction.split_at(self.fraction.len().min(DIG_PER_DEC));
+            self.fraction = rest;
+            Some(group)
+        } else {
+            None
+        }
+    }
+}
+
+impl<'a> Iterator for Groups<'a> {
+    type Item = Group;
+
+    ghost can_next = { AreDigits };
+
+    ghost next_gives = { TakesGroup };
+
+    ghost remaining = { λ s. at_most (length s.integer.now + length s.fraction.now) };
+
+    fn next(&mut self) -> Option<Group> {
+        let digits = self.next_digits()?;
+        let first = self.first;
+        self.first = false;
+        Some(Group::new(digits, self.negative, first))
+    }
+}
+
+// The bytes of a packed form, one by one.
+#[derive(Clone, Copy)]
+pub(super) struct PackedBytes<'a> {
+    group: Group,
+    groups: Groups<'a>,
+}
+
+impl<'a> Iterator for PackedBytes<'a> {
+    type Item = u8;
+
+    ghost can_next = { λ s. AreDigits s.groups };
+
+    ghost next_gives = { YieldsFirstBy (λ byte. byte) packed_left };
+
+    ghost remaining = { item_count packed_left };
+
+    fn next(&mut self) -> Option<u8> {
+        if self.group.start >= 4 {
+            self.group = self.groups.next()?;
+        }
+        let byte = self.group.bytes[self.group.start];
+        self.group.start += 1;
+        Some(byte)
+    }
 }
 
 impl Decimal {
+    // Returns the groups of the packed form.
+    fn groups(&self) -> Groups<'_>
+        ensures digits { AreDigits result }
+        ensures bytes { groups_left result ≡ packed_bytes self.now }
+    {
+        Groups {
+            negative: self.negative,
+            first: true,
+            integer: &self.integer,
+            fraction: &self.fraction,
+        }
+    }
+
+    // Returns the bytes of the packed form.
+    pub(super) fn packed_bytes(&self) -> PackedBytes<'_>
+        ensures digits { AreDigits result.groups }
+        ensures bytes { packed_left result ≡ packed_bytes self.now }
+    {
+        PackedBytes {
+            group: Group {
+                bytes: [0; 4],
+                start: 4,
+            },
+            groups: self.groups(),
+        }
+    }
+
     /// Writes the decimal in MySQL's packed DECIMAL format.
     ///
     /// The digits are cut into groups of nine, counted from the point in both directions. Each
@@ -105,8 +164,9 @@ impl Decimal {
         ensures faults { IfErr result (λ e. e ≡ Reader) }
         ensures counts { CountsFailure result (S.failures writer.old) (S.failures writer.new) }
     {
-        write_integer(writer, &self.integer, self.negative)?;
-        let first = still_first(true, &self.integer);
-        write_fraction(writer, &self.fraction, self.negative, first)
+        for group in self.groups() {
+            write_all(writer, group.as_bytes())?;
+        }
+        Ok(())
     }
 }

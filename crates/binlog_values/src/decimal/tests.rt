@@ -131,14 +131,25 @@ fn refuses(rt: &HostRuntime, bytes: &[u8], precision: usize, scale: usize) -> Op
     }
 }
 
-// How two texts compare.
-fn compares(rt: &HostRuntime, one: &str, other: &str) -> Result<Option<Ordering>, Fail> {
+// How two texts compare, where both are read.
+fn compares(rt: &HostRuntime, one: &str, other: &str) -> Option<Ordering> {
     match (
         Decimal::from_str(rt.alloc(), one),
         Decimal::from_str(rt.alloc(), other),
     ) {
-        (Ok(a), Ok(b)) => Ok(Some(a.try_cmp(rt.alloc(), &b)?)),
-        _ => Ok(None),
+        (Ok(a), Ok(b)) => Some(a.cmp(&b)),
+        _ => None,
+    }
+}
+
+// Whether packed bytes of precision 4 and scale 2 are the lesser ones.
+fn is_less(rt: &HostRuntime, one: &[u8], other: &[u8]) -> bool {
+    match (
+        unpacked(rt.alloc(), one, 4, 2, true),
+        unpacked(rt.alloc(), other, 4, 2, true),
+    ) {
+        (Ok((a, _)), Ok((b, _))) => a < b && a != b,
+        _ => false,
     }
 }
 
@@ -230,11 +241,24 @@ fn bytes_are_texts(rt: HostRuntime) -> Result<(), Fail> {
 }
 
 #[test]
-fn decimals_are_ordered(rt: HostRuntime) -> Result<(), Fail> {
-    assert!(rt; compares(&rt, "1000", "9")? == Some(Ordering::Less));
-    assert!(rt; compares(&rt, ".5", "5")? == Some(Ordering::Equal));
-    assert!(rt; compares(&rt, "-1", "1")? == Some(Ordering::Less));
-    Ok(())
+fn decimals_are_ordered(rt: HostRuntime) {
+    let rows = [
+        ("1.0", "1", Ordering::Greater),
+        ("-1", "0", Ordering::Less),
+        ("+007", "7", Ordering::Less),
+        ("1000", "9", Ordering::Less),
+        (".5", "5", Ordering::Equal),
+    ];
+    for (one, other, order) in &rows {
+        assert!(rt; compares(&rt, one, other) == Some(*order));
+    }
+}
+
+#[test]
+fn minus_zero_is_below_zero(rt: HostRuntime) {
+    // -0.01, -0 and 0.
+    assert!(rt; is_less(&rt, &[0x7f, 0xfe], &[0x7f, 0xff]));
+    assert!(rt; is_less(&rt, &[0x7f, 0xff], &[0x80, 0x00]));
 }
 
 #[test]

@@ -169,13 +169,13 @@ pub struct OpaqueValue<'a> {
 
 impl<'a> OpaqueValue<'a> {
     /// Makes a value of this type and these bytes.
-    pub fn new(value_type: ColumnType, data: CowSlice<'a, u8>) -> Self
+    pub fn new(value_type: ColumnType, bytes: CowSlice<'a, u8>) -> Self
         ensures value_type { result.value_type ≡ value_type }
-        ensures data { result.data ≡ cow_slice_items data.entry }
+        ensures bytes { result.data ≡ cow_slice_items bytes.entry }
     {
         OpaqueValue {
             value_type,
-            data: RawBytes::new(data),
+            data: RawBytes::new(bytes),
         }
     }
 

@@ -6,7 +6,7 @@ use Rattle.std.specs.Io.KnownBytes.{Appends}
 use Rattle.std.proofs.KnownBytes.{Appends-trans}
 use Rattle.std.proofs.lemmas.List.{length-take-le, length-drop, take_all, take-append-drop, take_at, drop_at}
 use Rattle.binlog_base.specs.declared.fault.Fault.{Fault}
-use Rattle.binlog_base.specs.Format.{Parses, OrMemory}
+use Rattle.binlog_base.specs.Format.{Parses}
 use Rattle.binlog_values.specs.Decimals.{DecimalView, IsPacked, packed_bytes, packed_size, group_width, grouped_bytes, integer_groups, fraction_groups, digits_size, inverted_bytes, flipped_bytes}
 use Rattle.binlog_values.specs.DecimalGroups.{IsCut, digits_in}
 use Rattle.binlog_values.specs.Lemmas.DecimalGroups.{bytes_in-nines, digits_in-integer, digits_in-fraction, bytes_in-integer, length-grouped_bytes}
@@ -34,19 +34,19 @@ integer_parts count bytes group nines long is after =
     let back : length nines ≡ 4 * (count / 9) = omega (arith, ap length after, length-drop w bytes, long) in
     (ap (λ (l : List ℕ). l ++ nines) is ∙ ap (λ (l : List ℕ). take w bytes ++ l) after ∙ take-append-drop w bytes, front, omega (arith, back))
 
-pub integer-then : (X Y : Type 0) (count : ℕ) (bytes group nines old mid new : List ℕ) (u : X) (r : Result Y Fault) → length bytes ≡ digits_size count → group ≡ take (group_width (count % 9)) bytes → nines ≡ drop (group_width (count % 9)) bytes
-    → Unpacks (Ok u) ((count % 9) ∷ []) group old mid → Unpacks r (replicate (length nines / 4) 9) nines mid new → Unpacks r (integer_groups count) bytes old new
-integer-then X Y count bytes group nines old mid new u r long is after h k =
+pub integer-then : {Y : Type 0} (count : ℕ) (bytes group nines ds es : List ℕ) (r : Result Y Fault) → length bytes ≡ digits_size count → group ≡ take (group_width (count % 9)) bytes → nines ≡ drop (group_width (count % 9)) bytes
+    → IsCut ((count % 9) ∷ []) group ds → Unpacks r (replicate (length nines / 4) 9) nines es → Unpacks r (integer_groups count) bytes (ds ++ es)
+integer-then count bytes group nines ds es r long is after h k =
     let parts = integer_parts count bytes group nines long is after in
-    subst (λ (l : List ℕ). Unpacks r (integer_groups count) l old new) parts.0
-    (unpacks-then ((count % 9) ∷ []) (replicate (count / 9) 9) group nines old mid new u r h (subst (λ (n : ℕ). Unpacks r (replicate n 9) nines mid new) parts.2 k))
+    subst (λ (l : List ℕ). Unpacks r (integer_groups count) l (ds ++ es)) parts.0
+    (unpacks-then ((count % 9) ∷ []) (replicate (count / 9) 9) group nines ds es r h (subst (λ (n : ℕ). Unpacks r (replicate n 9) nines es) parts.2 k))
 
-pub integer-stop : (X Y : Type 0) (count : ℕ) (bytes group nines old mid new : List ℕ) (e : Fault) → length bytes ≡ digits_size count → group ≡ take (group_width (count % 9)) bytes → nines ≡ drop (group_width (count % 9)) bytes
-    → Unpacks {X = X} (Err e) ((count % 9) ∷ []) group old mid → Unpacks {X = Y} (Err e) (integer_groups count) bytes old new
-integer-stop X Y count bytes group nines old mid new e long is after h =
+pub integer-stop : (X Y : Type 0) (count : ℕ) (bytes group nines ds es : List ℕ) (e : Fault) → length bytes ≡ digits_size count → group ≡ take (group_width (count % 9)) bytes → nines ≡ drop (group_width (count % 9)) bytes
+    → Unpacks {X = X} (Err e) ((count % 9) ∷ []) group ds → Unpacks {X = Y} (Err e) (integer_groups count) bytes es
+integer-stop X Y count bytes group nines ds es e long is after h =
     let parts = integer_parts count bytes group nines long is after in
-    subst (λ (l : List ℕ). Unpacks {X = Y} (Err e) (integer_groups count) l old new) parts.0
-    (unpacks-stop X Y ((count % 9) ∷ []) (replicate (count / 9) 9) group nines old mid new e (omega (arith, parts.1)) h)
+    subst (λ (l : List ℕ). Unpacks {X = Y} (Err e) (integer_groups count) l es) parts.0
+    (unpacks-stop X Y ((count % 9) ∷ []) (replicate (count / 9) 9) group nines ds es e (omega (arith, parts.1)) h)
 
 fraction_parts : (count : ℕ) (bytes nines group : List ℕ) → length bytes ≡ digits_size count → nines ≡ take (count / 9 * 4) bytes → group ≡ drop (count / 9 * 4) bytes → (nines ++ group ≡ bytes) × (length nines ≡ 4 * (count / 9)) × (length nines / 4 ≡ count / 9)
 fraction_parts count bytes nines group long is after =
@@ -55,20 +55,20 @@ fraction_parts count bytes nines group long is after =
     let front : length nines ≡ w = ap length is ∙ length-take-le w bytes within in
     (ap (λ (l : List ℕ). l ++ group) is ∙ ap (λ (l : List ℕ). take w bytes ++ l) after ∙ take-append-drop w bytes, omega (arith, front), omega (arith, front))
 
-pub fraction-then : (X Y : Type 0) (count : ℕ) (bytes nines group old mid new : List ℕ) (u : X) (r : Result Y Fault) → length bytes ≡ digits_size count → nines ≡ take (count / 9 * 4) bytes → group ≡ drop (count / 9 * 4) bytes
-    → Unpacks (Ok u) (replicate (length nines / 4) 9) nines old mid → Unpacks r ((count % 9) ∷ []) group mid new → Unpacks r (fraction_groups count) bytes old new
-fraction-then X Y count bytes nines group old mid new u r long is after h k =
+pub fraction-then : {Y : Type 0} (count : ℕ) (bytes nines group ds es : List ℕ) (r : Result Y Fault) → length bytes ≡ digits_size count → nines ≡ take (count / 9 * 4) bytes → group ≡ drop (count / 9 * 4) bytes
+    → IsCut (replicate (length nines / 4) 9) nines ds → Unpacks r ((count % 9) ∷ []) group es → Unpacks r (fraction_groups count) bytes (ds ++ es)
+fraction-then count bytes nines group ds es r long is after h k =
     let parts = fraction_parts count bytes nines group long is after in
-    subst (λ (l : List ℕ). Unpacks r (fraction_groups count) l old new) parts.0
-    (unpacks-then (replicate (count / 9) 9) ((count % 9) ∷ []) nines group old mid new u r (subst (λ (n : ℕ). Unpacks (Ok u) (replicate n 9) nines old mid) parts.2 h) k)
+    subst (λ (l : List ℕ). Unpacks r (fraction_groups count) l (ds ++ es)) parts.0
+    (unpacks-then (replicate (count / 9) 9) ((count % 9) ∷ []) nines group ds es r (subst (λ (n : ℕ). IsCut (replicate n 9) nines ds) parts.2 h) k)
 
-pub fraction-stop : (X Y : Type 0) (count : ℕ) (bytes nines group old mid new : List ℕ) (e : Fault) → length bytes ≡ digits_size count → nines ≡ take (count / 9 * 4) bytes → group ≡ drop (count / 9 * 4) bytes
-    → Unpacks {X = X} (Err e) (replicate (length nines / 4) 9) nines old mid → Unpacks {X = Y} (Err e) (fraction_groups count) bytes old new
-fraction-stop X Y count bytes nines group old mid new e long is after h =
+pub fraction-stop : (X Y : Type 0) (count : ℕ) (bytes nines group ds es : List ℕ) (e : Fault) → length bytes ≡ digits_size count → nines ≡ take (count / 9 * 4) bytes → group ≡ drop (count / 9 * 4) bytes
+    → Unpacks {X = X} (Err e) (replicate (length nines / 4) 9) nines ds → Unpacks {X = Y} (Err e) (fraction_groups count) bytes es
+fraction-stop X Y count bytes nines group ds es e long is after h =
     let parts = fraction_parts count bytes nines group long is after in
-    subst (λ (l : List ℕ). Unpacks {X = Y} (Err e) (fraction_groups count) l old new) parts.0
-    (unpacks-stop X Y (replicate (count / 9) 9) ((count % 9) ∷ []) nines group old mid new e (omega (arith, parts.1, bytes_in-nines (count / 9)))
-    (subst (λ (n : ℕ). Unpacks {X = X} (Err e) (replicate n 9) nines old mid) parts.2 h))
+    subst (λ (l : List ℕ). Unpacks {X = Y} (Err e) (fraction_groups count) l es) parts.0
+    (unpacks-stop X Y (replicate (count / 9) 9) ((count % 9) ∷ []) nines group ds es e (omega (arith, parts.1, bytes_in-nines (count / 9)))
+    (subst (λ (n : ℕ). Unpacks {X = X} (Err e) (replicate n 9) nines ds) parts.2 h))
 
 -- ---- whole decimals
 
@@ -122,27 +122,22 @@ halves i size x bytes front back negative below sign is long before after =
       after = after ∙ ap (drop size) all ∙ ap (λ (n : ℕ). drop n (unmasked_bytes x)) long;
     }
 
-pub unpacked : (i f : ℕ) (x front back old1 new1 old2 new2 : List ℕ) (negative : Bool) → 0 < i + f → AreHalves i x front back negative → old1 ≡ [] → old2 ≡ []
-    → ((ds : List ℕ) × (new1 ≡ old1 ++ ds) × IsCut (integer_groups i) front ds) → ((ds : List ℕ) × (new2 ≡ old2 ++ ds) × IsCut (fraction_groups f) back ds)
-    → IsPacked i f x (record { negative = negative; integer = new1; fraction = new2 })
-unpacked i f x front back old1 new1 old2 new2 negative some halves none1 none2 h k =
-    let first : new1 ≡ h.0 = h.1 ∙ ap (λ (l : List ℕ). l ++ h.0) none1 in
-    let second : new2 ≡ k.0 = k.1 ∙ ap (λ (l : List ℕ). l ++ k.0) none2 in
+pub unpacked : (i f : ℕ) (x front back before after : List ℕ) (negative : Bool) → 0 < i + f → AreHalves i x front back negative → IsCut (integer_groups i) front before → IsCut (fraction_groups f) back after
+    → IsPacked i f x (record { negative = negative; integer = before; fraction = after })
+unpacked i f x front back before after negative some halves h k =
     let parts : front ++ back ≡ unmasked_bytes x = ap (λ (l : List ℕ). l ++ back) halves.before ∙ ap (λ (l : List ℕ). take (digits_size i) (unmasked_bytes x) ++ l) halves.after ∙ take-append-drop (digits_size i) (unmasked_bytes x) in
-    decoded i f x front back new1 new2 negative halves.below some halves.sign parts (subst (λ (l : List ℕ). IsCut (integer_groups i) front l) (sym first) h.2) (subst (λ (l : List ℕ). IsCut (fraction_groups f) back l) (sym second) k.2)
+    decoded i f x front back before after negative halves.below some halves.sign parts h k
 
-pub no_integer : (X : Type 0) (i f : ℕ) (x front back old new : List ℕ) (negative : Bool) (e : Fault) → AreHalves i x front back negative → Unpacks {X = X} (Err e) (integer_groups i) front old new → UnpacksDecimal (Err e) i f x
-no_integer X i f x front back old new negative e halves h = λ other. ((h other).0, λ d p. (h other).1 d.integer (packed_bytes-cuts i f x front back d p halves.before halves.after).0)
+pub no_integer : (X : Type 0) (i f : ℕ) (x front back ds : List ℕ) (negative : Bool) (e : Fault) → AreHalves i x front back negative → Unpacks {X = X} (Err e) (integer_groups i) front ds → UnpacksDecimal (Err e) i f x
+no_integer X i f x front back ds negative e halves h = (h.0, λ d p. h.1 d.integer (packed_bytes-cuts i f x front back d p halves.before halves.after).0)
 
-pub no_fraction : (X : Type 0) (i f : ℕ) (x front back old new : List ℕ) (negative : Bool) (e : Fault) → AreHalves i x front back negative → Unpacks {X = X} (Err e) (fraction_groups f) back old new → UnpacksDecimal (Err e) i f x
-no_fraction X i f x front back old new negative e halves h = λ other. ((h other).0, λ d p. (h other).1 d.fraction (packed_bytes-cuts i f x front back d p halves.before halves.after).1)
+pub no_fraction : (X : Type 0) (i f : ℕ) (x front back ds : List ℕ) (negative : Bool) (e : Fault) → AreHalves i x front back negative → Unpacks {X = X} (Err e) (fraction_groups f) back ds → UnpacksDecimal (Err e) i f x
+no_fraction X i f x front back ds negative e halves h = (h.0, λ d p. h.1 d.fraction (packed_bytes-cuts i f x front back d p halves.before halves.after).1)
 
 -- what is unpacked from bytes of the right length is what the format reads from them
-pub packed_at : (r : Result DecimalView Fault) (i f : ℕ) (x : List ℕ) → 0 < i + f → length x ≡ packed_size i f → UnpacksDecimal r i f x → OrMemory r (Parses (packed_digits i f) r x [])
+pub packed_at : (r : Result DecimalView Fault) (i f : ℕ) (x : List ℕ) → 0 < i + f → length x ≡ packed_size i f → UnpacksDecimal r i f x → Parses (packed_digits i f) r x []
 unfolding packed_digits
 packed_at (Ok d) i f x some long h = ap (packed_digits i f).parse (sym (append-nil x)) ∙ (exact_packed_digits i f some).complete x [] d h
 packed_at (Err e) i f x some long h =
-    λ other.
     let all : take (packed_size i f) x ≡ x = take_all (packed_size i f) x (omega arith) in
-    let none = h other in
-    (exact_packed_digits i f some).refused_complete x e (inr (omega arith, λ d p. none.1 d (subst (λ (y : List ℕ). IsPacked i f y d) all p), none.0))
+    (exact_packed_digits i f some).refused_complete x e (inr (omega arith, λ d p. h.1 d (subst (λ (y : List ℕ). IsPacked i f y d) all p), h.0))

@@ -1,5 +1,5 @@
 -- Reading packed decimals from a source.
-use Rattle.std.proofs.Common.{◌≡◌, ◌≢◌, ℕ, ◌-◌, ◌<◌, ◌≤◌, Bool, true, false, List, [], ◌++◌, length, Option, Some, None, Result, Ok, Err, refl, sym, ap, subst, ◌∙◌, append-nil, arith}
+use Rattle.std.proofs.Common.{◌≡◌, ◌≢◌, ℕ, ◌-◌, ◌<◌, ◌≤◌, Bool, true, false, List, [], ◌++◌, length, Option, Some, None, Result, Ok, Err, refl, sym, ap, ap₂, subst, ◌∙◌, append-nil, arith}
 use Rattle.std.specs.Prelude.{nat_lt, ◌==◌}
 use Rattle.std.specs.Io.KnownBytes.{Consumes}
 use Rattle.std.proofs.lemmas.Bool.{le-ltb, lt-ltb, ltb-true}
@@ -7,7 +7,7 @@ use Rattle.std.proofs.lemmas.List.{length-append, take_at, drop_at}
 use Rattle.binlog_base.specs.declared.fault.Fault.{Fault}
 use Rattle.binlog_base.specs.declared.fault.Fault.TheVariants as fault
 use Rattle.binlog_base.specs.declared.fault.Fault.TheVariants.{DecimalScale}
-use Rattle.binlog_base.specs.Format.{Format, Parses, OrMemory, ◌>>=◌, no_bytes, refusal, sequence}
+use Rattle.binlog_base.specs.Format.{Format, Parses, OrMemory, ◌>>=◌, no_bytes, refusal, sequence, map_value}
 use Rattle.binlog_base.specs.Numbers.{big_endian}
 use Rattle.binlog_base.specs.Widths.{IsOfWidth}
 use Rattle.binlog_base.specs.Lemmas.Widths.{map_value_is_of_width, choice_is_of_width}
@@ -17,6 +17,7 @@ use Rattle.binlog_base.proofs.Known.{answers}
 use Rattle.binlog_base.proofs.Filled.{short_answers, filled_answers}
 use Rattle.binlog_base.proofs.Sequences.{Consumes-nil, takes_first, takes_then}
 use Rattle.binlog_values.specs.Decimals.{DecimalView, packed_size, zero_decimal, kept_decimal}
+use Rattle.binlog_values.specs.DecimalText.{decimal_text}
 use Rattle.binlog_values.specs.PackedDecimals.{decimal_in_bytes, packed_digits, packed_decimal, counted_decimal}
 use Rattle.binlog_values.specs.Lemmas.PackedDecimals.{some_sum, exact_packed_decimal, exact_counted_decimal}
 
@@ -125,3 +126,27 @@ counted_then keep precision scale r old mid later new n m k l h i j =
     counts : (r : Result DecimalView Fault) → CountsFailure r k l → CountsFailure r n l
     counts (Ok d) c = c ∙ i.counts ∙ h.counts
     counts (Err e) c = c ∙ ap (count_after e) (i.counts ∙ h.counts)
+
+-- ---- the text of a decimal at the start of bytes
+
+abbrev text : ℕ → ℕ → Format (List ℕ)
+text precision scale = map_value (packed_decimal precision scale false) decimal_text
+
+abbrev texted : DecimalView × List ℕ → Result (List ℕ × List ℕ) Fault
+texted r = Ok (decimal_text r.0, r.1)
+
+pub text_short : (precision scale : ℕ) (x : List ℕ) → scale ≤ precision → 0 < precision → length x < packed_size (precision - scale) scale → (text precision scale).parse x ≡ Err fault.UnexpectedEof
+text_short precision scale x within some few =
+    ap (λ (r : Result (DecimalView × List ℕ) Fault). r >>= texted) ((decimal_of_width precision scale false within some).short x few)
+
+pub text_refused : (precision scale n m : ℕ) (x y more : List ℕ) (e : Fault) → (packed_decimal n m false).parse y ≡ Err e → n ≡ precision → m ≡ scale → y ≡ x → scale ≤ precision → 0 < precision → length x ≡ packed_size (precision - scale) scale → (text precision scale).parse (x ++ more) ≡ Err e
+text_refused precision scale n m x y more e h count after is within some long =
+    let same : (packed_decimal precision scale false).parse x ≡ Err e = sym (ap₂ (λ (j k : ℕ). (packed_decimal j k false).parse y) count after ∙ ap (packed_decimal precision scale false).parse is) ∙ h in
+    ap (λ (r : Result (DecimalView × List ℕ) Fault). r >>= texted) ((decimal_of_width precision scale false within some).whole x more long)
+    ∙ ap (λ (r : Result (DecimalView × List ℕ) Fault). (r >>= leaves more) >>= texted) same
+
+pub text_read : (precision scale n m : ℕ) (x y more : List ℕ) (d : DecimalView) → (packed_decimal n m false).parse y ≡ Ok (d, []) → n ≡ precision → m ≡ scale → y ≡ x → scale ≤ precision → 0 < precision → length x ≡ packed_size (precision - scale) scale → (text precision scale).parse (x ++ more) ≡ Ok (decimal_text d, more)
+text_read precision scale n m x y more d h count after is within some long =
+    let same : (packed_decimal precision scale false).parse x ≡ Ok (d, []) = sym (ap₂ (λ (j k : ℕ). (packed_decimal j k false).parse y) count after ∙ ap (packed_decimal precision scale false).parse is) ∙ h in
+    ap (λ (r : Result (DecimalView × List ℕ) Fault). r >>= texted) ((decimal_of_width precision scale false within some).whole x more long)
+    ∙ ap (λ (r : Result (DecimalView × List ℕ) Fault). (r >>= leaves more) >>= texted) same

@@ -1,6 +1,8 @@
 -- The steps of the loops over digits and bytes of decimals.
-use Rattle.std.proofs.Common.{◌≡◌, ℕ, zero, suc, ◌+◌, ◌-◌, ◌*◌, ◌/◌, ◌%◌, ◌^◌, ◌<◌, ◌≤◌, Bool, true, false, List, [], ◌∷◌, ◌++◌, length, get_or, take, drop, set, map, replicate, Result, Ok, Err, refl, sym, ap, subst, ◌∙◌, append_assoc, append-nil, arith}
-use Rattle.std.specs.Prelude.{slice_index, ◌&&◌, ◌==◌}
+use borrow.Rule.Slice.PartMut.{put_mid}
+use Rattle.std.proofs.lemmas.Slice.{take-put_mid}
+use Rattle.std.proofs.Common.{take-add, ◌≡◌, ℕ, zero, suc, ◌+◌, ◌-◌, ◌*◌, ◌/◌, ◌%◌, ◌^◌, ◌<◌, ◌≤◌, Bool, true, false, List, [], ◌∷◌, ◌++◌, length, get_or, take, drop, set, map, replicate, Result, Ok, Err, refl, sym, ap, subst, ◌∙◌, append_assoc, append-nil, arith}
+use Rattle.std.specs.Prelude.{slice_index, ◌==◌}
 use Rattle.std.specs.Int.{bytes_high_first}
 use Rattle.std.specs.List.{list_all}
 use Rattle.std.specs.Int.Digits.{AllBelowBase, number_from_digits}
@@ -12,7 +14,7 @@ use Rattle.std.proofs.lemmas.List.{length-take-le, length-drop, take_all, take-a
 use Rattle.binlog_base.specs.declared.fault.Fault.{Fault}
 use Rattle.binlog_values.specs.Decimals.{group_width, group_bytes, integer_groups, without_zero_groups}
 use Rattle.binlog_values.specs.DecimalGroups.{low_digits, IsCut, bytes_in, digits_in}
-use Rattle.binlog_values.specs.Lemmas.DecimalGroups.{below-front, below-back, length-low_digits, below-low_digits, number-low_digits, bytes-low_digits, same_digits, number-group_bytes, cut-group, group-cut, cut-append, cut-parts, cut-length, cut-nil}
+use Rattle.binlog_values.specs.Lemmas.DecimalGroups.{below-front, below-back, length-low_digits, below-low_digits, number-low_digits, bytes-low_digits, same_digits, number-group_bytes, cut-group, group-cut, cut-append, cut-parts, cut-length, bytes_in-nines}
 use Rattle.binlog_values.specs.DecimalReads.{Unpacks}
 
 -- ---- numbers of digits
@@ -60,11 +62,6 @@ pub mapped-all : (f : ℕ → ℕ) (xs ys : List ℕ) (i : ℕ) → length xs �
 mapped-all f xs ys i all is =
     is ∙ ap (λ (l : List ℕ). map f l ++ drop i xs) (take_all i xs all) ∙ ap (λ (l : List ℕ). map f xs ++ l) (drop_all i xs all) ∙ append-nil (map f xs)
 
--- the lowest digits of a number, with one digit more
-pub low_digits-push : (base count n : ℕ) → 0 < count → low_digits base count n ≡ low_digits base (count - 1) (n / base) ++ (n % base) ∷ []
-low_digits-push base zero n some = absurd (omega arith)
-low_digits-push base (suc count) n some = let e : suc count - 1 ≡ count = omega arith in rw e refl
-
 -- ---- groups that are all zeros
 
 abbrev all_zeros : List ℕ → Bool
@@ -87,13 +84,6 @@ pub nines-of : (xs rest : List ℕ) → 9 ≤ length xs → rest ≡ drop 9 xs �
 nines-of xs rest some is =
     let long : length rest ≡ length xs - 9 = ap length is ∙ length-drop 9 xs in
     let count : length xs / 9 ≡ suc (length rest / 9) = omega arith in
-    ap (λ (n : ℕ). replicate {A = ℕ} n 9) count
-
--- the bytes of full groups: the four of the first group, and those after it
-pub fours-of : (xs rest : List ℕ) → 4 ≤ length xs → rest ≡ drop 4 xs → replicate {A = ℕ} (length xs / 4) 9 ≡ 9 ∷ replicate {A = ℕ} (length rest / 4) 9
-fours-of xs rest some is =
-    let long : length rest ≡ length xs - 4 = ap length is ∙ length-drop 4 xs in
-    let count : length xs / 4 ≡ suc (length rest / 4) = omega arith in
     ap (λ (n : ℕ). replicate {A = ℕ} n 9) count
 
 pub trim-stop : (ds front : List ℕ) (r : Bool) → front ≡ take (length ds % 9) ds → r ≡ all_zeros front → r ≡ false → ds ≡ without_zero_groups (integer_groups (length ds)) ds
@@ -129,10 +119,6 @@ last_bytes (suc (suc (suc zero))) n h = refl
 last_bytes (suc (suc (suc (suc zero)))) n h = refl
 last_bytes (suc (suc (suc (suc (suc w))))) n h = absurd (omega arith)
 
-and_false : (b : Bool) → (b && false) ≡ false
-and_false true = refl
-and_false false = refl
-
 -- ---- groups that are read
 
 -- the digits of a group's number are packed in the group's bytes
@@ -146,10 +132,10 @@ group_bytes-low_digits size bytes below long low =
     ap (λ (k : ℕ). big_bytes (group_width k) (number_from_digits 10 (low_digits 10 size n))) count ∙ ap (big_bytes w) held ∙ bytes-low_digits w n
     ∙ same_digits 256 (low_digits 256 w n) bytes (length-low_digits 256 w n ∙ sym long) (below-low_digits 256 w n (omega arith)) below (number-low_digits 256 w n (omega arith) fits)
 
-pub group-unpacked : {X : Type 0} (x : X) (size : ℕ) (bytes old new : List ℕ) → AllBelowBase 256 bytes → length bytes ≡ group_width size → number_from_digits 256 bytes < 10 ^ size → new ≡ old ++ low_digits 10 size (number_from_digits 256 bytes) → Unpacks (Ok x) (size ∷ []) bytes old new
-group-unpacked x size bytes old new below long low is =
-    let digits = low_digits 10 size (number_from_digits 256 bytes) in
-    (digits, is, cut-group size bytes digits (below-low_digits 10 size (number_from_digits 256 bytes) (omega arith)) (length-low_digits 10 size (number_from_digits 256 bytes)) (group_bytes-low_digits size bytes below long low))
+pub group-unpacked : {X : Type 0} (x : X) (bytes digits : List ℕ) (n : ℕ) → AllBelowBase 256 bytes → length bytes ≡ group_width n → number_from_digits 256 bytes < 10 ^ n → digits ≡ low_digits 10 n (number_from_digits 256 bytes) → Unpacks (Ok x) (n ∷ []) bytes digits
+group-unpacked x bytes digits n below long low is =
+    subst (IsCut (n ∷ []) bytes) (sym is)
+    (cut-group n bytes (low_digits 10 n (number_from_digits 256 bytes)) (below-low_digits 10 n (number_from_digits 256 bytes) (omega arith)) (length-low_digits 10 n (number_from_digits 256 bytes)) (group_bytes-low_digits n bytes below long low))
 
 pub group-refused : (size : ℕ) (bytes : List ℕ) → size ≤ 9 → 10 ^ size ≤ number_from_digits 256 bytes → (digits : List ℕ) → IsCut (size ∷ []) bytes digits → ⊥
 group-refused size bytes most high digits h =
@@ -159,41 +145,63 @@ group-refused size bytes most high digits h =
     omega (arith, held, low, high)
 
 -- reading two lists of groups, one after the other
-pub unpacks-then : {X Y : Type 0} (a b x y old mid new : List ℕ) (u : X) (r : Result Y Fault) → Unpacks (Ok u) a x old mid → Unpacks r b y mid new → Unpacks r (a ++ b) (x ++ y) old new
-unpacks-then a b x y old mid new u (Ok v) h k =
-    (h.0 ++ k.0, k.1 ∙ ap (λ (l : List ℕ). l ++ k.0) h.1 ∙ append_assoc old h.0 k.0, cut-append a b x y h.0 k.0 h.2 k.2)
-unpacks-then a b x y old mid new u (Err e) h k =
-    λ other. ((k other).0, λ ds c. (k other).1 (drop (digits_in a) ds) (cut-parts a b x y ds (cut-length a x h.0 h.2) c).1)
+pub unpacks-then : {Y : Type 0} (a b x y ds es : List ℕ) (r : Result Y Fault) → IsCut a x ds → Unpacks r b y es → Unpacks r (a ++ b) (x ++ y) (ds ++ es)
+unpacks-then a b x y ds es (Ok v) h k = cut-append a b x y ds es h k
+unpacks-then a b x y ds es (Err e) h k = (k.0, λ others c. k.1 (drop (digits_in a) others) (cut-parts a b x y others (cut-length a x ds h) c).1)
 
-pub unpacks-stop : (X Y : Type 0) (a b x y old mid new : List ℕ) (e : Fault) → length x ≡ bytes_in a → Unpacks {X = X} (Err e) a x old mid → Unpacks {X = Y} (Err e) (a ++ b) (x ++ y) old new
-unpacks-stop X Y a b x y old mid new e long h =
-    λ other. ((h other).0, λ ds c. (h other).1 (take (digits_in a) ds) (cut-parts a b x y ds long c).0)
+pub unpacks-stop : (X Y : Type 0) (a b x y ds es : List ℕ) (e : Fault) → length x ≡ bytes_in a → Unpacks {X = X} (Err e) a x ds → Unpacks {X = Y} (Err e) (a ++ b) (x ++ y) es
+unpacks-stop X Y a b x y ds es e long h = (h.0, λ others c. h.1 (take (digits_in a) others) (cut-parts a b x y others long c).0)
 
-pub unpacks-nil : {X : Type 0} (x : X) (old : List ℕ) → Unpacks (Ok x) [] [] old old
-unpacks-nil x old = ([], sym (append-nil old), cut-nil)
+-- ---- full groups of nine digits, one after the other
 
--- reading full groups of nine digits: the first, and those after it
-abbrev UnpacksNines : (X : Type 0) → Result X Fault → List ℕ → List ℕ → List ℕ → Type 0
-UnpacksNines X r left old new = Unpacks r (replicate (length left / 4) 9) left old new
+nines_more : (k : ℕ) → replicate {A = ℕ} k 9 ++ 9 ∷ [] ≡ replicate {A = ℕ} (k + 1) 9
+nines_more zero = refl
+nines_more (suc k) =
+    let next : suc (k + 1) ≡ suc k + 1 = omega arith in
+    ap (λ (l : List ℕ). 9 ∷ l) (nines_more k) ∙ ap (λ (n : ℕ). replicate {A = ℕ} n 9) next
 
-as_nines : (X : Type 0) (r : Result X Fault) (left group rest old new : List ℕ) → 4 ≤ length left → group ≡ take 4 left → rest ≡ drop 4 left → Unpacks r (9 ∷ replicate (length rest / 4) 9) (group ++ rest) old new → UnpacksNines X r left old new
-as_nines X r left group rest old new some is after h =
-    let all : group ++ rest ≡ left = ap (λ (l : List ℕ). l ++ rest) is ∙ ap (λ (l : List ℕ). take 4 left ++ l) after ∙ take-append-drop 4 left in
-    let sizes : 9 ∷ replicate (length rest / 4) 9 ≡ replicate (length left / 4) 9 = sym (fours-of left rest some after) in
-    subst (λ (l : List ℕ). Unpacks r (replicate (length left / 4) 9) l old new) all (subst (λ (s : List ℕ). Unpacks r s (group ++ rest) old new) sizes h)
+nines_split : (n k : ℕ) → k < n → replicate {A = ℕ} n 9 ≡ replicate {A = ℕ} k 9 ++ (9 ∷ [] ++ replicate {A = ℕ} (n - k - 1) 9)
+nines_split zero k lt = absurd (omega (arith, lt))
+nines_split (suc n) zero lt = ap (λ (m : ℕ). 9 ∷ replicate {A = ℕ} m 9) (omega arith)
+nines_split (suc n) (suc k) lt = ap (λ (l : List ℕ). 9 ∷ l) (nines_split n k (omega (arith, lt)) ∙ ap (λ (m : ℕ). replicate {A = ℕ} k 9 ++ (9 ∷ replicate {A = ℕ} m 9)) (omega arith))
 
-pub nines-then : (X Y : Type 0) (left group rest old mid new : List ℕ) (u : X) (r : Result Y Fault) → 4 ≤ length left → group ≡ take 4 left → rest ≡ drop 4 left → Unpacks (Ok u) (9 ∷ []) group old mid → UnpacksNines Y r rest mid new → UnpacksNines Y r left old new
-nines-then X Y left group rest old mid new u r some is after h k =
-    as_nines Y r left group rest old new some is after (unpacks-then (9 ∷ []) (replicate (length rest / 4) 9) group rest old mid new u r h k)
+-- the group at k follows those before it
+bytes_more : (k : ℕ) (xs : List ℕ) → 4 * k + 4 ≤ length xs → take (4 * k) xs ++ take 4 (drop (4 * k) xs) ≡ take (4 * (k + 1)) xs
+bytes_more k xs le =
+    let next : 4 * (k + 1) ≡ 4 * k + 4 = omega arith in
+    sym (ap (λ (n : ℕ). take n xs) next ∙ take-add (4 * k) 4 xs)
 
-pub nines-stop : (X Y : Type 0) (left group rest old mid new : List ℕ) (e : Fault) → 4 ≤ length left → group ≡ take 4 left → rest ≡ drop 4 left → Unpacks {X = X} (Err e) (9 ∷ []) group old mid → UnpacksNines Y (Err e) left old new
-nines-stop X Y left group rest old mid new e some is after h =
-    let width : length group ≡ 4 = ap length is ∙ length-take-le 4 left some in
-    as_nines Y (Err e) left group rest old new some is after (unpacks-stop X Y (9 ∷ []) (replicate (length rest / 4) 9) group rest old mid new e width h)
+bytes_split : (k : ℕ) (xs : List ℕ) → xs ≡ take (4 * k) xs ++ (take 4 (drop (4 * k) xs) ++ drop 4 (drop (4 * k) xs))
+bytes_split k xs = sym (ap (λ (l : List ℕ). take (4 * k) xs ++ l) (take-append-drop 4 (drop (4 * k) xs)) ∙ take-append-drop (4 * k) xs)
 
-pub nines-end : (X : Type 0) (x : X) (left old : List ℕ) → length left ≡ 0 → UnpacksNines X (Ok x) left old old
-nines-end X x [] old none = unpacks-nil x old
-nines-end X x (b ∷ left) old none = absurd (omega arith)
+pub nines-next : (k n m : ℕ) (bytes group old digits new : List ℕ) → 4 * k + 4 ≤ length bytes → 9 * k + 9 ≤ length old → n ≡ 9 → group ≡ take 4 (drop (4 * k) bytes) → new ≡ put_mid (9 * k) m old digits
+    → IsCut (replicate k 9) (take (4 * k) bytes) (take (9 * k) old) → IsCut (n ∷ []) group digits → IsCut (replicate (k + 1) 9) (take (4 * (k + 1)) bytes) (take (9 * (k + 1)) new)
+nines-next k n m bytes group old digits new room space nine is put h g =
+    let next : take (9 * (k + 1)) new ≡ take (9 * k) old ++ digits = ap (take (9 * (k + 1))) put ∙ take-put_mid (9 * k) m old digits (9 * (k + 1)) (omega (arith, g.count, nine)) (omega (arith, space)) in
+    let all : IsCut (replicate k 9 ++ n ∷ []) (take (4 * k) bytes ++ group) (take (9 * k) old ++ digits) = cut-append (replicate k 9) (n ∷ []) (take (4 * k) bytes) group (take (9 * k) old) digits h g in
+    let sizes : replicate {A = ℕ} k 9 ++ n ∷ [] ≡ replicate {A = ℕ} (k + 1) 9 = ap (λ (size : ℕ). replicate {A = ℕ} k 9 ++ size ∷ []) nine ∙ nines_more k in
+    let sized : IsCut (replicate (k + 1) 9) (take (4 * k) bytes ++ group) (take (9 * k) old ++ digits) = subst (λ (s : List ℕ). IsCut s (take (4 * k) bytes ++ group) (take (9 * k) old ++ digits)) sizes all in
+    let whole : IsCut (replicate (k + 1) 9) (take (4 * (k + 1)) bytes) (take (9 * k) old ++ digits) = subst (λ (x : List ℕ). IsCut (replicate (k + 1) 9) x (take (9 * k) old ++ digits)) (ap (λ (l : List ℕ). take (4 * k) bytes ++ l) is ∙ bytes_more k bytes room) sized in
+    subst (IsCut (replicate (k + 1) 9) (take (4 * (k + 1)) bytes)) (sym next) whole
+
+pub nines-stop : (X Y : Type 0) (k n : ℕ) (bytes group digits new : List ℕ) (e : Fault) → 4 * (length bytes / 4) ≡ length bytes → 4 * k + 4 ≤ length bytes → n ≡ 9 → group ≡ take 4 (drop (4 * k) bytes)
+    → Unpacks {X = X} (Err e) (n ∷ []) group digits → Unpacks {X = Y} (Err e) (replicate (length bytes / 4) 9) bytes new
+nines-stop X Y k n bytes group digits new e whole room nine is h =
+    let count = length bytes / 4 in
+    let front : length (take (4 * k) bytes) ≡ bytes_in (replicate k 9) = omega (arith, length-take-le (4 * k) bytes (omega (arith, room)), bytes_in-nines k) in
+    let width : length group ≡ bytes_in (9 ∷ []) = ap length is ∙ length-take-le 4 (drop (4 * k) bytes) (omega (arith, room, length-drop (4 * k) bytes)) in
+    let rest = drop 4 (drop (4 * k) bytes) in
+    let later = replicate {A = ℕ} (count - k - 1) 9 in
+    let all : take (4 * k) bytes ++ (group ++ rest) ≡ bytes = ap (λ (l : List ℕ). take (4 * k) bytes ++ (l ++ rest)) is ∙ sym (bytes_split k bytes) in
+    let sizes : replicate {A = ℕ} count 9 ≡ replicate {A = ℕ} k 9 ++ (9 ∷ [] ++ later) = nines_split count k (omega (arith, whole, room)) in (
+      h.0,
+      λ others c.
+          let cut : IsCut (replicate {A = ℕ} k 9 ++ (9 ∷ [] ++ later)) (take (4 * k) bytes ++ (group ++ rest)) others = subst (λ (s : List ℕ). IsCut s (take (4 * k) bytes ++ (group ++ rest)) others) sizes (subst (λ (x : List ℕ). IsCut (replicate count 9) x others) (sym all) c) in
+          let second = (cut-parts (replicate k 9) (9 ∷ [] ++ later) (take (4 * k) bytes) (group ++ rest) others front cut).1 in
+          let tail = drop (digits_in (replicate k 9)) others in
+          let found : IsCut (9 ∷ []) group (take (digits_in (9 ∷ [])) tail) = (cut-parts (9 ∷ []) later group rest tail width second).0 in
+          h.1 (take (digits_in (9 ∷ [])) tail) (subst (λ (size : ℕ). IsCut (size ∷ []) group (take (digits_in (9 ∷ [])) tail)) (sym nine) found),
+    )
 
 -- if the test for an empty slice is false, the length is above 0
 pub some_left : (n : ℕ) → false ≡ (n == 0) → 0 < n

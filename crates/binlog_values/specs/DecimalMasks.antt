@@ -1,5 +1,5 @@
 -- The sign encoding of the packed DECIMAL format, and how it is undone.
-use Rattle.std.proofs.Common.{ℕ, Bool, true, false, List, [], ◌∷◌}
+use Rattle.std.proofs.Common.{ℕ, Bool, List}
 use Rattle.std.specs.Prelude.{slice_index, nat_lt, if◌then◌else◌}
 use Rattle.binlog_values.specs.Decimals.{inverted_bytes, flipped_bytes}
 
@@ -15,7 +15,3 @@ is_minus bytes = nat_lt (slice_index bytes 0) 128
 -- packed bytes without the sign encoding
 abbrev pub unmasked_bytes : List ℕ → List ℕ
 unmasked_bytes bytes = inverted_bytes (is_minus bytes) (flipped_bytes bytes)
-
-abbrev pub is_nil : List ℕ → Bool
-is_nil [] = true
-is_nil (x ∷ xs) = false

@@ -4,6 +4,7 @@ ghost use Rattle.std.specs.Prelude.{◌≡◌, ◌≤◌, ◌+◌, ◌-◌, leng
 ghost use Rattle.binlog_values.specs.Decimals.{DecimalView, IsDecimal, packed_size, zero_decimal};
 
 mod group;
+mod lent;
 mod mask;
 mod order;
 mod pack;
@@ -85,13 +86,7 @@ impl Decimal {
     pub fn clone(&self, alloc: Global) -> Result<Decimal, AllocError>
         ensures { IfOk result (λ d. d ≡ self.now) }
     {
-        let integer = Vec::from_slice(alloc, &self.integer)?;
-        let fraction = Vec::from_slice(alloc, &self.fraction)?;
-        Ok(Decimal {
-            negative: self.negative,
-            integer,
-            fraction,
-        })
+        self.lent().to_decimal(alloc)
     }
 
     /// Returns how many bytes this decimal takes in the packed DECIMAL format.

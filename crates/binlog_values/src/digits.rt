@@ -1,11 +1,12 @@
 //! Counts zeros among digits, and writes digits as text.
 
-ghost use Rattle.std.specs.Prelude.{◌≡◌, ◌≤◌, ◌+◌, ◌==◌, length, map};
+ghost use Rattle.std.specs.Prelude.{◌≡◌, ◌≤◌, ◌+◌, ◌==◌, ◌++◌, length, map, OnOk};
 ghost use Rattle.std.specs.List.{flat_map, list_all, take_while};
 ghost use Rattle.std.specs.Fmt.{WritesOnOk, decimal};
 ghost use Rattle.std.specs.Int.Digits.{AllBelowBase};
 ghost use Rattle.binlog_values.specs.DecimalText.{fraction_digits_text};
 
+use std::alloc::AllocError;
 use std::{fmt, str};
 
 // The most digits that are written at once.
@@ -33,6 +34,30 @@ fn make_characters(digits: &mut [u8])
 {
     for digit in digits.iter_mut() {
         *digit += b'0';
+    }
+}
+
+// Appends digits as text.
+pub(crate) fn push_digits(text: &mut Vec<u8>, digits: &[u8]) -> Result<(), AllocError>
+    requires { AllBelowBase 10 digits.now }
+    ensures { OnOk result (text.new.items ≡ text.old.items ++ flat_map decimal digits.now) }
+{
+    for digit in digits {
+        text.push(b'0' + *digit)?;
+    }
+    Ok(())
+}
+
+// Appends a decimal point and the digits after it; nothing if there are no digits.
+pub(crate) fn push_fraction(text: &mut Vec<u8>, digits: &[u8]) -> Result<(), AllocError>
+    requires { AllBelowBase 10 digits.now }
+    ensures { OnOk result (text.new.items ≡ text.old.items ++ fraction_digits_text digits.now) }
+{
+    if digits.is_empty() {
+        Ok(())
+    } else {
+        text.push(b'.')?;
+        push_digits(text, digits)
     }
 }
 

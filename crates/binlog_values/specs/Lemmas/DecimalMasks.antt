@@ -1,15 +1,11 @@
 -- The sign encoding of packed decimals can be undone.
-use Rattle.std.proofs.Common.{◌≡◌, ℕ, ◌+◌, ◌-◌, ◌%◌, ◌<◌, Bool, true, false, List, [], ◌∷◌, ◌++◌, length, refl, ap, arith}
-use Rattle.std.specs.Prelude.{slice_index, ◌&&◌}
+use Rattle.std.proofs.Common.{◌≡◌, ℕ, ◌+◌, ◌-◌, ◌%◌, ◌<◌, Bool, true, false, List, [], ◌∷◌, length, refl, ap, arith}
+use Rattle.std.specs.Prelude.{slice_index}
 use Rattle.std.specs.Int.Digits.{AllBelowBase}
 use Rattle.std.proofs.lemmas.Bool.{lt-ltb, le-ltb}
-use Rattle.std.proofs.lemmas.List.{length-map, map-append}
+use Rattle.std.proofs.lemmas.List.{length-map}
 use Rattle.binlog_values.specs.Decimals.{inverted_bytes, flipped_bytes}
-use Rattle.binlog_values.specs.DecimalMasks.{is_minus, is_nil, masked_bytes, unmasked_bytes}
-
-pub inverted_bytes-append : (negative : Bool) (xs ys : List ℕ) → inverted_bytes negative (xs ++ ys) ≡ inverted_bytes negative xs ++ inverted_bytes negative ys
-inverted_bytes-append true xs ys = map-append (λ (byte : ℕ). 255 - byte) xs ys
-inverted_bytes-append false xs ys = refl
+use Rattle.binlog_values.specs.DecimalMasks.{is_minus, unmasked_bytes}
 
 pub length-inverted_bytes : (negative : Bool) (xs : List ℕ) → length (inverted_bytes negative xs) ≡ length xs
 length-inverted_bytes true xs = length-map xs (λ (byte : ℕ). 255 - byte)
@@ -18,15 +14,6 @@ length-inverted_bytes false xs = refl
 pub length-flipped_bytes : (xs : List ℕ) → length (flipped_bytes xs) ≡ length xs
 length-flipped_bytes [] = refl
 length-flipped_bytes (x ∷ xs) = refl
-
--- bytes that come after others are encoded as bytes that aren't at the start, unless there are no
--- others
-pub masked_bytes-append : (negative first : Bool) (xs ys : List ℕ) → masked_bytes negative first (xs ++ ys) ≡ masked_bytes negative first xs ++ masked_bytes negative (first && is_nil xs) ys
-masked_bytes-append negative false xs ys = inverted_bytes-append negative xs ys
-masked_bytes-append true true [] ys = refl
-masked_bytes-append false true [] ys = refl
-masked_bytes-append true true (x ∷ xs) ys = ap (λ (l : List ℕ). ((255 - x + 128) % 256) ∷ l) (map-append (λ (byte : ℕ). 255 - byte) xs ys)
-masked_bytes-append false true (x ∷ xs) ys = refl
 
 pub inverted_bytes-inverted_bytes : (negative : Bool) (xs : List ℕ) → AllBelowBase 256 xs → inverted_bytes negative (inverted_bytes negative xs) ≡ xs
 inverted_bytes-inverted_bytes true [] h = refl

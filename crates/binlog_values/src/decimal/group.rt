@@ -1,12 +1,11 @@
 //! Groups of at most nine decimal digits, and the numbers that they form.
 
-ghost use Rattle.std.specs.Prelude.{◌≡◌, ◌≤◌, ◌<◌, ◌^◌, ◌++◌, length, OnOk};
+ghost use Rattle.std.specs.Prelude.{◌≡◌, ◌≤◌, ◌<◌, ◌^◌, length};
 ghost use Rattle.std.specs.Int.Digits.{AllBelowBase, number_from_digits};
 ghost use Rattle.binlog_values.specs.Decimals.{group_width, digits_size};
 ghost use Rattle.binlog_values.specs.DecimalGroups.{low_digits};
 
 use super::{DIG_PER_DEC, DIG_TO_BYTES, POWERS_10};
-use std::alloc::AllocError;
 
 // Returns how many bytes a group of that many digits takes.
 pub(super) fn group_width(digits: usize) -> usize
@@ -47,13 +46,16 @@ pub(super) fn number_of(digits: &[u8], base: u64) -> u64
     number
 }
 
-// Appends the lowest `count` decimal digits of a number to `digits`, the highest of them first.
-pub(super) fn push_digits(number: u64, count: usize, digits: &mut Vec<u8>) -> Result<(), AllocError>
-    ensures { OnOk result (digits.new.items ≡ digits.old.items ++ low_digits 10 count number) }
+// Writes the lowest decimal digits of a number, as many as there is room for, the highest of them
+// first.
+pub(super) fn put_digits(number: u64, digits: &mut [u8])
+    ensures { digits.new ≡ low_digits 10 (length digits.old) number }
 {
-    if count > 0 {
-        push_digits(number / 10, count - 1, digits)?;
-        digits.push((number % 10) as u8)?;
+    let mut left = number;
+    let mut at = digits.len();
+    while at > 0 {
+        at -= 1;
+        digits[at] = (left % 10) as u8;
+        left /= 10;
     }
-    Ok(())
 }

@@ -2,25 +2,28 @@
 
 ghost use Rattle.binlog_base.specs.declared.fault.Fault.TheVariants.{DecimalScale};
 ghost use Rattle.std.specs.Prelude.{true, [], ◌-◌, Err, ◌≡◌, ◌≢◌, ◌≤◌, ◌<◌, ◌+◌, ◌^◌, ◌==◌, length, IfOk};
-ghost use Rattle.binlog_base.specs.Format.{Parses, OrMemory};
+ghost use Rattle.std.specs.Prelude.{false};
+ghost use Rattle.binlog_base.specs.Format.{Parses, ParsesAs, OrMemory, map_value};
 ghost use Rattle.binlog_base.specs.Numbers.{big_endian};
 ghost use Rattle.binlog_base.specs.Lemmas.Numbers.{exact_big_endian};
 ghost use Rattle.binlog_base.specs.Widths.{IsOfWidth};
 ghost use Rattle.binlog_base.specs.Sources.{ReadsFromOrMemory};
 ghost use Rattle.binlog_values.specs.Decimals.{packed_size, integer_groups, without_zero_groups, trimmed_decimal, kept_decimal};
 ghost use Rattle.binlog_values.specs.PackedDecimals.{packed_decimal, counted_decimal};
+ghost use Rattle.binlog_values.specs.DecimalText.{decimal_text};
 
 use super::group::digits_size;
+use super::lent::Lent;
 use super::unpack::unpack;
 use super::{DIG_PER_DEC, Decimal};
 use crate::digits::all_zeros;
 use binlog_base::below::{OfWidth, ParseBuf, Source, read_exact, read_number, read_of_width};
 use binlog_base::fault::Fault;
 use byteorder::BigEndian;
-use std::alloc::{AllocError, Global};
+use std::alloc::Global;
 
 // Returns the digits before the point without the groups at their start that are all zeros.
-fn without_zero_groups(digits: &[u8]) -> &[u8]
+pub(super) fn without_zero_groups(digits: &[u8]) -> &[u8]
     ensures { result.now ≡ without_zero_groups (integer_groups (length digits.now)) digits.now }
 {
     let (group, nines) = digits.split_at(digits.len() % DIG_PER_DEC);
@@ -39,7 +42,7 @@ fn without_zero_groups(digits: &[u8]) -> &[u8]
 }
 
 // Returns whether there are no digits at all.
-fn no_digit(integer: &[u8], fraction: &[u8]) -> bool
+pub(super) fn no_digit(integer: &[u8], fraction: &[u8]) -> bool
     ensures { result ≡ (length integer.now + length fraction.now == 0) }
 {
     integer.is_empty() && fraction.is_empty()
@@ -67,26 +70,34 @@ impl OfWidth for Count {
     }
 }
 
+// The most digits that a precision of one byte counts. They take no more bytes in packed form.
+const MAX_DIGITS: usize = 255;
+
 impl Decimal {
-    // Drops the groups at the start of the digits before the point that are all zeros. Returns
-    // positive zero of one digit if no digit is left.
-    fn trim(self, alloc: Global) -> Result<Decimal, AllocError>
-        ensures { IfOk result (λ d. d ≡ trimmed_decimal self) }
+    // Reads a decimal from all of these packed bytes, and overwrites them. It borrows the digits.
+    #[tactic(auto, unfolding(crate::specs::PackedDecimals::packed_decimal))]
+    fn lend<'a>(
+        bytes: &mut [u8],
+        precision: usize,
+        scale: usize,
+        keep_prec: bool,
+        digits: &'a mut [u8],
+    ) -> Result<Lent<'a>, Fault>
+        requires scale { scale ≤ precision }
+        requires some { 0 < precision }
+        requires size { length bytes.old ≡ packed_size (precision - scale) scale }
+        requires room { length digits.old ≡ precision }
+        ensures { Parses (packed_decimal precision scale keep_prec) result bytes.old [] }
     {
-        let left = without_zero_groups(&self.integer);
-        if no_digit(left, &self.fraction) {
-            return Decimal::default(alloc);
+        let decimal = unpack(bytes, precision - scale, digits)?;
+        if keep_prec {
+            Ok(decimal)
+        } else {
+            Ok(decimal.trimmed())
         }
-        let integer = Vec::from_slice(alloc, left)?;
-        Ok(Decimal {
-            negative: self.negative,
-            integer,
-            fraction: self.fraction,
-        })
     }
 
-    // Reads a decimal from all of these packed bytes, which may be overwritten.
-    #[tactic(auto, unfolding(crate::specs::PackedDecimals::packed_decimal))]
+    // Reads a decimal from all of these packed bytes, and overwrites them.
     fn of_bytes(
         alloc: Global,
         bytes: &mut [u8],
@@ -99,12 +110,8 @@ impl Decimal {
         requires size { length bytes.now ≡ packed_size (precision - scale) scale }
         ensures { OrMemory result (Parses (packed_decimal precision scale keep_prec) result bytes.old []) }
     {
-        let decimal = unpack(alloc, bytes, precision - scale, scale)?;
-        if keep_prec {
-            Ok(decimal)
-        } else {
-            Ok(decimal.trim(alloc)?)
-        }
+        let mut digits = vec![in alloc; 0u8; precision]?;
+        Ok(Decimal::lend(bytes, precision, scale, keep_prec, &mut digits)?.to_decimal(alloc)?)
     }
 
     /// Reads a decimal of `precision` digits, `scale` of them after the point, in MySQL's packed
@@ -165,5 +172,36 @@ impl Decimal {
             scale as usize,
             keep_precision,
         )
+    }
+
+    /// Reads a decimal from bytes as `read_bin` does where `keep_prec` is false, and returns the bytes
+    /// of its text, as `Display` writes it. Memory is taken for the text alone.
+    ///
+    /// The faults are those of `read_bin`, but for `Reader`.
+    #[tactic(auto, unfolding(crate::specs::PackedDecimals::packed_decimal))]
+    pub fn read_text(
+        alloc: Global,
+        buf: &mut ParseBuf<'_>,
+        precision: u8,
+        scale: u8,
+    ) -> Result<Vec<u8>, Fault>
+        ensures { OrMemory result (ParsesAs (λ text. text.items)
+            (map_value (packed_decimal precision scale false) decimal_text) result buf.old.0.now buf.new.0.now) }
+    {
+        if scale > precision {
+            return Err(Fault::DecimalScale);
+        }
+        if precision == 0 {
+            return Ok(Lent::zero().to_text(alloc, 1)?);
+        }
+        let (digits, scale) = (usize::from(precision), usize::from(scale));
+        let size = digits_size(digits - scale) + digits_size(scale);
+        let mut bytes = [0; MAX_DIGITS];
+        let packed = &mut bytes[..size];
+        packed.copy_from_slice(buf.eat(size)?);
+        let mut room = [0; MAX_DIGITS];
+        let decimal = Decimal::lend(packed, digits, scale, false, &mut room[..digits])?;
+        // A sign, a zero before the point, and the point.
+        Ok(decimal.to_text(alloc, digits + 3)?)
     }
 }

@@ -1,12 +1,14 @@
 //! Writes decimals as text.
 
-ghost use Rattle.std.specs.Prelude.{◌≡◌, Some};
-ghost use Rattle.std.specs.Fmt.{WritesOnOk};
+ghost use Rattle.std.specs.Prelude.{◌≡◌, ◌++◌, Some, OnOk};
+ghost use Rattle.std.specs.Fmt.{WritesOnOk, sign_text};
 ghost use Rattle.std.specs.Int.Digits.{AllBelowBase};
 ghost use Rattle.binlog_values.specs.DecimalText.{decimal_text, integer_text, shown_digits};
 
+use super::lent::Lent;
 use super::{DIG_PER_DEC, Decimal};
-use crate::digits::{leading_zeros, write_digits, write_fraction};
+use crate::digits::{leading_zeros, push_digits, write_digits, write_fraction};
+use std::alloc::AllocError;
 use std::fmt;
 
 // Returns the digits without the leading zeros of their first group. The last digit of that group
@@ -30,6 +32,41 @@ fn write_integer<W: fmt::Write>(f: &mut fmt::Formatter<W>, digits: &[u8]) -> fmt
     }
 }
 
+// Appends `-` for a negative decimal.
+pub(super) fn push_sign(text: &mut Vec<u8>, negative: bool) -> Result<(), AllocError>
+    ensures { OnOk result (text.new.items ≡ text.old.items ++ sign_text negative) }
+{
+    if negative {
+        text.push(b'-')?;
+    }
+    Ok(())
+}
+
+// Appends the digits before the point, or `0` if there are none.
+pub(super) fn push_integer(text: &mut Vec<u8>, digits: &[u8]) -> Result<(), AllocError>
+    requires { AllBelowBase 10 digits.now }
+    ensures { OnOk result (text.new.items ≡ text.old.items ++ integer_text digits.now) }
+{
+    if digits.is_empty() {
+        Ok(text.push(b'0')?)
+    } else {
+        push_digits(text, shown_digits(digits))
+    }
+}
+
+impl<'a> fmt::Display for Lent<'a> {
+    ghost output = { λ d. Some (decimal_text d) };
+
+    #[tactic(auto, unfolding(crate::specs::DecimalText::decimal_text))]
+    fn fmt<W: fmt::Write>(&self, f: &mut fmt::Formatter<W>) -> fmt::Result {
+        if self.negative {
+            f.write_str("-")?;
+        }
+        write_integer(f, self.integer)?;
+        write_fraction(f, self.fraction)
+    }
+}
+
 /// Writes `-` for a negative decimal, the digits before the point, and, if there are digits after
 /// the point, a `.` and all of those digits.
 ///
@@ -38,12 +75,7 @@ fn write_integer<W: fmt::Write>(f: &mut fmt::Formatter<W>, digits: &[u8]) -> fmt
 impl fmt::Display for Decimal {
     ghost output = { λ d. Some (decimal_text d) };
 
-    #[tactic(auto, unfolding(crate::specs::DecimalText::decimal_text))]
     fn fmt<W: fmt::Write>(&self, f: &mut fmt::Formatter<W>) -> fmt::Result {
-        if self.negative {
-            f.write_str("-")?;
-        }
-        write_integer(f, &self.integer)?;
-        write_fraction(f, &self.fraction)
+        self.lent().fmt(f)
     }
 }

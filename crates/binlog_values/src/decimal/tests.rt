@@ -4,7 +4,7 @@ use super::{
     DIG_BASE, DIG_PER_DEC, DIG_TO_BYTES, Decimal, Digit, POWERS_10, ParseDecimalError,
     decimal_bin_size,
 };
-use binlog_base::below::{Counted, Failed, Sink, Source};
+use binlog_base::below::{Counted, Failed, ParseBuf, Sink, Source};
 use binlog_base::fault::Fault;
 use binlog_base::misc::LimitWrite;
 use std::alloc::Global;
@@ -168,6 +168,17 @@ fn packed_decimals_are_read(rt: HostRuntime) -> Result<(), Fail> {
         Ok(decimal) => assert!(rt; left.is_empty() && shows(&rt, &decimal, "1234567890.1234")?),
         Err(_) => assert!(rt; false),
     }
+    Ok(())
+}
+
+#[test]
+fn texts_of_packed_decimals(rt: HostRuntime) -> Result<(), Fail> {
+    let mut buf = ParseBuf(&COUNTED[2..]);
+    match Decimal::read_text(rt.alloc(), &mut buf, 14, 4) {
+        Ok(text) => assert!(rt; text.as_slice() == b"1234567890.1234".as_slice()),
+        Err(_) => assert!(rt; false),
+    }
+    assert!(rt; buf.is_empty());
     Ok(())
 }
 

@@ -1,88 +1,87 @@
 //! Reads the groups of digits of MySQL's packed DECIMAL format.
 
-ghost use Rattle.std.specs.Prelude.{true, ◌≡◌, ◌≤◌, ◌<◌, ◌+◌, ◌*◌, ◌/◌, [], ◌∷◌, length, replicate};
+ghost use Rattle.std.specs.Prelude.{◌≡◌, ◌≤◌, ◌<◌, ◌-◌, ◌*◌, ◌/◌, [], ◌∷◌, length, replicate};
 ghost use Rattle.binlog_values.specs.Decimals.{group_width, digits_size, packed_size, integer_groups, fraction_groups};
 ghost use Rattle.binlog_values.specs.DecimalReads.{Unpacks};
 ghost use Rattle.binlog_values.specs.PackedDecimals.{packed_digits};
-ghost use Rattle.binlog_base.specs.Format.{Parses, OrMemory};
+ghost use Rattle.binlog_base.specs.Format.{Parses};
 
-use super::group::{digits_size, group_width, number_of, power_of_10, push_digits};
+use super::DIG_PER_DEC;
+use super::group::{digits_size, group_width, number_of, power_of_10, put_digits};
+use super::lent::Lent;
 use super::mask::{is_negative, unmask};
-use super::{DIG_PER_DEC, Decimal};
 use binlog_base::fault::Fault;
-use std::alloc::Global;
 
-// Reads one group and appends its `size` digits to `digits`. `DecimalGroup` if the number of the
-// group has more than `size` digits.
-fn unpack_group(bytes: &[u8], size: usize, digits: &mut Vec<u8>) -> Result<(), Fault>
-    requires size { size ≤ 9 }
-    requires width { length bytes.now ≡ group_width size }
-    ensures { Unpacks result (size ∷ []) bytes.now digits.old.items digits.new.items }
+// Reads one group and writes its digits. `DecimalGroup` if the number of the group has more digits.
+fn unpack_group(bytes: &[u8], digits: &mut [u8]) -> Result<(), Fault>
+    requires size { length digits.old ≤ 9 }
+    requires width { length bytes.now ≡ group_width (length digits.old) }
+    ensures { Unpacks result (length digits.old ∷ []) bytes.now digits.new }
 {
     let number = number_of(bytes, 256);
-    if number >= power_of_10(size) {
+    if number >= power_of_10(digits.len()) {
         return Err(Fault::DecimalGroup);
     }
-    push_digits(number, size, digits)?;
+    put_digits(number, digits);
     Ok(())
 }
 
-// Reads full groups of nine digits and appends their digits to `digits`.
-fn unpack_nines(bytes: &[u8], digits: &mut Vec<u8>) -> Result<(), Fault>
-    requires { 4 * (length bytes.now / 4) ≡ length bytes.now }
-    ensures { Unpacks result (replicate (length bytes.now / 4) 9) bytes.now digits.old.items
-        digits.new.items }
+// Reads full groups of nine digits and writes their digits.
+fn unpack_nines(bytes: &[u8], digits: &mut [u8]) -> Result<(), Fault>
+    requires whole { 4 * (length bytes.now / 4) ≡ length bytes.now }
+    requires room { length digits.old ≡ 9 * (length bytes.now / 4) }
+    ensures { Unpacks result (replicate (length bytes.now / 4) 9) bytes.now digits.new }
 {
-    let mut left = bytes;
-    while !left.is_empty() {
-        let (group, rest) = left.split_at(4);
-        unpack_group(group, DIG_PER_DEC, digits)?;
-        left = rest;
+    for group in 0..bytes.len() / 4 {
+        let (at, first) = (4 * group, DIG_PER_DEC * group);
+        unpack_group(&bytes[at..at + 4], &mut digits[first..first + DIG_PER_DEC])?;
     }
     Ok(())
 }
 
-// Reads the `count` digits before the point: first the short group, then the full groups.
-fn unpack_integer(bytes: &[u8], count: usize, digits: &mut Vec<u8>) -> Result<(), Fault>
-    requires { length bytes.now ≡ digits_size count }
-    ensures { Unpacks result (integer_groups count) bytes.now digits.old.items digits.new.items }
+// Reads the digits before the point: first the short group, then the full groups.
+fn unpack_integer(bytes: &[u8], digits: &mut [u8]) -> Result<(), Fault>
+    requires { length bytes.now ≡ digits_size (length digits.old) }
+    ensures { Unpacks result (integer_groups (length digits.old)) bytes.now digits.new }
 {
-    let short = count % DIG_PER_DEC;
+    let short = digits.len() % DIG_PER_DEC;
     let (group, nines) = bytes.split_at(group_width(short));
-    unpack_group(group, short, digits)?;
-    unpack_nines(nines, digits)
+    let (front, back) = digits.split_at_mut(short);
+    unpack_group(group, front)?;
+    unpack_nines(nines, back)
 }
 
-// Reads the `count` digits after the point: first the full groups, then the short group.
-fn unpack_fraction(bytes: &[u8], count: usize, digits: &mut Vec<u8>) -> Result<(), Fault>
-    requires { length bytes.now ≡ digits_size count }
-    ensures { Unpacks result (fraction_groups count) bytes.now digits.old.items digits.new.items }
+// Reads the digits after the point: first the full groups, then the short group.
+fn unpack_fraction(bytes: &[u8], digits: &mut [u8]) -> Result<(), Fault>
+    requires { length bytes.now ≡ digits_size (length digits.old) }
+    ensures { Unpacks result (fraction_groups (length digits.old)) bytes.now digits.new }
 {
-    let (nines, group) = bytes.split_at(count / DIG_PER_DEC * 4);
-    unpack_nines(nines, digits)?;
-    unpack_group(group, count % DIG_PER_DEC, digits)
+    let full = digits.len() / DIG_PER_DEC;
+    let (nines, group) = bytes.split_at(full * 4);
+    let (front, back) = digits.split_at_mut(full * DIG_PER_DEC);
+    unpack_nines(nines, front)?;
+    unpack_group(group, back)
 }
 
-// Reads a decimal of `integer` digits before the point and `fraction` digits after it from all of
-// the packed bytes, and overwrites them.
-pub(super) fn unpack(
-    alloc: Global,
+// Reads a decimal of `integer` digits before the point from all of the packed bytes, and overwrites
+// them. The decimal borrows the digits, and has as many as there is room for.
+pub(super) fn unpack<'a>(
     bytes: &mut [u8],
     integer: usize,
-    fraction: usize,
-) -> Result<Decimal, Fault>
-    requires some { 0 < integer + fraction }
-    requires size { length bytes.old ≡ packed_size integer fraction }
-    ensures { OrMemory result (Parses (packed_digits integer fraction) result bytes.old []) }
+    digits: &'a mut [u8],
+) -> Result<Lent<'a>, Fault>
+    requires some { 0 < length digits.old }
+    requires integer { integer ≤ length digits.old }
+    requires size { length bytes.old ≡ packed_size integer (length digits.old - integer) }
+    ensures { Parses (packed_digits integer (length digits.old - integer)) result bytes.old [] }
 {
     let negative = is_negative(bytes);
     unmask(negative, bytes);
     let (front, back) = bytes.split_at(digits_size(integer));
-    let mut before = Vec::with_capacity(alloc, integer)?;
-    unpack_integer(front, integer, &mut before)?;
-    let mut after = Vec::with_capacity(alloc, fraction)?;
-    unpack_fraction(back, fraction, &mut after)?;
-    Ok(Decimal {
+    let (before, after) = digits.split_at_mut(integer);
+    unpack_integer(front, before)?;
+    unpack_fraction(back, after)?;
+    Ok(Lent {
         negative,
         integer: before,
         fraction: after,

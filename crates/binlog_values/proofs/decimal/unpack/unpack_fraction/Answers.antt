@@ -1,4 +1,6 @@
+use Rattle.std.proofs.Common.{◌≡◌, ◌++◌, ℕ, ◌%◌, ◌∷◌, [], length, subst, arith}
 use Rattle.std.proofs.lemmas.Result.{err_from_is_err_and}
+use Rattle.binlog_values.specs.DecimalReads.{Unpacks}
 use Rattle.binlog_values.proofs.DecimalBytes.{fraction-then, fraction-stop}
 use Rattle.binlog_values.proofs.decimal.unpack.unpack_fraction.Goals as goal
 
@@ -6,10 +8,14 @@ pub returns-in_err-unpack_nines : goal.returns-in_err-unpack_nines
 returns-in_err-unpack_nines c =
     let p = err_from_is_err_and c.from_residual.result c.from_residual.ensures.1 in
     rw (p.1, p.2)
-    (fraction-stop (Unit {0}) (Unit {0}) c.args.count c.args.bytes.now c.split_at.result.0.now c.split_at.result.1.now c.args.digits.now.items c.unpack_nines.new.digits.items c.unpack_nines.new.digits.items c.in_err-unpack_nines.field-0.0 c.requires
+    (fraction-stop (Unit {0}) (Unit {0}) (length c.args.digits.now) c.args.bytes.now c.split_at.result.0.now c.split_at.result.1.now c.unpack_nines.new.digits (c.unpack_nines.new.digits ++ c.split_at_mut-front.result.1.now) c.in_err-unpack_nines.field-0.0 c.requires
     c.split_at.ensures.front c.split_at.ensures.back c.in_err-unpack_nines.ensures)
 
 pub returns : goal.returns
 returns c =
-    fraction-then (Unit {0}) (Unit {0}) c.args.count c.args.bytes.now c.split_at.result.0.now c.split_at.result.1.now c.args.digits.now.items c.unpack_nines.new.digits.items c.unpack_group.new.digits.items tt c.unpack_group.result c.requires
-    c.split_at.ensures.front c.split_at.ensures.back c.in_ok-unpack_nines.ensures c.unpack_group.ensures
+    let group = c.split_at.result.1.now in
+    let back = c.unpack_group.new.digits in
+    let short : length c.split_at_mut-front.result.1.now ≡ length c.args.digits.now % 9 = omega (arith, c.split_at_mut-front.ensures.back_len) in
+    fraction-then (length c.args.digits.now) c.args.bytes.now c.split_at.result.0.now group c.unpack_nines.new.digits back c.unpack_group.result c.requires
+    c.split_at.ensures.front c.split_at.ensures.back c.in_ok-unpack_nines.ensures
+    (subst (λ (n : ℕ). Unpacks c.unpack_group.result (n ∷ []) group back) short c.unpack_group.ensures)

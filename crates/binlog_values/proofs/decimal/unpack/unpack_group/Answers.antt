@@ -1,4 +1,4 @@
-use Rattle.std.proofs.Common.{ℕ, ◌++◌, refl, ap, ◌∙◌, arith}
+use Rattle.std.proofs.Common.{ℕ, length, refl, ap, ◌∙◌, arith}
 use Rattle.binlog_values.specs.DecimalGroups.{low_digits}
 use Rattle.binlog_values.proofs.DecimalSteps.{below-bytes, bytes-fit, group-refused, group-unpacked}
 use Rattle.binlog_values.proofs.decimal.unpack.unpack_group.Goals as goal
@@ -8,11 +8,11 @@ number_of-number-requires-clause-fits c = bytes-fit _ (omega (arith, c.requires.
 
 pub returns-then-number-power_of_10 : goal.returns-then-number-power_of_10
 returns-then-number-power_of_10 c =
-    λ other. (refl, group-refused c.args.size c.args.bytes.now c.requires.size (omega (arith, c.number_of-number.ensures.value, c.power_of_10.ensures, c.if-number-power_of_10.true)))
+    (refl, group-refused (length c.args.digits.now) c.args.bytes.now c.requires.size (omega (arith, c.number_of-number.ensures.value, c.power_of_10.ensures, c.if-number-power_of_10.true)))
 
 pub returns : goal.returns
 returns c =
-    let old = c.args.digits.now.items in
-    group-unpacked {X = Unit {0}} tt c.args.size c.args.bytes.now old c.push_digits.new.digits.items (below-bytes c.args.bytes.now (λ k. omega (arith, c.type_inv.bytes k))) c.requires.width
+    let size = length c.args.digits.now in
+    group-unpacked {X = Unit {0}} tt c.args.bytes.now c.put_digits.new.digits size (below-bytes c.args.bytes.now (λ k. omega (arith, c.type_inv.bytes k))) c.requires.width
     (omega (arith, c.number_of-number.ensures.value, c.power_of_10.ensures, c.if-number-power_of_10.false))
-    (c.in_ok-push_digits.ensures ∙ ap (λ (n : ℕ). old ++ low_digits 10 c.args.size n) c.number_of-number.ensures.value)
+    (c.put_digits.ensures ∙ ap (λ (n : ℕ). low_digits 10 size n) c.number_of-number.ensures.value)

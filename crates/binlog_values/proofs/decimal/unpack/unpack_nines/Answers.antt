@@ -1,30 +1,37 @@
-use Rattle.std.proofs.Common.{Ok, Err, length, ap, ◌∙◌, arith}
-use Rattle.std.proofs.lemmas.List.{length-drop}
+use borrow.Rule.Slice.PartMut.{put_mid}
+use Rattle.std.proofs.Common.{◌≡◌, ◌-◌, ℕ, ◌+◌, ◌*◌, ◌≤◌, refl, ap, drop, take, length, arith}
+use Rattle.std.proofs.lemmas.List.{length-take-le, length-drop}
 use Rattle.std.proofs.lemmas.Result.{err_from_is_err_and}
-use Rattle.binlog_values.proofs.DecimalSteps.{nines-then, nines-stop, nines-end, some_left, none_left}
+use Rattle.binlog_values.specs.Lemmas.DecimalGroups.{cut-nil}
+use Rattle.binlog_values.proofs.DecimalSteps.{nines-next, nines-stop}
 use Rattle.binlog_values.proofs.decimal.unpack.unpack_nines.Goals as goal
+
+pub loop-group-init : goal.loop-group-init
+loop-group-init c = record { end = refl; cut = cut-nil }
 
 pub returns-in_err-unpack_group : goal.returns-in_err-unpack_group
 returns-in_err-unpack_group c =
     let p = err_from_is_err_and c.from_residual.result c.from_residual.ensures.1 in
-    let left = c.loop-left.left.now in
-    let some = some_left (length left) c.loop-left-test.ensures in
+    let k = c.loop-group.group in
+    let bytes = c.args.bytes.now in
+    let room : 4 * k + 4 ≤ length bytes = omega (arith, c.loop-group-test.true, c.loop-group.invariant.end) in
+    let space : 9 * k + 9 ≤ length c.loop-group.digits = omega (arith, room, c.requires.room, c.loop-group.auto.digits) in
+    let width : 4 * k + 4 - 4 * k ≡ 4 = omega arith in
+    let left = drop (9 * k) c.loop-group.digits in
+    let nine : length (take (9 * k + 9 - 9 * k) left) ≡ 9 = omega (arith, length-take-le (9 * k + 9 - 9 * k) left (omega (arith, space, length-drop (9 * k) c.loop-group.digits))) in
     rw (p.1, p.2)
-    (c.loop-left.invariant.rest (Err c.in_err-unpack_group.field-0.0) c.unpack_group.new.digits.items
-    (nines-stop (Unit {0}) (Unit {0}) left c.split_at.result.0.now c.split_at.result.1.now c.loop-left.digits.items c.unpack_group.new.digits.items c.unpack_group.new.digits.items c.in_err-unpack_group.field-0.0 (omega (arith, some, c.loop-left.invariant.whole)) c.split_at.ensures.front c.split_at.ensures.back c.in_err-unpack_group.ensures))
+    (nines-stop (Unit {0}) (Unit {0}) k _ bytes _ c.unpack_group.new.digits (put_mid (9 * k) (9 * k + 9 - 9 * k) c.loop-group.digits c.unpack_group.new.digits) c.in_err-unpack_group.field-0.0 c.requires.whole room nine (ap (λ (n : ℕ). take n (drop (4 * k) bytes)) width) c.in_err-unpack_group.ensures)
 
-pub loop-left-preserved : goal.loop-left-preserved
-loop-left-preserved c =
-    let left = c.loop-left.left.now in
-    let rest = c.split_at.result.1.now in
-    let some = some_left (length left) c.loop-left-test.ensures in
-    let long = ap length c.split_at.ensures.back ∙ length-drop 4 left in
+pub loop-group-preserved : goal.loop-group-preserved
+loop-group-preserved c =
+    let k = c.loop-group.group in
+    let bytes = c.args.bytes.now in
+    let room : 4 * k + 4 ≤ length bytes = omega (arith, c.loop-group-test.true, c.loop-group.invariant.end) in
+    let space : 9 * k + 9 ≤ length c.loop-group.digits = omega (arith, room, c.requires.room, c.loop-group.auto.digits) in
+    let width : 4 * k + 4 - 4 * k ≡ 4 = omega arith in
+    let left = drop (9 * k) c.loop-group.digits in
+    let nine : length (take (9 * k + 9 - 9 * k) left) ≡ 9 = omega (arith, length-take-le (9 * k + 9 - 9 * k) left (omega (arith, space, length-drop (9 * k) c.loop-group.digits))) in
     record {
-      whole = omega (arith, long, some, c.loop-left.invariant.whole);
-      rest = λ r new k. c.loop-left.invariant.rest r new (nines-then (Unit {0}) (Unit {0}) left c.split_at.result.0.now rest c.loop-left.digits.items c.unpack_group.new.digits.items new tt r (omega (arith, some, c.loop-left.invariant.whole)) c.split_at.ensures.front c.split_at.ensures.back c.in_ok-unpack_group.ensures k);
+      end = c.loop-group.invariant.end;
+      cut = nines-next k _ _ bytes _ c.loop-group.digits c.unpack_group.new.digits _ room space nine (ap (λ (n : ℕ). take n (drop (4 * k) bytes)) width) refl c.loop-group.invariant.cut c.in_ok-unpack_group.ensures;
     }
-
-pub returns : goal.returns
-returns c =
-    c.loop-left.invariant.rest (Ok tt) c.loop-left.digits.items
-    (nines-end (Unit {0}) tt c.loop-left.left.now c.loop-left.digits.items (none_left (length c.loop-left.left.now) c.loop-left-test.ensures))

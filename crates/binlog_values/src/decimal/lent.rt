@@ -1,0 +1,102 @@
+//! A decimal whose digits are borrowed: what reads a decimal without owning it.
+
+ghost use Rattle.std.specs.Prelude.{◌≡◌, IfOk};
+ghost use Rattle.binlog_values.specs.Decimals.{trimmed_decimal, zero_decimal};
+ghost use Rattle.binlog_values.specs.DecimalText.{decimal_text};
+
+use super::Decimal;
+use super::read::{no_digit, without_zero_groups};
+use super::show::{push_integer, push_sign};
+use crate::digits::push_fraction;
+use std::alloc::{AllocError, Global};
+use std::marker::Model;
+
+// The sign of a decimal, and its digits before and after the point.
+#[derive(Drop)]
+pub(super) struct Lent<'a> {
+    pub negative: bool,
+    pub integer: &'a [u8],
+    pub fraction: &'a [u8],
+}
+
+impl<'a> Model for Lent<'a> {
+    ghost use Rattle.binlog_values.specs.Decimals.{DecimalView, IsDecimal};
+
+    ghost Value = { DecimalView };
+
+    ghost view = { λ d. record {
+      negative = d.negative;
+      integer = d.integer.now;
+      fraction = d.fraction.now;
+    } };
+
+    ghost invariant = { λ d.
+        IsDecimal (record { negative = d.negative; integer = d.integer.now; fraction = d.fraction.now }) };
+}
+
+impl<'a> Lent<'a> {
+    // Returns positive zero, with one digit before the point and none after it.
+    pub fn zero() -> Lent<'a>
+        ensures { result ≡ zero_decimal }
+    {
+        Lent {
+            negative: false,
+            integer: &[0],
+            fraction: &[],
+        }
+    }
+
+    // Drops the groups at the start of the digits before the point that are all zeros. Returns
+    // positive zero of one digit if no digit is left.
+    pub fn trimmed(self) -> Lent<'a>
+        ensures { result ≡ trimmed_decimal self.entry }
+    {
+        let integer = without_zero_groups(self.integer);
+        if no_digit(integer, self.fraction) {
+            return Lent::zero();
+        }
+        Lent {
+            negative: self.negative,
+            integer,
+            fraction: self.fraction,
+        }
+    }
+
+    // Returns the text as bytes, which have room for `len` from the start.
+    #[tactic(auto, unfolding(crate::specs::DecimalText::decimal_text))]
+    pub fn to_text(&self, alloc: Global, len: usize) -> Result<Vec<u8>, AllocError>
+        ensures { IfOk result (λ text. text.items ≡ decimal_text self.now) }
+    {
+        let mut text = Vec::with_capacity(alloc, len)?;
+        push_sign(&mut text, self.negative)?;
+        push_integer(&mut text, self.integer)?;
+        push_fraction(&mut text, self.fraction)?;
+        Ok(text)
+    }
+
+    // Copies the digits.
+    pub fn to_decimal(&self, alloc: Global) -> Result<Decimal, AllocError>
+        ensures { IfOk result (λ d. d ≡ self.now) }
+    {
+        let integer = Vec::from_slice(alloc, self.integer)?;
+        let fraction = Vec::from_slice(alloc, self.fraction)?;
+        Ok(Decimal {
+            negative: self.negative,
+            integer,
+            fraction,
+        })
+    }
+}
+
+impl Decimal {
+    // Lends the digits.
+    pub(super) fn lent(&self) -> Lent<'_>
+        ensures { result ≡ self.now }
+    {
+        Lent {
+            negative: self.negative,
+            integer: &self.integer,
+            fraction: &self.fraction,
+        }
+    }
+}

@@ -205,21 +205,38 @@ fn steps(rt: &HostRuntime, event: &RowsEvent<'_>, table: &TableMapEvent<'_>) -> 
     (before, after, rows.metadata_steps())
 }
 
+/// The steps for the rows of an event over a table whose metadata has one field, two names and two
+/// columns.
+fn steps_of(
+    rt: &HostRuntime,
+    body: &[u8],
+    event_type: EventType,
+) -> Result<(u128, u128, u128), Fail> {
+    let bytes = with_metadata(rt, &[4, 4, 1, 0x61, 1, 0x62])?;
+    let table: TableMapEvent<'_> = ParseBuf(&bytes).parse(8)?;
+    let event = read(body, event_type, 10)?;
+    Ok(steps(rt, &event, &table))
+}
+
 #[test]
 fn steps_of_a_plan(rt: HostRuntime) -> Result<(), Fail> {
-    // One field, two names and two columns.
-    let bytes = with_metadata(&rt, &[4, 4, 1, 0x61, 1, 0x62])?;
-    let table: TableMapEvent<'_> = ParseBuf(&bytes).parse(8)?;
     let inserted = two_rows();
-    let event = read(&inserted, EventType::WRITE_ROWS_EVENT, 10)?;
-    assert!(rt; steps(&rt, &event, &table) == (0, 5, 5));
+    assert!(rt; steps_of(&rt, &inserted, EventType::WRITE_ROWS_EVENT)? == (0, 5, 5));
+    Ok(())
+}
+
+#[test]
+fn steps_of_two_plans(rt: HostRuntime) -> Result<(), Fail> {
     // An update has two images.
     let updated = with_rows(&rt, &[2, 1, 2, 0, 7, 0, 0, 0, 1])?;
-    let event = read(&updated, EventType::UPDATE_ROWS_EVENT, 10)?;
-    assert!(rt; steps(&rt, &event, &table) == (0, 10, 10));
-    // No bytes are left from the start.
-    let event = read(&inserted[..12], EventType::WRITE_ROWS_EVENT, 10)?;
-    assert!(rt; steps(&rt, &event, &table) == (0, 0, 0));
+    assert!(rt; steps_of(&rt, &updated, EventType::UPDATE_ROWS_EVENT)? == (0, 10, 10));
+    Ok(())
+}
+
+#[test]
+fn steps_without_rows(rt: HostRuntime) -> Result<(), Fail> {
+    let inserted = two_rows();
+    assert!(rt; steps_of(&rt, &inserted[..12], EventType::WRITE_ROWS_EVENT)? == (0, 0, 0));
     Ok(())
 }
 

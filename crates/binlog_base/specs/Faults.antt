@@ -45,10 +45,13 @@ kind_of fault.Reader = kind.Reader
 kind_of fault.Memory = kind.Memory
 kind_of _ = kind.InvalidData
 
--- whether bytes can have the fault: it is neither Reader nor Memory
+-- whether bytes can have the fault: it isn't Reader or Memory, and it isn't that of one of the limits
+-- on a JSON document
 abbrev pub is_of_bytes : Fault → Bool
 is_of_bytes fault.Reader = false
 is_of_bytes fault.Memory = false
+is_of_bytes fault.NestingTooDeep = false
+is_of_bytes fault.TooManyValues = false
 is_of_bytes _ = true
 
 abbrev pub IsOfBytes : Fault → Type 0

@@ -10,3 +10,16 @@ pub mod DecimalSources
 pub mod DecimalGrammar
 pub mod JsonbElements
 pub mod DecimalOrders
+pub mod JsonbInside
+pub mod JsonbUnfolding
+pub mod JsonbWalk
+pub mod JsonbFirstFault
+pub mod JsonbDenoting
+pub mod JsonbCounting
+pub mod JsonbScalars
+pub mod JsonbLimits
+pub mod InlineTexts
+pub mod JsonbOpaques
+pub mod JsonbClones
+pub mod JsonbStacked
+pub mod JsonbParsing

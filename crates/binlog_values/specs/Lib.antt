@@ -15,4 +15,13 @@ pub mod JsonbValues
 pub mod JsonbSeen
 pub mod JsonbViews
 pub mod JsonbElements
+pub mod JsonbTrees
+pub mod JsonbDocuments
+pub mod JsonbHeaders
+pub mod JsonbDoms
+pub mod JsonbOpaques
+pub mod JsonbParsed
+pub mod JsonbVisits
+pub mod JsonbContainers
+pub mod JsonbStack
 pub mod Lemmas

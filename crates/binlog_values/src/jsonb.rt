@@ -2,8 +2,14 @@
 //! scalars.
 
 mod complex;
+mod container;
+mod dom;
 mod elements;
 mod format;
+mod opaque;
+mod parse;
+mod scalar;
+mod stack;
 mod strings;
 #[cfg(test)]
 mod tests;
@@ -11,8 +17,10 @@ mod types;
 mod value;
 
 pub use complex::ComplexValue;
+pub use dom::{JsonContainer, JsonDom, JsonNumber, JsonScalar};
 pub use elements::{ArrayIter, ObjectIter, ObjectKeys};
 pub use format::{Array, ComplexType, Large, Object, Small, StorageFormat};
+pub use opaque::JsonOpaque;
 pub use strings::{JsonbString, ObjectKey, OpaqueValue};
 pub use types::{JsonbType, LiteralType, UnknownJsonbType, UnknownLiteralType};
 pub use value::Value;

@@ -1,8 +1,12 @@
 //! Proved facts about decimals and binary JSON, each written as the contract of a function that does nothing.
 
-ghost use Rattle.std.specs.Prelude.{ℕ, Bool};
+ghost use Rattle.std.specs.Prelude.{◌≡◌, ◌≤◌, ◌*◌, ℕ, Bool, Result, length};
+ghost use Rattle.binlog_base.specs.declared.fault.Fault.{Fault};
 ghost use Rattle.binlog_base.specs.Format.{IsExact};
-ghost use Rattle.binlog_values.specs.JsonbValues.{Frame, element};
+ghost use Rattle.binlog_values.specs.JsonbValues.{Frame, JsonbValue, nested, element};
+ghost use Rattle.binlog_values.specs.JsonbDocuments.{document_of, layer, weight};
+ghost use Rattle.binlog_values.specs.JsonbHeaders.{headers, AreDisjoint, IsWhole};
+ghost use Rattle.binlog_values.specs.JsonbParsed.{document};
 ghost use Rattle.binlog_values.specs.PackedDecimals.{packed_decimal, counted_decimal};
 ghost use Rattle.binlog_values.specs.DecimalLaws.{PackedReadsBack, PackedHasSize, EqualWherePackedAlike, OrderedAsNumbers, PrintedReadsBack, PackedWhereInRange, TextsAreNumerals};
 
@@ -54,4 +58,18 @@ pub fn texts_are_numerals()
 #[tactic(auto, using(crate::specs::Lemmas::JsonbValues::exact_element))]
 pub fn elements_are_exact()
     ensures { (c : Frame) (i : ℕ) → IsExact (element c i) }
+{}
+
+/// The document of what is read is one level, with the documents of its entries below it.
+#[tactic(auto, using(crate::proofs::JsonbUnfolding::document_is))]
+pub fn documents_unfold()
+    ensures { (r : Result JsonbValue Fault) → document_of r ≡ layer document_of r }
+{}
+
+/// Where no two headers of a document's containers share a byte, the root container has at least
+/// three bytes for each value inside it.
+#[tactic(auto, using(crate::proofs::JsonbCounting::three_bytes_each))]
+pub fn three_bytes_for_a_value()
+    ensures { (c : Frame) → IsWhole c → AreDisjoint (headers 0 (document (nested c)))
+        → 3 * weight (document (nested c)) ≤ length c.bytes }
 {}

@@ -95,6 +95,22 @@ impl<'a, T: StorageFormat, U: ComplexType> Lent<'a, T, U> {
         self.element_count
     }
 
+    /// Returns whether the container is an array.
+    pub fn is_array(&self) -> bool
+        ensures { result ≡ self.now.is_array }
+    {
+        let _ = &self.element_count;
+        U::IS_ARRAY
+    }
+
+    /// Returns how many bytes the container has.
+    pub fn len(&self) -> usize
+        ensures len { result ≡ length self.now.bytes }
+        ensures header { header_len self.now.is_array self.now.is_large self.now.count ≤ result }
+    {
+        self.bytes.len()
+    }
+
     /// Returns the type and the bytes of an element's value.
     #[tactic(auto, unfolding(crate::specs::JsonbValues::typed_at))]
     pub fn typed_at(&self, pos: u32) -> Result<TypedBytes<'a>, Fault>

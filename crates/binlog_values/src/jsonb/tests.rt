@@ -1,5 +1,7 @@
 //! Tests of binary JSON.
 
+mod trees;
+
 use super::{
     Array, ComplexType, ComplexValue, JsonbString, JsonbType, Large, LiteralType, Object,
     ObjectKey, OpaqueValue, Small, StorageFormat, UnknownJsonbType, UnknownLiteralType, Value,

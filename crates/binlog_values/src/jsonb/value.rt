@@ -69,6 +69,7 @@ fn read_opaque<'a>(buf: &mut ParseBuf<'a>) -> Result<Value<'a>, Fault>
 impl<'a> Value<'a> {
     // Reads a value of a type at the start of the bytes.
     #[tactic(auto, unfolding(crate::specs::JsonbValues::value))]
+    #[inline(always)]
     pub(super) fn read(value_type: JsonbType, buf: &mut ParseBuf<'a>) -> Result<Value<'a>, Fault>
         ensures { ParsesAs view_of (value value_type) result buf.old.0.now buf.new.0.now }
     {

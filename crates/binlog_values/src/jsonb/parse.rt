@@ -1,0 +1,106 @@
+//! Reads a value whole, with a limit on nested containers and one on values.
+
+ghost use Rattle.std.specs.Prelude.{◌≡◌, ◌≤◌, ◌<◌, ◌+◌, ◌^◌, ℕ, Ok, IfOk, OnOk, IfErr};
+ghost use Rattle.binlog_base.specs.Items.{result_map};
+ghost use Rattle.binlog_values.specs.JsonbValues.{element_at};
+ghost use Rattle.binlog_values.specs.JsonbViews.{view_of};
+ghost use Rattle.binlog_values.specs.JsonbTrees.{entry_key};
+ghost use Rattle.binlog_values.specs.JsonbDocuments.{document_of, found};
+ghost use Rattle.binlog_values.specs.JsonbContainers.{frame, node_view, IsNode};
+ghost use Rattle.binlog_values.specs.JsonbVisits.{IsEntryFault};
+ghost use Rattle.binlog_values.specs.JsonbParsed.{Parsed};
+
+use super::container::{Container, Node};
+use super::dom::JsonDom;
+use super::scalar::scalar_of;
+use super::stack::read_container;
+use super::value::Value;
+use binlog_base::fault::Fault;
+use std::alloc::Global;
+
+// Reads the key and the value of a position, and counts it. Nothing else reads them.
+fn position<'a>(
+    container: &Container<'a>,
+    pos: u32,
+    counter: &mut u64,
+) -> Result<(&'a [u8], Node<'a>), Fault>
+    requires entry { pos < (frame container.now).count }
+    requires room { counter.old < 2 ^ 63 }
+    ensures counted { counter.new ≡ counter.old + 1 }
+    ensures key { IfOk result (λ e. entry_key (frame container.now) pos ≡ Ok e.0.now) }
+    ensures value { IfOk result (λ e. element_at (frame container.now) pos ≡ Ok (node_view e.1)) }
+    ensures node { IfOk result (λ e. IsNode e.1) }
+    ensures fault { IfErr result (λ f. IsEntryFault f (entry_key (frame container.now) pos)
+        (element_at (frame container.now) pos)) }
+{
+    *counter += 1;
+    container.entry(pos)
+}
+
+// Does the same within the limit on values.
+pub(super) fn position_in_limit<'a>(
+    container: &Container<'a>,
+    pos: u32,
+    limit: u64,
+    counter: &mut u64,
+) -> Result<(&'a [u8], Node<'a>), Fault>
+    requires entry { pos < (frame container.now).count }
+    requires room { counter.old ≤ limit }
+    requires limit { limit < 2 ^ 62 }
+    ensures counted { counter.new ≡ counter.old + 1 }
+    ensures kept { OnOk result (counter.new ≤ limit) }
+    ensures found { result_map (λ e. e.0.now) result ≡ found limit counter.new
+        (entry_key (frame container.now) pos) (document_of (element_at (frame container.now) pos)) }
+    ensures value { IfOk result (λ e. element_at (frame container.now) pos ≡ Ok (node_view e.1)) }
+    ensures node { IfOk result (λ e. IsNode e.1) }
+{
+    let entry = position(container, pos, counter)?;
+    if *counter > limit {
+        return Err(Fault::TooManyValues);
+    }
+    Ok(entry)
+}
+
+// Reads a value whole, and counts the positions that are read, the root not counted.
+fn read_value(alloc: Global, value: &Value<'_>, counter: &mut u64) -> Result<JsonDom, Fault>
+    requires { counter.old ≡ 0 }
+    ensures { Parsed (view_of value.now) result counter.new }
+{
+    match Container::of(value) {
+        Some(root) => {
+            let limit = root.len() as u64 / 3;
+            read_container(alloc, root, limit, counter)
+        }
+        None => Ok(JsonDom::Scalar(scalar_of(alloc, value)?)),
+    }
+}
+
+impl<'a> Value<'a> {
+    /// Reads the value with all that is inside it, as a tree that owns its values. Of equal keys of
+    /// an object the last one is kept.
+    ///
+    /// At most 100 containers may be nested, and a container may hold at most one value for three
+    /// bytes of its own, however many places share them. The fault is the first in document order: a
+    /// position comes before those inside it, and the entries of a container come by their places.
+    /// At a position the fault of the key comes first, then that of the value, `TooManyValues`, and
+    /// `NestingTooDeep` or the fault of the scalar: `InvalidUtf8` for a string that isn't UTF-8,
+    /// `OpaqueTooShort` for a date or time of fewer than eight bytes, and those of
+    /// `Decimal::read_packed`. Nothing after that position is read. `Memory` where memory is
+    /// refused; literals and numbers take none.
+    #[inline(never)]
+    pub fn parse(self, alloc: Global) -> Result<JsonDom, Fault>
+        ensures { (read : ℕ) × Parsed (view_of self.entry) result read }
+    {
+        self.parse_counted(alloc).0
+    }
+
+    /// Does what `parse` does, and returns how many positions were read as well, the root not
+    /// counted.
+    pub fn parse_counted(self, alloc: Global) -> (Result<JsonDom, Fault>, u64)
+        ensures { Parsed (view_of self.entry) result.0 result.1 }
+    {
+        let mut counter = 0;
+        let result = read_value(alloc, &self, &mut counter);
+        (result, counter)
+    }
+}

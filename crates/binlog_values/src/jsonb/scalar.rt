@@ -1,0 +1,92 @@
+//! Scalars of a tree.
+
+ghost use Rattle.std.specs.Prelude.{◌≡◌, true, IsOk};
+ghost use Rattle.binlog_values.specs.JsonbViews.{view_of};
+ghost use Rattle.binlog_values.specs.JsonbTrees.{packed_number, opaque_scalar, text_scalar};
+ghost use Rattle.binlog_values.specs.JsonbContainers.{IsScalar};
+ghost use Rattle.binlog_values.specs.JsonbDoms.{GivesScalar, IsScalarOf};
+ghost use Rattle.binlog_values.specs.JsonbParsed.{is_simple};
+
+use super::dom::{JsonNumber, JsonScalar};
+use super::opaque::JsonOpaque;
+use super::value::Value;
+use crate::decimal::Decimal;
+use crate::time::MysqlTime;
+use binlog_base::below::{ColumnType, ParseBuf};
+use binlog_base::fault::Fault;
+use byteorder::{ByteOrder, LittleEndian};
+use std::alloc::Global;
+use std::str;
+
+// Returns the packed number in the first eight bytes.
+fn packed_number(bytes: &[u8]) -> Result<i64, Fault>
+    ensures { result ≡ packed_number bytes.now }
+{
+    if bytes.len() < 8 {
+        return Err(Fault::OpaqueTooShort);
+    }
+    Ok(LittleEndian::read_int(bytes, 8))
+}
+
+// Returns the scalar of an opaque value.
+#[tactic(auto, unfolding(crate::specs::JsonbTrees::opaque_scalar))]
+fn opaque_scalar(alloc: Global, field_type: ColumnType, bytes: &[u8]) -> Result<JsonScalar, Fault>
+    ensures { GivesScalar result (opaque_scalar field_type bytes.now) }
+{
+    match field_type {
+        ColumnType::MYSQL_TYPE_NEWDECIMAL => {
+            let decimal = Decimal::read_packed(alloc, &mut ParseBuf(bytes), false)?;
+            Ok(JsonScalar::Number(JsonNumber::Decimal(decimal)))
+        }
+        ColumnType::MYSQL_TYPE_DATE => {
+            let date = MysqlTime::from_int64_date_packed(packed_number(bytes)?);
+            Ok(JsonScalar::DateTime(date))
+        }
+        ColumnType::MYSQL_TYPE_TIME => {
+            let time = MysqlTime::from_int64_time_packed(packed_number(bytes)?);
+            Ok(JsonScalar::DateTime(time))
+        }
+        ColumnType::MYSQL_TYPE_DATETIME | ColumnType::MYSQL_TYPE_TIMESTAMP => {
+            let time = MysqlTime::from_int64_datetime_packed(packed_number(bytes)?);
+            Ok(JsonScalar::DateTime(time))
+        }
+        _ => Ok(JsonScalar::Opaque(JsonOpaque {
+            field_type,
+            value: Vec::from_slice(alloc, bytes)?,
+        })),
+    }
+}
+
+// Returns a string that must be UTF-8.
+fn string_scalar(alloc: Global, bytes: &[u8]) -> Result<JsonScalar, Fault>
+    ensures { GivesScalar result (text_scalar bytes.now) }
+{
+    match str::from_utf8(bytes) {
+        Ok(text) => Ok(JsonScalar::String(String::from_str(alloc, text)?)),
+        Err(_) => Err(Fault::InvalidUtf8),
+    }
+}
+
+// Returns the scalar that a value is in a tree.
+#[tactic(auto, unfolding(crate::specs::JsonbTrees::tree_scalar))]
+#[inline(always)]
+pub(super) fn scalar_of(alloc: Global, value: &Value<'_>) -> Result<JsonScalar, Fault>
+    requires { IsScalar (view_of value.now) }
+    ensures scalar { IsScalarOf result (view_of value.now) }
+    ensures simple { is_simple (view_of value.now) ≡ true → IsOk result }
+{
+    match value {
+        Value::Null => Ok(JsonScalar::Null),
+        Value::Bool(value) => Ok(JsonScalar::Boolean(*value)),
+        Value::I16(number) => Ok(JsonScalar::Number(JsonNumber::Int(i64::from(*number)))),
+        Value::U16(number) => Ok(JsonScalar::Number(JsonNumber::Uint(u64::from(*number)))),
+        Value::I32(number) => Ok(JsonScalar::Number(JsonNumber::Int(i64::from(*number)))),
+        Value::U32(number) => Ok(JsonScalar::Number(JsonNumber::Uint(u64::from(*number)))),
+        Value::I64(number) => Ok(JsonScalar::Number(JsonNumber::Int(*number))),
+        Value::U64(number) => Ok(JsonScalar::Number(JsonNumber::Uint(*number))),
+        Value::F64(bits) => Ok(JsonScalar::Number(JsonNumber::Double(*bits))),
+        Value::String(text) => string_scalar(alloc, text.str_raw()),
+        Value::Opaque(value) => opaque_scalar(alloc, value.value_type(), value.data_raw()),
+        _ => unreachable!(),
+    }
+}

@@ -1,6 +1,7 @@
 //! Reads a container whole, by a loop over a stack of the containers that are open.
 
-ghost use Rattle.std.specs.Prelude.{◌≡◌, ◌<◌, ◌+◌, ◌^◌, ◌≤◌, ◌-◌, ℕ, Ok, OnOk, IfErr};
+ghost use Rattle.std.specs.Prelude.{◌≡◌, ◌<◌, ◌+◌, ◌^◌, ◌≤◌, ℕ, Ok, OnOk, IfOk, IfErr, string_bytes};
+ghost use Rattle.std.specs.Str.Lossy.{utf8_lossy};
 ghost use Rattle.binlog_base.specs.declared.fault.Fault.TheVariants.{Memory};
 ghost use Rattle.binlog_values.specs.JsonbValues.{Frame, nested};
 ghost use Rattle.binlog_values.specs.JsonbTrees.{Tree, node, Branches, no_branches, branch};
@@ -19,10 +20,22 @@ use super::value::Value;
 use binlog_base::fault::Fault;
 use std::alloc::Global;
 use std::collections::BTreeMap;
-use std::mem;
+use std::{mem, str};
 
 // At most so many containers wait while an inner one is read, so at most 100 are nested.
 const MAX_WAITING: usize = 99;
+
+// Returns a key as text, with `U+FFFD` in place of what isn't UTF-8.
+#[inline(always)]
+fn key_text(alloc: Global, key: &[u8]) -> Result<String, Fault>
+    ensures text { IfOk result (λ text. string_bytes text ≡ utf8_lossy key.now) }
+    ensures memory { IfErr result (λ f. f ≡ Memory) }
+{
+    match str::from_utf8(key) {
+        Ok(text) => Ok(String::from_str(alloc, text)?),
+        Err(_) => Ok(String::from_utf8_lossy(alloc, key)?),
+    }
+}
 
 // What was read of a container.
 #[derive(Drop)]
@@ -52,7 +65,7 @@ impl Collected {
         match self {
             Collected::Items(items) => Ok(items.push(value)?),
             Collected::Members(members) => {
-                let text = String::from_utf8_lossy(alloc, key)?;
+                let text = key_text(alloc, key)?;
                 drop(members.insert(text, value)?);
                 Ok(())
             }

@@ -7,4 +7,4 @@ returns-in_ok-push-in-Items-clause-entry c = λ of front t h is.
 
 pub returns-in_ok-insert-in-Members-clause-entry : goal.returns-in_ok-insert-in-Members-clause-entry
 returns-in_ok-insert-in-Members-clause-entry c = λ of front t h is.
-    collected-member c.in-Members.members c.insert.new.self c.in_ok-text-in-Members.text c.args.value of front c.args.key.now t (rw c.in-Members.is at h) is c.in_ok-text-in-Members.ensures.lossy c.in_ok-insert-in-Members.ensures.entries
+    collected-member c.in-Members.members c.insert.new.self c.in_ok-text-in-Members.text c.args.value of front c.args.key.now t (rw c.in-Members.is at h) is c.in_ok-text-in-Members.ensures.text c.in_ok-insert-in-Members.ensures.entries

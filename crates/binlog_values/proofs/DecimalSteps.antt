@@ -47,20 +47,32 @@ bytes-fit k most = let h : 256 ^ k ≤ 256 ^ 4 = pow-le-pow_right (omega arith) 
 
 -- ---- bytes that are mapped in place
 
+-- item i is replaced by that of a mapped list; `zs` is what the list was before
+pub placed-more : (f : ℕ → ℕ) (xs zs ys : List ℕ) (i : ℕ) → i < length xs → length zs ≡ length xs → ys ≡ map f (take i xs) ++ drop i zs → set ys i (f (get_or xs i 0)) ≡ map f (take (i + 1) xs) ++ drop (i + 1) zs
+placed-more f xs zs ys i within same is =
+    let x = get_or xs i 0 in
+    let z = get_or zs i 0 in
+    let front : length (map f (take i xs)) ≡ i = length-map (take i xs) f ∙ length-take-le i xs (omega arith) in
+    let split : ys ≡ map f (take i xs) ++ z ∷ drop (i + 1) zs = is ∙ ap (λ (l : List ℕ). map f (take i xs) ++ l) (drop_more zs i 0 (omega (arith, same, within))) in
+    let written : set ys i (f x) ≡ map f (take i xs) ++ f x ∷ drop (i + 1) zs =
+    ap (λ (l : List ℕ). set l i (f x)) split ∙ set_at (map f (take i xs)) z (drop (i + 1) zs) (f x) i front in
+    let taken : map f (take (i + 1) xs) ≡ map f (take i xs) ++ f x ∷ [] = ap (map f) (take_more xs i 0 within) ∙ map-append f (take i xs) (x ∷ []) in
+    written ∙ sym (ap (λ (l : List ℕ). l ++ drop (i + 1) zs) taken ∙ append_assoc (map f (take i xs)) (f x ∷ []) (drop (i + 1) zs))
+
+pub placed-all : (f : ℕ → ℕ) (xs zs ys : List ℕ) (i : ℕ) → length xs ≤ i → length zs ≡ length xs → ys ≡ map f (take i xs) ++ drop i zs → ys ≡ map f xs
+placed-all f xs zs ys i all same is =
+    is ∙ ap (λ (l : List ℕ). map f l ++ drop i zs) (take_all i xs all) ∙ ap (λ (l : List ℕ). map f xs ++ l) (drop_all i zs (omega (arith, same, all))) ∙ append-nil (map f xs)
+
 pub mapped-more : (f : ℕ → ℕ) (xs ys : List ℕ) (i : ℕ) → i < length xs → ys ≡ map f (take i xs) ++ drop i xs → set ys i (f (get_or ys i 0)) ≡ map f (take (i + 1) xs) ++ drop (i + 1) xs
 mapped-more f xs ys i within is =
     let x = get_or xs i 0 in
     let front : length (map f (take i xs)) ≡ i = length-map (take i xs) f ∙ length-take-le i xs (omega arith) in
     let split : ys ≡ map f (take i xs) ++ x ∷ drop (i + 1) xs = is ∙ ap (λ (l : List ℕ). map f (take i xs) ++ l) (drop_more xs i 0 within) in
     let here : get_or ys i 0 ≡ x = ap (λ (l : List ℕ). get_or l i 0) split ∙ get_or_at (map f (take i xs)) x (drop (i + 1) xs) 0 i front in
-    let written : set ys i (f (get_or ys i 0)) ≡ map f (take i xs) ++ f x ∷ drop (i + 1) xs =
-    ap (λ (y : ℕ). set ys i (f y)) here ∙ ap (λ (l : List ℕ). set l i (f x)) split ∙ set_at (map f (take i xs)) x (drop (i + 1) xs) (f x) i front in
-    let taken : map f (take (i + 1) xs) ≡ map f (take i xs) ++ f x ∷ [] = ap (map f) (take_more xs i 0 within) ∙ map-append f (take i xs) (x ∷ []) in
-    written ∙ sym (ap (λ (l : List ℕ). l ++ drop (i + 1) xs) taken ∙ append_assoc (map f (take i xs)) (f x ∷ []) (drop (i + 1) xs))
+    ap (λ (y : ℕ). set ys i (f y)) here ∙ placed-more f xs xs ys i within refl is
 
 pub mapped-all : (f : ℕ → ℕ) (xs ys : List ℕ) (i : ℕ) → length xs ≤ i → ys ≡ map f (take i xs) ++ drop i xs → ys ≡ map f xs
-mapped-all f xs ys i all is =
-    is ∙ ap (λ (l : List ℕ). map f l ++ drop i xs) (take_all i xs all) ∙ ap (λ (l : List ℕ). map f xs ++ l) (drop_all i xs all) ∙ append-nil (map f xs)
+mapped-all f xs ys i all is = placed-all f xs xs ys i all refl is
 
 -- ---- groups that are all zeros
 

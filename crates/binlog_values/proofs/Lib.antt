@@ -5,6 +5,7 @@ pub mod DecimalPacking
 pub mod DecimalBytes
 pub mod DecimalTexts
 pub mod DecimalPrinting
+pub mod DecimalPutting
 pub mod DecimalRanges
 pub mod DecimalSources
 pub mod DecimalGrammar

@@ -1,12 +1,11 @@
 //! Counts zeros among digits, and writes digits as text.
 
-ghost use Rattle.std.specs.Prelude.{◌≡◌, ◌≤◌, ◌+◌, ◌==◌, ◌++◌, length, map, OnOk};
+ghost use Rattle.std.specs.Prelude.{◌≡◌, ◌≤◌, ◌+◌, ◌==◌, length, map};
 ghost use Rattle.std.specs.List.{flat_map, list_all, take_while};
 ghost use Rattle.std.specs.Fmt.{WritesOnOk, decimal};
 ghost use Rattle.std.specs.Int.Digits.{AllBelowBase};
 ghost use Rattle.binlog_values.specs.DecimalText.{fraction_digits_text};
 
-use std::alloc::AllocError;
 use std::{fmt, str};
 
 // The most digits that are written at once.
@@ -37,27 +36,38 @@ fn make_characters(digits: &mut [u8])
     }
 }
 
-// Appends digits as text.
-pub(crate) fn push_digits(text: &mut Vec<u8>, digits: &[u8]) -> Result<(), AllocError>
-    requires { AllBelowBase 10 digits.now }
-    ensures { OnOk result (text.new.items ≡ text.old.items ++ flat_map decimal digits.now) }
+// Writes digits as ASCII characters. There is room for exactly as many.
+pub(crate) fn put_characters(room: &mut [u8], digits: &[u8])
+    requires room { length room.old ≡ length digits.now }
+    requires below { AllBelowBase 10 digits.now }
+    ensures { room.new ≡ flat_map decimal digits.now }
 {
-    for digit in digits {
-        text.push(b'0' + *digit)?;
+    for i in 0..digits.len() {
+        room[i] = b'0' + digits[i];
     }
-    Ok(())
 }
 
-// Appends a decimal point and the digits after it; nothing if there are no digits.
-pub(crate) fn push_fraction(text: &mut Vec<u8>, digits: &[u8]) -> Result<(), AllocError>
+// Returns how many bytes a decimal point and the digits after it take: none if there are no digits.
+pub(crate) fn fraction_len(digits: &[u8]) -> usize
     requires { AllBelowBase 10 digits.now }
-    ensures { OnOk result (text.new.items ≡ text.old.items ++ fraction_digits_text digits.now) }
+    ensures { result ≡ length (fraction_digits_text digits.now) }
 {
-    if digits.is_empty() {
-        Ok(())
-    } else {
-        text.push(b'.')?;
-        push_digits(text, digits)
+    match digits.len() {
+        0 => 0,
+        count => 1 + count,
+    }
+}
+
+// Writes a decimal point and the digits after it; nothing if there are no digits. There is room for
+// exactly that.
+pub(crate) fn put_fraction(room: &mut [u8], digits: &[u8])
+    requires room { length room.old ≡ length (fraction_digits_text digits.now) }
+    requires below { AllBelowBase 10 digits.now }
+    ensures { room.new ≡ fraction_digits_text digits.now }
+{
+    if let Some((point, characters)) = room.split_first_mut() {
+        *point = b'.';
+        put_characters(characters, digits);
     }
 }
 

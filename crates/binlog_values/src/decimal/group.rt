@@ -1,6 +1,6 @@
 //! Groups of at most nine decimal digits, and the numbers that they form.
 
-ghost use Rattle.std.specs.Prelude.{◌≡◌, ◌≤◌, ◌<◌, ◌^◌, length};
+ghost use Rattle.std.specs.Prelude.{◌≡◌, ◌≤◌, ◌<◌, ◌+◌, ◌*◌, ◌^◌, length};
 ghost use Rattle.std.specs.Int.Digits.{AllBelowBase, number_from_digits};
 ghost use Rattle.binlog_values.specs.Decimals.{group_width, digits_size};
 ghost use Rattle.binlog_values.specs.DecimalGroups.{low_digits};
@@ -18,7 +18,7 @@ pub(super) fn group_width(digits: usize) -> usize
 // Returns how many bytes that many digits before the point, or after it, take.
 pub(super) fn digits_size(digits: usize) -> usize
     ensures size { result ≡ digits_size digits }
-    ensures within { result ≤ digits }
+    ensures half { 2 * result ≤ digits + 1 }
 {
     digits / DIG_PER_DEC * 4 + group_width(digits % DIG_PER_DEC)
 }

@@ -2,12 +2,9 @@
 
 ghost use Rattle.std.specs.Prelude.{◌≡◌, IfOk};
 ghost use Rattle.binlog_values.specs.Decimals.{trimmed_decimal, zero_decimal};
-ghost use Rattle.binlog_values.specs.DecimalText.{decimal_text};
 
 use super::Decimal;
 use super::read::{no_digit, without_zero_groups};
-use super::show::{push_integer, push_sign};
-use crate::digits::push_fraction;
 use std::alloc::{AllocError, Global};
 use std::marker::Model;
 
@@ -60,18 +57,6 @@ impl<'a> Lent<'a> {
             integer,
             fraction: self.fraction,
         }
-    }
-
-    // Returns the text as bytes, which have room for `len` from the start.
-    #[tactic(auto, unfolding(crate::specs::DecimalText::decimal_text))]
-    pub fn to_text(&self, alloc: Global, len: usize) -> Result<Vec<u8>, AllocError>
-        ensures { IfOk result (λ text. text.items ≡ decimal_text self.now) }
-    {
-        let mut text = Vec::with_capacity(alloc, len)?;
-        push_sign(&mut text, self.negative)?;
-        push_integer(&mut text, self.integer)?;
-        push_fraction(&mut text, self.fraction)?;
-        Ok(text)
     }
 
     // Copies the digits.

@@ -70,8 +70,10 @@ impl OfWidth for Count {
     }
 }
 
-// The most digits that a precision of one byte counts. They take no more bytes in packed form.
+// The most digits that a precision of one byte counts, and a bound of their bytes in packed form.
 const MAX_DIGITS: usize = 255;
+
+const MAX_SIZE: usize = 128;
 
 impl Decimal {
     // Reads a decimal from all of these packed bytes, and overwrites them. It borrows the digits.
@@ -192,16 +194,15 @@ impl Decimal {
             return Err(Fault::DecimalScale);
         }
         if precision == 0 {
-            return Ok(Lent::zero().to_text(alloc, 1)?);
+            return Ok(vec![in alloc; b'0']?);
         }
         let (digits, scale) = (usize::from(precision), usize::from(scale));
         let size = digits_size(digits - scale) + digits_size(scale);
-        let mut bytes = [0; MAX_DIGITS];
+        let mut bytes = [0; MAX_SIZE];
         let packed = &mut bytes[..size];
         packed.copy_from_slice(buf.eat(size)?);
         let mut room = [0; MAX_DIGITS];
         let decimal = Decimal::lend(packed, digits, scale, false, &mut room[..digits])?;
-        // A sign, a zero before the point, and the point.
-        Ok(decimal.to_text(alloc, digits + 3)?)
+        Ok(decimal.to_text(alloc)?)
     }
 }

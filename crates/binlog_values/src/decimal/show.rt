@@ -1,14 +1,17 @@
 //! Writes decimals as text.
 
-ghost use Rattle.std.specs.Prelude.{◌≡◌, ◌++◌, Some, OnOk};
-ghost use Rattle.std.specs.Fmt.{WritesOnOk, sign_text};
+ghost use Rattle.std.specs.Prelude.{◌≡◌, length, Some, IfOk};
+ghost use Rattle.std.specs.List.{flat_map};
+ghost use Rattle.std.specs.Fmt.{WritesOnOk, decimal};
 ghost use Rattle.std.specs.Int.Digits.{AllBelowBase};
 ghost use Rattle.binlog_values.specs.DecimalText.{decimal_text, integer_text, shown_digits};
 
 use super::lent::Lent;
 use super::{DIG_PER_DEC, Decimal};
-use crate::digits::{leading_zeros, push_digits, write_digits, write_fraction};
-use std::alloc::AllocError;
+use crate::digits::{
+    fraction_len, leading_zeros, put_characters, put_fraction, write_digits, write_fraction,
+};
+use std::alloc::{AllocError, Global};
 use std::fmt;
 
 // Returns the digits without the leading zeros of their first group. The last digit of that group
@@ -32,25 +35,46 @@ fn write_integer<W: fmt::Write>(f: &mut fmt::Formatter<W>, digits: &[u8]) -> fmt
     }
 }
 
-// Appends `-` for a negative decimal.
-pub(super) fn push_sign(text: &mut Vec<u8>, negative: bool) -> Result<(), AllocError>
-    ensures { OnOk result (text.new.items ≡ text.old.items ++ sign_text negative) }
-{
-    if negative {
-        text.push(b'-')?;
+impl<'a> Lent<'a> {
+    // Returns the digits before the point that the text has, or 0 if there are none.
+    fn shown_integer(&self) -> &[u8]
+        ensures text { flat_map decimal result.now ≡ integer_text self.now.integer }
+        ensures below { AllBelowBase 10 result.now }
+    {
+        if self.integer.is_empty() {
+            &[0]
+        } else {
+            shown_digits(self.integer)
+        }
     }
-    Ok(())
-}
 
-// Appends the digits before the point, or `0` if there are none.
-pub(super) fn push_integer(text: &mut Vec<u8>, digits: &[u8]) -> Result<(), AllocError>
-    requires { AllBelowBase 10 digits.now }
-    ensures { OnOk result (text.new.items ≡ text.old.items ++ integer_text digits.now) }
-{
-    if digits.is_empty() {
-        Ok(text.push(b'0')?)
-    } else {
-        push_digits(text, shown_digits(digits))
+    // Writes the text with these digits before the point. There is room for exactly that text.
+    #[tactic(auto, unfolding(crate::specs::DecimalText::decimal_text))]
+    fn put_text(&self, integer: &[u8], room: &mut [u8])
+        requires text { flat_map decimal integer.now ≡ integer_text self.now.integer }
+        requires below { AllBelowBase 10 integer.now }
+        requires room { length room.old ≡ length (decimal_text self.now) }
+        ensures { room.new ≡ decimal_text self.now }
+    {
+        let (sign, digits) = room.split_at_mut(usize::from(self.negative));
+        sign.fill(b'-');
+        let (before, after) = digits.split_at_mut(integer.len());
+        put_characters(before, integer);
+        put_fraction(after, self.fraction);
+    }
+
+    // Returns the text as bytes.
+    pub fn to_text(&self, alloc: Global) -> Result<Vec<u8>, AllocError>
+        ensures { IfOk result (λ text. text.items ≡ decimal_text self.now) }
+    {
+        let integer = self.shown_integer();
+        let before = usize::from(self.negative) + integer.len();
+        let Some(len) = before.checked_add(fraction_len(self.fraction)) else {
+            return Err(AllocError);
+        };
+        let mut text = vec![in alloc; b'0'; len]?;
+        self.put_text(integer, &mut text);
+        Ok(text)
     }
 }
 

@@ -142,7 +142,7 @@ fn shown_opaque(alloc: Global, bytes: &[u8]) -> Result<String, Fail> {
 #[test]
 fn opaque_values_in_trees(rt: HostRuntime) -> Result<(), Fail> {
     let alloc = rt.alloc();
-    let cases: [(&[u8], &str); 3] = [
+    let cases: [(&[u8], &str); 5] = [
         (
             &[15, 246, 9, 14, 4, 0x81, 0x0d, 0xfb, 0x38, 0xd2, 0x04, 0xd2],
             "1234567890.1234",
@@ -150,6 +150,14 @@ fn opaque_values_in_trees(rt: HostRuntime) -> Result<(), Fail> {
         (
             &[15, 12, 8, 0, 0, 0, 0x80, 0xc7, 0xb6, 0xa4, 0x19],
             "2019-11-27 12:30:00",
+        ),
+        (
+            &[15, 10, 8, 0, 0, 0, 0x80, 0xc7, 0xb6, 0xa4, 0x19],
+            "2019-11-27",
+        ),
+        (
+            &[15, 11, 8, 0x60, 0x79, 0xfe, 0xff, 0xff, 0xff, 0xff, 0xff],
+            "-00:00:00",
         ),
         (&[15, 252, 1, 0x61], "base64:type252:YQ=="),
     ];

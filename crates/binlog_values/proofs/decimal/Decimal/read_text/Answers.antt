@@ -1,11 +1,18 @@
-use Rattle.std.proofs.Common.{ℕ, false, List, Ok, sym, ap, ◌∙◌, arith}
+use Rattle.std.proofs.Common.{ℕ, false, List, Ok, sym, ap, ◌∙◌, ◌≡◌, [], ◌∷◌, arith}
 use Rattle.std.proofs.lemmas.Result.{err_from_is_err_and}
 use Rattle.binlog_base.specs.Format.{map_value}
 use Rattle.binlog_base.specs.Lemmas.Format.{exact_take_bytes}
 use Rattle.binlog_values.specs.DecimalText.{decimal_text}
 use Rattle.binlog_values.specs.PackedDecimals.{packed_decimal}
+use Rattle.binlog_values.proofs.DecimalPutting.{zero_read}
 use Rattle.binlog_values.proofs.DecimalSources.{text_short, text_refused, text_read}
 use Rattle.binlog_values.proofs.decimal.Decimal.read_text.Goals as goal
+
+pub returns-then-precision-eq0 : goal.returns-then-precision-eq0
+returns-then-precision-eq0 c =
+    let x = c.args.buf.now.0.now in
+    let items : c.in_ok-vec.field-0.items ≡ 48 ∷ [] = c.in_ok-vec.ensures.items in
+    zero_read c.args.precision c.args.scale x (omega (arith, c.if-scale-precision.false)) (omega (arith, c.if-precision-eq0.true)) ∙ ap (λ (t : List ℕ). Ok (t, x)) (sym items)
 
 pub returns-in_err-eat : goal.returns-in_err-eat
 returns-in_err-eat c =
@@ -32,4 +39,4 @@ returns c =
     ap (map_value (packed_decimal c.args.precision c.args.scale false) decimal_text).parse taken.1
     ∙ text_read c.args.precision c.args.scale _ _ taken.0 _ c.eat.new.self.0.now c.in_ok-decimal.decimal c.in_ok-decimal.ensures (omega arith) (omega arith) (c.copy_from_slice.ensures.after ∙ taken.2.0)
     (omega (arith, c.if-scale-precision.false)) (omega (arith, c.if-precision-eq0.false)) (omega (arith, taken.2.1, c.digits_size.ensures.size, c.digits_size-2.ensures.size))
-    ∙ ap (λ (l : List ℕ). Ok (l, c.eat.new.self.0.now)) (sym c.in_ok-to_text-2.ensures)
+    ∙ ap (λ (l : List ℕ). Ok (l, c.eat.new.self.0.now)) (sym c.in_ok-to_text.ensures)

@@ -7,5 +7,3 @@ pub mod bits;
 pub mod fault;
 pub mod laws;
 pub mod misc;
-#[cfg(test)]
-mod tests;

@@ -7,8 +7,6 @@ mod binary;
 mod fields;
 mod limit;
 mod packed;
-#[cfg(test)]
-mod tests;
 
 pub use binary::{
     my_datetime_packed_from_binary, my_time_packed_from_binary, my_timestamp_from_binary,

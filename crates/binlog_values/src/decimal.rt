@@ -11,8 +11,6 @@ mod pack;
 mod parse;
 mod read;
 mod show;
-#[cfg(test)]
-mod tests;
 mod unpack;
 
 use group::digits_size;

@@ -11,8 +11,6 @@ mod parse;
 mod scalar;
 mod stack;
 mod strings;
-#[cfg(test)]
-mod tests;
 mod types;
 mod value;
 

@@ -6,6 +6,4 @@ pub mod decimal;
 mod digits;
 pub mod jsonb;
 pub mod laws;
-#[cfg(test)]
-mod tests;
 pub mod time;

@@ -1,8 +1,15 @@
 //! Tests of rows events and their pairs of rows.
 
+mod below;
+mod consts;
+mod decimals;
 mod images;
+mod jsonb;
+mod misc;
 mod optional_metadata;
 mod table_map;
+mod times;
+mod trees;
 
 use crate::laws::pairs_are_unambiguous;
 use crate::row::BinlogRow;

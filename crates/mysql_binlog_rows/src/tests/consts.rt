@@ -1,6 +1,6 @@
 //! Tests of the constants and flags.
 
-use crate::consts::{
+use binlog_consts::consts::{
     BinlogChecksumAlg, BinlogVersion, EventFlags, EventType, Flags, Gno, GtidFlags, IncidentType,
     IntvarEventType, InvalidGno, LoadDuplicateHandling, OptionalMetadataFieldType, RowsEventFlags,
     SemiSyncFlags, StatusVarKey, TransactionPayloadCompressionType, TransactionPayloadFields,

@@ -1,12 +1,12 @@
 //! Tests of decimals: their text, their packed bytes, and their order.
 
-use super::{
-    DIG_BASE, DIG_PER_DEC, DIG_TO_BYTES, Decimal, Digit, POWERS_10, ParseDecimalError,
-    decimal_bin_size,
-};
 use binlog_base::below::{Counted, Failed, ParseBuf, Sink, Source};
 use binlog_base::fault::Fault;
 use binlog_base::misc::LimitWrite;
+use binlog_values::decimal::{
+    DIG_BASE, DIG_PER_DEC, DIG_TO_BYTES, Decimal, Digit, POWERS_10, ParseDecimalError,
+    decimal_bin_size,
+};
 use std::alloc::Global;
 use std::cmp::Ordering;
 use std::test::Fail;

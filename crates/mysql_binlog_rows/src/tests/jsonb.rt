@@ -1,13 +1,11 @@
 //! Tests of binary JSON.
 
-mod trees;
-
-use super::{
+use binlog_base::below::{ColumnType, MySerialize, ParseBuf};
+use binlog_base::fault::{Fault, JsonbError};
+use binlog_values::jsonb::{
     Array, ComplexType, ComplexValue, JsonbString, JsonbType, Large, LiteralType, Object,
     ObjectKey, OpaqueValue, Small, StorageFormat, UnknownJsonbType, UnknownLiteralType, Value,
 };
-use binlog_base::below::{ColumnType, MySerialize, ParseBuf};
-use binlog_base::fault::{Fault, JsonbError};
 use std::borrow::CowSlice;
 use std::test::Fail;
 

@@ -5,10 +5,10 @@ ghost use Rattle.binlog_base.specs.Format.{Parses, ParsesAs, map_value};
 ghost use Rattle.binlog_base.specs.Values.{plain_of};
 ghost use Rattle.binlog_base.specs.PackedTimes.{time2, datetime2, timestamp2, time_value, datetime_value};
 
-use crate::below::{Counted, Failed, ParseBuf, Sink, Source, Value, read_exact, write_all};
-use crate::fault::Fault;
-use crate::laws;
-use crate::misc::{
+use binlog_base::below::{Counted, Failed, ParseBuf, Sink, Source, Value, read_exact, write_all};
+use binlog_base::fault::Fault;
+use binlog_base::laws;
+use binlog_base::misc::{
     DATETIMEF_INT_OFS, LimitWrite, LimitedWrite, TIMEF_INT_OFS, TIMEF_OFS, datetime_from_packed,
     my_datetime_packed_from_binary, my_packed_time_get_frac_part, my_packed_time_get_int_part,
     my_packed_time_make, my_packed_time_make_int, my_time_packed_from_binary,

@@ -1,15 +1,15 @@
 //! Tests of numbers, byte strings, columns, rows, faults and lists of bits.
 
-use crate::below::{
+use binlog_base::below::{
     BareBytes, BeI16, BeI24, BeI32, BeU16, BeU24, BeU32, BeU40, BeU48, BytesRepr, Column,
     ColumnFlags, ColumnType, Const, EofBytes, Failed, GeometryType, I8, IntRepr, LeI16, LeI24,
     LeI32, LeI48, LeI64, LeU16, LeU24, LeU32, LeU48, LeU64, LenEnc, MyDeserialize, MySerialize,
     ParseBuf, RawBytes, RawFlags, RawInt, Skip, Source, U8, U8Bytes, UnknownColumnType,
     UnknownGeometryType, Value, VarLen, new_row_raw,
 };
-use crate::bits::{BitOrder, BitView, bitmap_len};
-use crate::fault::{Fault, FaultKind, JsonbError};
-use crate::laws;
+use binlog_base::bits::{BitOrder, BitView, bitmap_len};
+use binlog_base::fault::{Fault, FaultKind, JsonbError};
+use binlog_base::laws;
 use std::alloc::Global;
 use std::borrow::CowSlice;
 use std::rc::RcSlice;

@@ -1,6 +1,6 @@
 //! Tests of dates and times, and of their text.
 
-use crate::time::{MysqlTime, MysqlTimestampType};
+use binlog_values::time::{MysqlTime, MysqlTimestampType};
 use std::test::Fail;
 
 const NOON: i64 = 110_137_624_448 << 24;

@@ -2,9 +2,9 @@
 
 ghost use Rattle.std.specs.Prelude.{◌≤◌};
 
-use crate::jsonb::{JsonDom, JsonNumber, JsonScalar, Value};
 use binlog_base::below::ParseBuf;
 use binlog_base::fault::{Fault, JsonbError};
+use binlog_values::jsonb::{JsonDom, JsonNumber, JsonScalar, Value};
 use std::alloc::{AllocError, Global};
 use std::fmt::Write;
 use std::test::Fail;

@@ -73,7 +73,7 @@ fn inserted_rows(rt: HostRuntime) -> Result<(), Fail> {
 #[test]
 fn images_by_type(rt: HostRuntime) -> Result<(), Fail> {
     // Table id, flags, no extra data, one column, and two bitmaps or one and rows data.
-    let bytes = [1, 0, 0, 0, 0, 0, 0, 0, 2, 0, 1, 1, 0];
+    let bytes = &[1, 0, 0, 0, 0, 0, 0, 0, 2, 0, 1, 1, 0];
     let rows = [
         (EventType::WRITE_ROWS_EVENT, None, Some(1)),
         (EventType::UPDATE_ROWS_EVENT, Some(1), Some(0)),
@@ -84,7 +84,7 @@ fn images_by_type(rt: HostRuntime) -> Result<(), Fail> {
         (EventType::QUERY_EVENT, None, Some(1)),
     ];
     for (event_type, before, after) in rows {
-        let event = read(&bytes, event_type, 10)?;
+        let event = read(bytes, event_type, 10)?;
         assert!(rt; image_counts(&event) == (before, after), "{event_type:?}");
     }
     Ok(())
@@ -93,8 +93,8 @@ fn images_by_type(rt: HostRuntime) -> Result<(), Fail> {
 #[test]
 fn first_version(rt: HostRuntime) -> Result<(), Fail> {
     // The event's own post-header has 6 bytes: the table id has 4, and there is no extra data.
-    let bytes = [1, 0, 0, 0, 1, 0, 2, 3, 3];
-    let event = read(&bytes, EventType::WRITE_ROWS_EVENT_V1, 6)?;
+    let bytes = &[1, 0, 0, 0, 1, 0, 2, 3, 3];
+    let event = read(bytes, EventType::WRITE_ROWS_EVENT_V1, 6)?;
     assert!(rt; has_parts(&event, 1, 2, &[3]));
     assert!(rt; image_counts(&event) == (None, Some(2)));
     assert_eq!(rt; event.len(BinlogVersion::Version4), 13);
@@ -123,9 +123,9 @@ fn is_written(
 #[test]
 fn an_event_of_the_first_version_is_written(rt: HostRuntime) -> Result<(), Fail> {
     // The table id is written in six bytes.
-    let bytes = [1, 0, 0, 0, 1, 0, 2, 3, 3];
-    let expected = [1, 0, 0, 0, 0, 0, 1, 0, 2, 3, 3];
-    assert!(rt; is_written(&rt, &bytes, EventType::WRITE_ROWS_EVENT_V1, 6, &expected)?);
+    let bytes = &[1, 0, 0, 0, 1, 0, 2, 3, 3];
+    let expected = &[1, 0, 0, 0, 0, 0, 1, 0, 2, 3, 3];
+    assert!(rt; is_written(&rt, bytes, EventType::WRITE_ROWS_EVENT_V1, 6, expected)?);
     Ok(())
 }
 
@@ -134,10 +134,10 @@ fn extra_data_is_written(rt: HostRuntime) -> Result<(), Fail> {
     let inserted = two_rows();
     assert!(rt; is_written(&rt, &inserted, EventType::WRITE_ROWS_EVENT, 10, &inserted)?);
     // A length of extra data below two is read as no extra data, and written as two.
-    let expected = [1, 0, 0, 0, 0, 0, 1, 0, 2, 0, 1, 1];
+    let expected = &[1, 0, 0, 0, 0, 0, 1, 0, 2, 0, 1, 1];
     for len in 0..2 {
         let bytes = [1, 0, 0, 0, 0, 0, 1, 0, len, 0, 1, 1];
-        assert!(rt; is_written(&rt, &bytes, EventType::WRITE_ROWS_EVENT, 10, &expected)?);
+        assert!(rt; is_written(&rt, &bytes, EventType::WRITE_ROWS_EVENT, 10, expected)?);
     }
     Ok(())
 }
@@ -439,37 +439,37 @@ fn is_faulty(rt: &HostRuntime, table: &[u8], rows: &[u8], fault: Fault) -> Resul
 fn faults_of_pairs(rt: HostRuntime) -> Result<(), Fail> {
     let table = two_columns();
     // No column is in the image, so a pair has no bytes.
-    let empty = [1, 0, 0, 0, 0, 0, 1, 0, 2, 0, 2, 0, 5];
-    assert!(rt; is_faulty(&rt, &table, &empty, Fault::EmptyPair)?);
+    let empty = &[1, 0, 0, 0, 0, 0, 1, 0, 2, 0, 2, 0, 5];
+    assert!(rt; is_faulty(&rt, &table, empty, Fault::EmptyPair)?);
     // The event has three columns.
     let three = [1, 0, 0, 0, 0, 0, 1, 0, 2, 0, 3, 7, 7];
     assert!(rt; is_faulty(&rt, &table, &three, Fault::NoColumnType)?);
     // VARCHAR without metadata.
-    let bare = [
+    let bare = &[
         1, 0, 0, 0, 0, 0, 1, 0, 1, 0x64, 0, 1, 0x74, 0, 1, 0x0f, 0, 1,
     ];
-    let text = [1, 0, 0, 0, 0, 0, 1, 0, 2, 0, 1, 1, 0, 2, 0x61, 0x62];
-    assert!(rt; is_faulty(&rt, &bare, &text, Fault::MissingMetadata)?);
+    let text = &[1, 0, 0, 0, 0, 0, 1, 0, 2, 0, 1, 1, 0, 2, 0x61, 0x62];
+    assert!(rt; is_faulty(&rt, bare, text, Fault::MissingMetadata)?);
     // LONG, LONG, LONG and an unknown type: the cell of the second is cut, or all three are whole.
-    let unknown = [
+    let unknown = &[
         1, 0, 0, 0, 0, 0, 1, 0, 1, 0x64, 0, 1, 0x74, 0, 4, 3, 3, 3, 244, 0, 0,
     ];
-    let cut = [1, 0, 0, 0, 0, 0, 1, 0, 2, 0, 4, 15, 0, 1, 0, 0, 0, 2];
-    assert!(rt; is_faulty(&rt, &unknown, &cut, Fault::UnexpectedEof)?);
-    let whole = [
+    let cut = &[1, 0, 0, 0, 0, 0, 1, 0, 2, 0, 4, 15, 0, 1, 0, 0, 0, 2];
+    assert!(rt; is_faulty(&rt, unknown, cut, Fault::UnexpectedEof)?);
+    let whole = &[
         1, 0, 0, 0, 0, 0, 1, 0, 2, 0, 4, 15, 0, 1, 0, 0, 0, 2, 0, 0, 0, 3, 0, 0, 0,
     ];
-    assert!(rt; is_faulty(&rt, &unknown, &whole, Fault::UnknownColumnType(244))?);
+    assert!(rt; is_faulty(&rt, unknown, whole, Fault::UnknownColumnType(244))?);
     Ok(())
 }
 
 #[test]
 fn first_version_pairs(rt: HostRuntime) -> Result<(), Fail> {
-    let bytes = [1, 0, 0, 0, 1, 0, 2, 3, 3];
+    let bytes = &[1, 0, 0, 0, 1, 0, 2, 3, 3];
     let decoded = decode(
         &rt,
         &two_columns(),
-        &bytes,
+        bytes,
         EventType::WRITE_ROWS_EVENT_V1,
         6,
     )?;
@@ -483,16 +483,16 @@ fn first_version_pairs(rt: HostRuntime) -> Result<(), Fail> {
 
 #[test]
 fn refused_runs(rt: HostRuntime) {
-    let count = [1, 0, 0, 0, 0, 0, 1, 0, 2, 0, 0xfb];
-    assert!(rt; refuses(&inserted(&rt, &two_columns(), &count), Fault::BadLenEnc));
-    let long = [
+    let count = &[1, 0, 0, 0, 0, 0, 1, 0, 2, 0, 0xfb];
+    assert!(rt; refuses(&inserted(&rt, &two_columns(), count), Fault::BadLenEnc));
+    let long = &[
         1, 0, 0, 0, 0, 0, 1, 0, 2, 0, 0xfe, 0xff, 0xff, 0xff, 0xff, 0xff, 0xff, 0xff, 0xff,
     ];
-    assert!(rt; refuses(&inserted(&rt, &two_columns(), &long), Fault::UnexpectedEof));
+    assert!(rt; refuses(&inserted(&rt, &two_columns(), long), Fault::UnexpectedEof));
     // Both events are refused: the fault is that of the table map event.
     assert!(rt;
         refuses(
-            &inserted(&rt, &two_columns()[..20], &count),
+            &inserted(&rt, &two_columns()[..20], count),
             Fault::UnexpectedEof
         )
     );

@@ -433,10 +433,10 @@ fn bits_in_both_orders(rt: HostRuntime) -> Result<(), Fail> {
     assert_eq!(rt; (all.len(), all.get(16)), (16, None));
     assert_eq!(rt; low.iter().take(3).filter(|bit| *bit).count(), 2);
     // The same nine bits, with others after them.
-    let filled = [0b1000_0011, 0b1111_1111];
-    assert!(rt; low == BitView::new(&filled, 9, BitOrder::LeastSignificantFirst));
-    let mirrored = [0b1100_0001, 0b1111_1111];
-    assert!(rt; low == BitView::new(&mirrored, 9, BitOrder::MostSignificantFirst));
+    let filled = &[0b1000_0011, 0b1111_1111];
+    assert!(rt; low == BitView::new(filled, 9, BitOrder::LeastSignificantFirst));
+    let mirrored = &[0b1100_0001, 0b1111_1111];
+    assert!(rt; low == BitView::new(mirrored, 9, BitOrder::MostSignificantFirst));
     assert!(rt; low != high);
     assert!(rt; low != all);
     let three = BitView::new(&bytes, 3, BitOrder::LeastSignificantFirst);

@@ -140,17 +140,17 @@ fn describes(
 #[test]
 fn columns_with_metadata(rt: HostRuntime) -> Result<(), Fail> {
     // A sign bit, two names, a key column, and a default character set.
-    let full = [1, 1, 0x80, 4, 4, 1, 0x61, 1, 0x62, 8, 1, 0, 2, 1, 0x21];
-    assert!(rt; describes(&rt, &full, (b"a", 34, 0), (b"b", 0, 33), 4294967295)?);
+    let full = &[1, 1, 0x80, 4, 4, 1, 0x61, 1, 0x62, 8, 1, 0, 2, 1, 0x21];
+    assert!(rt; describes(&rt, full, (b"a", 34, 0), (b"b", 0, 33), 4294967295)?);
     // One name for two columns.
-    let name = [4, 2, 1, 0x61];
-    assert!(rt; describes(&rt, &name, (b"a", 0, 0), (b"@1", 0, 0), -1)?);
+    let name = &[4, 2, 1, 0x61];
+    assert!(rt; describes(&rt, name, (b"a", 0, 0), (b"@1", 0, 0), -1)?);
     // Column 0 is a key column twice, and then comes a fault that belongs to no column.
     let key = [8, 3, 0, 0, 0xfb];
     assert!(rt; describes(&rt, &key, (b"@0", 2, 0), (b"@1", 0, 0), -1)?);
     // A key column with a prefix.
-    let prefixed = [9, 2, 1, 3];
-    assert!(rt; describes(&rt, &prefixed, (b"@0", 0, 0), (b"@1", 2, 0), -1)?);
+    let prefixed = &[9, 2, 1, 3];
+    assert!(rt; describes(&rt, prefixed, (b"@0", 0, 0), (b"@1", 2, 0), -1)?);
     Ok(())
 }
 
@@ -171,25 +171,25 @@ fn faults_in_their_order(rt: HostRuntime) -> Result<(), Fail> {
     // The key's fault belongs to column 1. The cell of column 0 comes before it.
     let key = [8, 2, 0, 0xfb];
     assert!(rt; is_refused(&rt, &key, &[2, 3, 0, 0x2a], Fault::UnexpectedEof)?);
-    let whole = [2, 3, 0, 0x2a, 0, 0, 0, 2, 0x61, 0x62];
-    assert!(rt; is_refused(&rt, &key, &whole, Fault::BadLenEnc)?);
+    let whole = &[2, 3, 0, 0x2a, 0, 0, 0, 2, 0x61, 0x62];
+    assert!(rt; is_refused(&rt, &key, whole, Fault::BadLenEnc)?);
     // Column 0 takes its key, although it isn't in the image.
-    let second = [2, 2, 0, 2, 0x61, 0x62];
-    assert!(rt; is_refused(&rt, &key, &second, Fault::BadLenEnc)?);
+    let second = &[2, 2, 0, 2, 0x61, 0x62];
+    assert!(rt; is_refused(&rt, &key, second, Fault::BadLenEnc)?);
     // An unknown field comes before the cells, and after the null bits.
-    let unknown = [14, 0];
+    let unknown = &[14, 0];
     assert!(rt;
         is_refused(
             &rt,
-            &unknown,
+            unknown,
             &[2, 3, 0, 0x2a],
             Fault::UnknownOptionalField(14)
         )?
     );
-    assert!(rt; is_refused(&rt, &unknown, &[9, 0xff, 1, 0], Fault::UnexpectedEof)?);
+    assert!(rt; is_refused(&rt, unknown, &[9, 0xff, 1, 0], Fault::UnexpectedEof)?);
     // No column is in the image, and none at all is in the event.
-    assert!(rt; is_refused(&rt, &unknown, &[2, 0, 5], Fault::UnknownOptionalField(14))?);
-    assert!(rt; is_refused(&rt, &unknown, &[0, 5], Fault::UnknownOptionalField(14))?);
+    assert!(rt; is_refused(&rt, unknown, &[2, 0, 5], Fault::UnknownOptionalField(14))?);
+    assert!(rt; is_refused(&rt, unknown, &[0, 5], Fault::UnknownOptionalField(14))?);
     Ok(())
 }
 

@@ -180,17 +180,17 @@ fn keys_out_of_range(rt: HostRuntime) -> Result<(), Fail> {
 #[test]
 fn an_empty_key(rt: HostRuntime) -> Result<(), Fail> {
     // The key is at the end of the object.
-    let bytes = [0, 1, 0, 11, 0, 11, 0, 0, 0, 5, 1, 0];
-    assert!(rt; begins_with(&json(&bytes)?, &[], 1));
+    let bytes = &[0, 1, 0, 11, 0, 11, 0, 0, 0, 5, 1, 0];
+    assert!(rt; begins_with(&json(bytes)?, &[], 1));
     Ok(())
 }
 
 #[test]
 fn an_entry_after_a_faulty_one(rt: HostRuntime) -> Result<(), Fail> {
-    let bytes = [
+    let bytes = &[
         0, 2, 0, 20, 0, 17, 0, 1, 0, 19, 0, 1, 0, 5, 1, 0, 5, 2, 0, 0x61, 0x62,
     ];
-    assert!(rt; has_two(&json(&bytes)?));
+    assert!(rt; has_two(&json(bytes)?));
     Ok(())
 }
 

@@ -273,8 +273,8 @@ fn signs_and_names(rt: HostRuntime) -> Result<(), Fail> {
 #[test]
 fn fields_are_counted(rt: HostRuntime) -> Result<(), Fail> {
     // The second of three fields is faulty.
-    let bytes = [4, 0, 14, 0, 4, 0];
-    let mut fields = OptionalMetadataIter::new(0, 0, &bytes);
+    let bytes = &[4, 0, 14, 0, 4, 0];
+    let mut fields = OptionalMetadataIter::new(0, 0, bytes);
     let refused = OptionalMetaExtractor::take_from(&mut fields).is_err();
     assert!(rt; refused && fields.taken() == 2);
     assert!(rt; OptionalMetaExtractor::take_from(&mut fields).is_ok());

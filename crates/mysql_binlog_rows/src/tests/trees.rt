@@ -53,8 +53,8 @@ fn trees_of_arrays(rt: HostRuntime) -> Result<(), Fail> {
     assert!(rt; is_tree(alloc, &[2, 2, 0, 10, 0, 5, 1, 0, 5, 2, 0], numbers, 2)?);
     // The string begins inside the array's entries.
     let overlap = "Container(Array([Scalar(String(\"\\u{1}\\0xy\")), Scalar(Boolean(true))]))";
-    let bytes = [2, 2, 0, 12, 0, 12, 7, 0, 4, 1, 0, 0x78, 0x79];
-    assert!(rt; is_tree(alloc, &bytes, overlap, 2)?);
+    let bytes = &[2, 2, 0, 12, 0, 12, 7, 0, 4, 1, 0, 0x78, 0x79];
+    assert!(rt; is_tree(alloc, bytes, overlap, 2)?);
     let shared = "Container(Array([\
         Container(Array([Container(Array([])), Container(Array([]))])), \
         Container(Array([Container(Array([])), Container(Array([]))]))]))";
@@ -65,20 +65,20 @@ fn trees_of_arrays(rt: HostRuntime) -> Result<(), Fail> {
 #[test]
 fn trees_of_objects(rt: HostRuntime) -> Result<(), Fail> {
     let alloc = rt.alloc();
-    let null = [0, 1, 0, 12, 0, 11, 0, 1, 0, 4, 0, 0, 0x61];
-    assert!(rt; is_tree(alloc, &null, "Container(Object({\"a\": Scalar(Null)}))", 1)?);
+    let null = &[0, 1, 0, 12, 0, 11, 0, 1, 0, 4, 0, 0, 0x61];
+    assert!(rt; is_tree(alloc, null, "Container(Object({\"a\": Scalar(Null)}))", 1)?);
     // Of two equal keys the last one is kept, and both are counted.
-    let equal = [
+    let equal = &[
         0, 2, 0, 20, 0, 18, 0, 1, 0, 18, 0, 1, 0, 5, 1, 0, 5, 2, 0, 0x61, 0x61,
     ];
     let last = "Container(Object({\"a\": Scalar(Number(Int(2)))}))";
-    assert!(rt; is_tree(alloc, &equal, last, 2)?);
+    assert!(rt; is_tree(alloc, equal, last, 2)?);
     // A key that isn't UTF-8, and a string that isn't.
-    let lossy = [0, 1, 0, 12, 0, 11, 0, 1, 0, 4, 0, 0, 0xff];
+    let lossy = &[0, 1, 0, 12, 0, 11, 0, 1, 0, 4, 0, 0, 0xff];
     assert!(rt;
         is_tree(
             alloc,
-            &lossy,
+            lossy,
             "Container(Object({\"\u{fffd}\": Scalar(Null)}))",
             1
         )?
@@ -167,8 +167,8 @@ fn opaque_values_in_trees(rt: HostRuntime) -> Result<(), Fail> {
     let shown = shown_opaque(alloc, &[15, 252, 1, 0x61])?;
     assert!(rt; shown.as_str() == "base64:type252:YQ==");
     assert!(rt; is_fault(alloc, &[15, 246, 2, 2, 4], Fault::DecimalScale, 0)?);
-    let short = [15, 12, 7, 0, 0, 0, 0x80, 0xc7, 0xb6, 0xa4];
-    assert!(rt; is_fault(alloc, &short, Fault::OpaqueTooShort, 0)?);
+    let short = &[15, 12, 7, 0, 0, 0, 0x80, 0xc7, 0xb6, 0xa4];
+    assert!(rt; is_fault(alloc, short, Fault::OpaqueTooShort, 0)?);
     Ok(())
 }
 
@@ -234,11 +234,11 @@ fn shared_arrays(rt: HostRuntime) -> Result<(), Fail> {
 #[test]
 fn faults_of_documents(rt: HostRuntime) -> Result<(), Fail> {
     let alloc = rt.alloc();
-    let unknown = [2, 2, 0, 10, 0, 5, 1, 0, 13, 0, 0];
-    assert!(rt; is_fault(alloc, &unknown, Fault::UnknownJsonbType(13), 2)?);
+    let unknown = &[2, 2, 0, 10, 0, 5, 1, 0, 13, 0, 0];
+    assert!(rt; is_fault(alloc, unknown, Fault::UnknownJsonbType(13), 2)?);
     let size = Fault::Jsonb(JsonbError::SizeOverflow);
-    let huge = [3, 0xff, 0xff, 0xff, 0xff, 13, 0, 0, 0, 7, 42, 0, 0, 0];
-    assert!(rt; matches!(json(&huge), Err(found) if found == size));
+    let huge = &[3, 0xff, 0xff, 0xff, 0xff, 13, 0, 0, 0, 7, 42, 0, 0, 0];
+    assert!(rt; matches!(json(huge), Err(found) if found == size));
     Ok(())
 }
 

@@ -100,14 +100,14 @@ fn bits_of_floats(rt: HostRuntime) {
     let one = [0, 0, 0x80, 0x3f];
     assert!(rt; is_value(&rt, float, &[4], false, &one, Value::Float(0x3f80_0000)));
     let double = ColumnType::MYSQL_TYPE_DOUBLE;
-    let one = [0, 0, 0, 0, 0, 0, 0xf0, 0x3f];
+    let one = &[0, 0, 0, 0, 0, 0, 0xf0, 0x3f];
     assert!(rt;
         is_value(
             &rt,
             double,
             &[8],
             false,
-            &one,
+            one,
             Value::Double(0x3ff0_0000_0000_0000)
         )
     );
@@ -152,14 +152,14 @@ fn old_times(rt: HostRuntime) {
             Value::Time(false, 1, 6, 0, 0, 0)
         )
     );
-    let most = [0xff, 0xff, 0xff];
+    let most = &[0xff, 0xff, 0xff];
     assert!(rt;
         is_value(
             &rt,
             time,
             &[],
             false,
-            &most,
+            most,
             Value::Time(false, 69, 21, 72, 15, 0)
         )
     );
@@ -176,8 +176,8 @@ fn old_times(rt: HostRuntime) {
         )
     );
     let timestamp = ColumnType::MYSQL_TYPE_TIMESTAMP;
-    let bytes = [0xff, 0xff, 0xff, 0xff];
-    assert!(rt; is_value(&rt, timestamp, &[], false, &bytes, Value::Int(4294967295)));
+    let bytes = &[0xff, 0xff, 0xff, 0xff];
+    assert!(rt; is_value(&rt, timestamp, &[], false, bytes, Value::Int(4294967295)));
     assert!(rt; is_bytes(&rt, ColumnType::MYSQL_TYPE_YEAR, &[], &[0x77], b"2019"));
     assert!(rt; is_bytes(&rt, ColumnType::MYSQL_TYPE_YEAR, &[], &[0], b"1900"));
 }
@@ -200,11 +200,11 @@ fn times_with_fractions(rt: HostRuntime) {
     let value = Value::Time(true, 0, 0, 0, 0, 100_000);
     assert!(rt; is_value(&rt, time, &[2], false, &bytes, value));
     let datetime = ColumnType::MYSQL_TYPE_DATETIME2;
-    let bytes = [0x99, 0xa4, 0xb6, 0xc7, 0x80];
+    let bytes = &[0x99, 0xa4, 0xb6, 0xc7, 0x80];
     let value = Value::Date(2019, 11, 27, 12, 30, 0, 0);
-    assert!(rt; is_value(&rt, datetime, &[0], false, &bytes, value));
-    let low = [0, 0, 0, 0, 0, 0xff];
-    assert!(rt; is_refused(&rt, datetime, &[2], &low, Fault::TimeRange));
+    assert!(rt; is_value(&rt, datetime, &[0], false, bytes, value));
+    let low = &[0, 0, 0, 0, 0, 0xff];
+    assert!(rt; is_refused(&rt, datetime, &[2], low, Fault::TimeRange));
     let timestamp = ColumnType::MYSQL_TYPE_TIMESTAMP2;
     let ff = [0xff; 5];
     assert!(rt; is_bytes(&rt, timestamp, &[2], &ff, b"-1.-10000"));
@@ -259,18 +259,18 @@ fn bytes_by_their_metadata(rt: HostRuntime) {
 #[test]
 fn texts_by_their_metadata(rt: HostRuntime) {
     let short = [2, 0x61, 0x62];
-    let long = [2, 0, 0x61, 0x62];
+    let long = &[2, 0, 0x61, 0x62];
     for text in [
         ColumnType::MYSQL_TYPE_VARCHAR,
         ColumnType::MYSQL_TYPE_VAR_STRING,
     ] {
         assert!(rt; is_bytes(&rt, text, &[255, 0], &short, b"ab"), "{text:?}");
-        assert!(rt; is_bytes(&rt, text, &[0, 1], &long, b"ab"), "{text:?}");
+        assert!(rt; is_bytes(&rt, text, &[0, 1], long, b"ab"), "{text:?}");
     }
     let text = ColumnType::MYSQL_TYPE_STRING;
     assert!(rt; is_bytes(&rt, text, &[0xfe, 10], &short, b"ab"));
-    assert!(rt; is_bytes(&rt, text, &[0xee, 4], &long, b"ab"));
-    assert!(rt; is_bytes(&rt, text, &[0, 1], &long, b"ab"));
+    assert!(rt; is_bytes(&rt, text, &[0xee, 4], long, b"ab"));
+    assert!(rt; is_bytes(&rt, text, &[0, 1], long, b"ab"));
     assert!(rt; is_bytes(&rt, text, &[0, 0], &short, b"ab"));
     assert!(rt; is_refused(&rt, text, &[0xfe, 10], &short[..2], Fault::UnexpectedEof));
 }
@@ -278,11 +278,11 @@ fn texts_by_their_metadata(rt: HostRuntime) {
 #[test]
 fn arrays(rt: HostRuntime) {
     let array = ColumnType::MYSQL_TYPE_TYPED_ARRAY;
-    let bytes = [0x2a, 0, 0, 0];
-    assert!(rt; is_value(&rt, array, &[3], false, &bytes, Value::Int(42)));
+    let bytes = &[0x2a, 0, 0, 0];
+    assert!(rt; is_value(&rt, array, &[3], false, bytes, Value::Int(42)));
     assert!(rt; is_bytes(&rt, array, &[0x0f, 0x0a, 0, 0], &[2, 0, 0x61, 0x62], b"ab"));
-    assert!(rt; is_refused(&rt, array, &[0x14], &bytes, Fault::Unhandled));
-    assert!(rt; is_refused(&rt, array, &[244], &bytes, Fault::Unhandled));
+    assert!(rt; is_refused(&rt, array, &[0x14], bytes, Fault::Unhandled));
+    assert!(rt; is_refused(&rt, array, &[244], bytes, Fault::Unhandled));
 }
 
 #[test]

@@ -79,14 +79,22 @@ impl<'a> Value<'a> {
     /// Reads the value with all that is inside it, as a tree that owns its values. Of equal keys of
     /// an object the last one is kept.
     ///
-    /// At most 100 containers may be nested, and a container may hold at most one value for three
-    /// bytes of its own, however many places share them. The fault is the first in document order: a
-    /// position comes before those inside it, and the entries of a container come by their places.
-    /// At a position the fault of the key comes first, then that of the value, `TooManyValues`, and
-    /// `NestingTooDeep` or the fault of the scalar: `InvalidUtf8` for a string that isn't UTF-8,
-    /// `OpaqueTooShort` for a date or time of fewer than eight bytes, and those of
-    /// `Decimal::read_packed`. Nothing after that position is read. `Memory` where memory is
-    /// refused; literals and numbers take none.
+    /// At most 100 containers may be nested, and there may be at most one value inside the root
+    /// container for three of its bytes, where a value that several entries share counts for each of
+    /// them.
+    ///
+    /// The fault is that of the first position in document order that has one: a position comes
+    /// before those inside it, and the entries of a container come by their places. At a position
+    /// the faults come in this order:
+    ///
+    /// - that of the key, and that of the value, as `key_at` and `elem_at` give them;
+    /// - `TooManyValues` if there are more values than the limit;
+    /// - `NestingTooDeep` if it is a container with 100 others around it; for a scalar `InvalidUtf8`
+    ///   if it is a string that isn't UTF-8, `OpaqueTooShort` if it is a date or time of fewer than
+    ///   eight bytes, and the faults of `Decimal::read_packed`.
+    ///
+    /// Nothing after that position is read. `Memory` where memory is refused; literals and numbers
+    /// take none.
     #[inline(never)]
     pub fn parse(self, alloc: Global) -> Result<JsonDom, Fault>
         ensures { (read : ℕ) × Parsed (view_of self.entry) result read }

@@ -61,6 +61,14 @@ within {A} b f = record {
   parse = λ x. f.parse b >>= λ r. Ok (r.0, x);
 }
 
+-- a value that takes all of the bytes that were read before
+abbrev pub all_of : {A : Type 0} → List ℕ → Format A → Format A
+all_of {A} b f = record {
+  spells = λ x a. (x ≡ []) × f.spells b a;
+  refuses = λ x e. f.refuses b e;
+  parse = λ x. f.parse b >>= λ r. Ok (r.0, x);
+}
+
 -- One format after the other; the second may depend on the first's value. The fault is that of the
 -- first of the two that is refused.
 abbrev pub sequence : {A B : Type 0} → Format A → (A → Format B) → Format B
@@ -69,6 +77,10 @@ sequence {A} {B} f g = record {
   refuses = λ x e. f.refuses x e ⊎ ((a : A) × (y z : List ℕ) × (x ≡ y ++ z) × f.spells y a × (g a).refuses z e);
   parse = λ x. f.parse x >>= λ r. (g r.0).parse r.1;
 }
+
+-- n bytes, and in them a value that takes all of them
+abbrev pub inside : {A : Type 0} → ℕ → Format A → Format A
+inside n f = sequence (take_bytes n) (λ b. all_of b f)
 
 -- a format whose value is computed from that of another format, by the same bytes
 abbrev pub map_value : {A B : Type 0} → Format A → (A → B) → Format B

@@ -1,7 +1,7 @@
 -- Lists of a format: to the end of the bytes, and of a known count.
-use Rattle.std.specs.Prelude.{◌≡◌, ℕ, zero, suc, ◌+◌, ◌<◌, List, [], ◌∷◌, ◌++◌, length, Result, Ok, Err, Option, Some, None}
+use Rattle.std.specs.Prelude.{◌≡◌, ℕ, zero, suc, ◌+◌, ◌<◌, List, [], ◌∷◌, ◌++◌, length, map, Result, Ok, Err, Option, Some, None}
 use Rattle.binlog_base.specs.declared.fault.Fault.{Fault}
-use Rattle.binlog_base.specs.Format.{Format, sequence, map_value, no_bytes}
+use Rattle.binlog_base.specs.Format.{Format, ◌>>=◌, sequence, map_value, no_bytes}
 
 -- These are the items that the bytes hold: what the format spells, again and again, to the end;
 -- where it is refused, its fault is the last item.
@@ -24,6 +24,20 @@ first_items f (suc n) (b ∷ x) = item_then (first_items f n) (f.parse (b ∷ x)
 -- all of them: there are no more than bytes
 unfoldable pub items : {A : Type 0} → Format A → List ℕ → List (Result A Fault)
 items f x = first_items f (length x) x
+
+-- the values of a list of items, or its first fault
+abbrev pub values_of : {A : Type 0} → List (Result A Fault) → Result (List A) Fault
+values_of [] = Ok []
+values_of (Ok a ∷ more) = values_of more >>= λ vs. Ok (a ∷ vs)
+values_of (Err e ∷ more) = Err e
+
+-- the format again and again, to the end of the bytes
+abbrev pub repeated : {A : Type 0} → Format A → Format (List A)
+repeated {A} f = record {
+  spells = λ x vs. AreItems f x (map Ok vs);
+  refuses = λ x e. (vs : List A) × AreItems f x (map Ok vs ++ Err e ∷ []);
+  parse = λ x. values_of (items f x) >>= λ vs. Ok (vs, []);
+}
 
 -- a format that takes at least a byte
 abbrev pub Eats : {A : Type 0} → Format A → Type 0

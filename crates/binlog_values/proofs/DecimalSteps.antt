@@ -10,7 +10,7 @@ use Rattle.byteorder.specs.Endian.{big_bytes}
 use Rattle.std.proofs.Math.Dec.{eqb-suc-zero}
 use Rattle.std.proofs.Math.Nat.{pow-le-pow_right}
 use Rattle.std.proofs.lemmas.Int.Digits.{number_more, number_lt}
-use Rattle.std.proofs.lemmas.List.{length-take-le, length-drop, take_all, take-append-drop, drop_all, drop_more, take_more, set_at, get_or_at, map-append, length-map}
+use Rattle.std.proofs.lemmas.List.{drop-set, length-set, length-take-le, length-drop, take_all, take-append-drop, drop_all, drop_more, take_more, set_at, get_or_at, map-append, length-map}
 use Rattle.binlog_base.specs.declared.fault.Fault.{Fault}
 use Rattle.binlog_values.specs.Decimals.{group_width, group_bytes, integer_groups, without_zero_groups}
 use Rattle.binlog_values.specs.DecimalGroups.{low_digits, IsCut, bytes_in, digits_in}
@@ -30,20 +30,51 @@ pub below-bytes : (xs : List ℕ) → ((k : ℕ) → slice_index xs k < 256) →
 below-bytes [] h = tt
 below-bytes (x ∷ xs) h = (h 0, below-bytes xs (λ k. h (suc k)))
 
-next_below : (base i : ℕ) (ds : List ℕ) → 1 ≤ base → i < length ds → AllBelowBase base ds → base ^ length ds ≤ 2 ^ 32 → number_from_digits base (take i ds) * base + get_or ds i 0 < 2 ^ 32
-next_below base i ds some within below fits =
-    let more = number_more base ds i within in
-    let low = number_lt base (take (i + 1) ds) (below-take base (i + 1) ds below) in
-    let long : length (take (i + 1) ds) ≤ length ds = omega (arith, length-take-le (i + 1) ds (omega arith)) in
-    let power : base ^ length (take (i + 1) ds) ≤ base ^ length ds = pow-le-pow_right (omega arith) long in
-    omega (arith, more, low, power, fits)
+next_below : (i : ℕ) (ds : List ℕ) → i < length ds → AllBelowBase 10 ds → length ds ≤ 9 → number_from_digits 10 (take i ds) * 10 + get_or ds i 0 < 2 ^ 32
+next_below i ds within below few =
+    let more = number_more 10 ds i within in
+    let low = number_lt 10 (take (i + 1) ds) (below-take 10 (i + 1) ds below) in
+    let long : length (take (i + 1) ds) ≤ 9 = omega (arith, few, length-take-le (i + 1) ds (omega arith)) in
+    let power : 10 ^ length (take (i + 1) ds) ≤ 10 ^ 9 = pow-le-pow_right (omega arith) long in
+    omega (arith, more, low, power)
 
--- with one more digit, the number is still below the bound
-pub number-step : (base i n : ℕ) (ds : List ℕ) → n ≡ number_from_digits base (take i ds) → 1 ≤ base → i < length ds → AllBelowBase base ds → base ^ length ds ≤ 2 ^ 32 → n * base + get_or ds i 0 < 2 ^ 32
-number-step base i n ds is some within below fits = subst (λ (m : ℕ). m * base + get_or ds i 0 < 2 ^ 32) (sym is) (next_below base i ds some within below fits)
+-- with one more digit, the number still has 32 bits
+pub number-step : (i n : ℕ) (ds : List ℕ) → n ≡ number_from_digits 10 (take i ds) → i < length ds → AllBelowBase 10 ds → length ds ≤ 9 → n * 10 + get_or ds i 0 < 2 ^ 32
+number-step i n ds is within below few = subst (λ (m : ℕ). m * 10 + get_or ds i 0 < 2 ^ 32) (sym is) (next_below i ds within below few)
 
-pub bytes-fit : (k : ℕ) → k ≤ 4 → 256 ^ k ≤ 2 ^ 32
-bytes-fit k most = let h : 256 ^ k ≤ 256 ^ 4 = pow-le-pow_right (omega arith) most in omega (arith, h)
+-- two digits that are written at once
+pair-low : (left : ℕ) → left % 10 ≡ left % 100 % 10
+pair-low left = omega arith
+
+pair-high : (left : ℕ) → left / 10 % 10 ≡ left % 100 / 10
+pair-high left = omega arith
+
+pair-rest : (left : ℕ) → left / 10 / 10 ≡ left / 100
+pair-rest left = omega arith
+
+low_digits-pair : (k left : ℕ) → low_digits 10 (suc (suc k)) left ≡ low_digits 10 k (left / 100) ++ (left % 100 / 10) ∷ (left % 100 % 10) ∷ []
+low_digits-pair k left =
+    let front = low_digits 10 k (left / 100) in
+    let high = left % 100 / 10 in
+    ap (λ (n : ℕ). low_digits 10 k n ++ (left / 10 % 10) ∷ [] ++ (left % 10) ∷ []) (pair-rest left)
+    ∙ ap (λ (n : ℕ). front ++ n ∷ [] ++ (left % 10) ∷ []) (pair-high left)
+    ∙ ap (λ (n : ℕ). front ++ high ∷ [] ++ n ∷ []) (pair-low left)
+    ∙ append_assoc front (high ∷ []) ((left % 100 % 10) ∷ [])
+
+pub pair-written : (k left : ℕ) (ds : List ℕ) → k + 2 ≤ length ds → low_digits 10 (k + 2) left ++ drop (k + 2) ds ≡ low_digits 10 k (left / 100) ++ drop k (set (set ds (k + 1) (left % 100 % 10)) k (left % 100 / 10))
+pair-written k left ds room =
+    let high = left % 100 / 10 in
+    let low = left % 100 % 10 in
+    let front = low_digits 10 k (left / 100) in
+    let one = set ds (k + 1) low in
+    let count : k + 2 ≡ suc (suc k) = omega arith in
+    let next : k + 1 + 1 ≡ k + 2 = omega arith in
+    let two : drop k (set one k high) ≡ high ∷ drop (k + 1) one = drop-set one k high (omega (arith, room, length-set ds (k + 1) low)) in
+    let last : drop (k + 1) one ≡ low ∷ drop (k + 2) ds = drop-set ds (k + 1) low (omega (arith, room)) ∙ ap (λ (n : ℕ). low ∷ drop n ds) next in
+    ap (λ (n : ℕ). low_digits 10 n left ++ drop (k + 2) ds) count
+    ∙ ap (λ (l : List ℕ). l ++ drop (k + 2) ds) (low_digits-pair k left)
+    ∙ append_assoc front (high ∷ low ∷ []) (drop (k + 2) ds)
+    ∙ sym (ap (λ (l : List ℕ). front ++ l) (two ∙ ap (λ (l : List ℕ). high ∷ l) last))
 
 -- ---- bytes that are mapped in place
 

@@ -3,3 +3,5 @@ pub mod DecimalGroups
 pub mod DecimalMasks
 pub mod PackedDecimals
 pub mod JsonbValues
+pub mod JsonDiffs
+pub mod JsonEquality

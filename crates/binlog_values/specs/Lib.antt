@@ -24,4 +24,6 @@ pub mod JsonbParsed
 pub mod JsonbVisits
 pub mod JsonbContainers
 pub mod JsonbStack
+pub mod JsonDiffs
+pub mod JsonEquality
 pub mod Lemmas

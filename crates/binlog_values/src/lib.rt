@@ -5,5 +5,6 @@
 pub mod decimal;
 mod digits;
 pub mod jsonb;
+pub mod jsondiff;
 pub mod laws;
 pub mod time;

@@ -7,3 +7,4 @@ pub mod Pairs
 pub mod Runs
 pub mod Equality
 pub mod Places
+pub mod NotPlain

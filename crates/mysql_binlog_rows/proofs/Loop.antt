@@ -16,22 +16,22 @@ pub with_front-twice : (a b : List (Option Cell)) (r : Read) → with_front a (w
 with_front-twice a b (Ok x) = ap (λ (t : List (Option Cell)). Ok (t, x.1)) (sym (append_assoc a b x.0))
 with_front-twice a b (Err e) = refl
 
-absent_next : (s : Slot) (ss : List Slot) (end : Option Fault) (nulls : List Bool) (x : List ℕ) → s.present ≡ false
-    → (slot_cells (s ∷ ss) end nulls).parse x ≡ (slot_cells ss end nulls).parse x
+absent_next : (bs : List Bool) (s : Slot) (ss : List Slot) (end : Option Fault) (nulls : List Bool) (x : List ℕ) → s.present ≡ false
+    → (slot_cells bs (s ∷ ss) end nulls).parse x ≡ (slot_cells bs ss end nulls).parse x
 unfolding slot_cells
-absent_next s ss end nulls x h = rw h refl
+absent_next bs s ss end nulls x h = rw h refl
 
-value_next : (s : Slot) (ss : List Slot) (end : Option Fault) (nulls : List Bool) (x y : List ℕ) (v : Cell) → s.present ≡ true
-    → (slot_cell (get_or nulls 0 false) s).parse x ≡ Ok (v, y)
-    → (slot_cells (s ∷ ss) end nulls).parse x ≡ with_front (Some v ∷ []) ((slot_cells ss end (drop 1 nulls)).parse y)
+value_next : (bs : List Bool) (s : Slot) (ss : List Slot) (end : Option Fault) (nulls : List Bool) (x y : List ℕ) (v : Cell) → s.present ≡ true
+    → (slot_cell (get_or nulls 0 false) bs s).parse x ≡ Ok (v, y)
+    → (slot_cells bs (s ∷ ss) end nulls).parse x ≡ with_front (Some v ∷ []) ((slot_cells bs ss end (drop 1 nulls)).parse y)
 unfolding slot_cells slot_cell
-value_next s ss end nulls x y v h e = rw (h, e) refl
+value_next bs s ss end nulls x y v h e = rw (h, e) refl
 
-fault_next : (s : Slot) (ss : List Slot) (end : Option Fault) (nulls : List Bool) (x : List ℕ) (e : Fault) → s.present ≡ true
-    → (slot_cell (get_or nulls 0 false) s).parse x ≡ Err e
-    → (slot_cells (s ∷ ss) end nulls).parse x ≡ Err e
+fault_next : (bs : List Bool) (s : Slot) (ss : List Slot) (end : Option Fault) (nulls : List Bool) (x : List ℕ) (e : Fault) → s.present ≡ true
+    → (slot_cell (get_or nulls 0 false) bs s).parse x ≡ Err e
+    → (slot_cells bs (s ∷ ss) end nulls).parse x ≡ Err e
 unfolding slot_cells slot_cell
-fault_next s ss end nulls x e h f = rw (h, f) refl
+fault_next bs s ss end nulls x e h f = rw (h, f) refl
 
 -- the column at i is the first of those that are left
 slot_here : (ss : List Slot) (i : ℕ) (s : Slot) → i < length ss → s ≡ get_or ss i s → drop i ss ≡ s ∷ drop (i + 1) ss
@@ -43,44 +43,44 @@ null_here nulls k = get_or-drop k nulls 0 false ∙ ap (λ (j : ℕ). get_or nul
 null_more : (nulls : List Bool) (k : ℕ) → drop 1 (drop k nulls) ≡ drop (k + 1) nulls
 null_more nulls k = drop-drop 1 k nulls
 
-pub goes_absent : (front : List (Option Cell)) (ss : List Slot) (end : Option Fault) (nulls : List Bool) (i k : ℕ) (x : List ℕ) (s : Slot) (total : Read)
+pub goes_absent : (bs : List Bool) (front : List (Option Cell)) (ss : List Slot) (end : Option Fault) (nulls : List Bool) (i k : ℕ) (x : List ℕ) (s : Slot) (total : Read)
     → i < length ss → s ≡ get_or ss i s → s.present ≡ false
-    → with_front front ((slot_cells (drop i ss) end (drop k nulls)).parse x) ≡ total
-    → with_front front ((slot_cells (drop (i + 1) ss) end (drop k nulls)).parse x) ≡ total
-goes_absent front ss end nulls i k x s total lt is p so_far =
-    ap (with_front front) (sym (ap (λ (ts : List Slot). (slot_cells ts end (drop k nulls)).parse x) (slot_here ss i s lt is) ∙ absent_next s (drop (i + 1) ss) end (drop k nulls) x p)) ∙ so_far
+    → with_front front ((slot_cells bs (drop i ss) end (drop k nulls)).parse x) ≡ total
+    → with_front front ((slot_cells bs (drop (i + 1) ss) end (drop k nulls)).parse x) ≡ total
+goes_absent bs front ss end nulls i k x s total lt is p so_far =
+    ap (with_front front) (sym (ap (λ (ts : List Slot). (slot_cells bs ts end (drop k nulls)).parse x) (slot_here ss i s lt is) ∙ absent_next bs s (drop (i + 1) ss) end (drop k nulls) x p)) ∙ so_far
 
-pub goes_on : (front : List (Option Cell)) (ss : List Slot) (end : Option Fault) (nulls : List Bool) (i k : ℕ) (x y : List ℕ) (s : Slot) (v : Cell) (total : Read)
-    → i < length ss → s ≡ get_or ss i s → s.present ≡ true → (slot_cell (get_or nulls k false) s).parse x ≡ Ok (v, y)
-    → with_front front ((slot_cells (drop i ss) end (drop k nulls)).parse x) ≡ total
-    → with_front (front ++ Some v ∷ []) ((slot_cells (drop (i + 1) ss) end (drop (k + 1) nulls)).parse y) ≡ total
-goes_on front ss end nulls i k x y s v total lt is p e so_far =
-    let here = ap (λ (ts : List Slot). (slot_cells ts end (drop k nulls)).parse x) (slot_here ss i s lt is) in
-    let one = value_next s (drop (i + 1) ss) end (drop k nulls) x y v p (ap (λ (b : Bool). (slot_cell b s).parse x) (null_here nulls k) ∙ e) in
-    let later = ap (λ (ns : List Bool). with_front (Some v ∷ []) ((slot_cells (drop (i + 1) ss) end ns).parse y)) (null_more nulls k) in
-    sym (with_front-twice front (Some v ∷ []) ((slot_cells (drop (i + 1) ss) end (drop (k + 1) nulls)).parse y)) ∙ ap (with_front front) (sym (here ∙ one ∙ later)) ∙ so_far
+pub goes_on : (bs : List Bool) (front : List (Option Cell)) (ss : List Slot) (end : Option Fault) (nulls : List Bool) (i k : ℕ) (x y : List ℕ) (s : Slot) (v : Cell) (total : Read)
+    → i < length ss → s ≡ get_or ss i s → s.present ≡ true → (slot_cell (get_or nulls k false) bs s).parse x ≡ Ok (v, y)
+    → with_front front ((slot_cells bs (drop i ss) end (drop k nulls)).parse x) ≡ total
+    → with_front (front ++ Some v ∷ []) ((slot_cells bs (drop (i + 1) ss) end (drop (k + 1) nulls)).parse y) ≡ total
+goes_on bs front ss end nulls i k x y s v total lt is p e so_far =
+    let here = ap (λ (ts : List Slot). (slot_cells bs ts end (drop k nulls)).parse x) (slot_here ss i s lt is) in
+    let one = value_next bs s (drop (i + 1) ss) end (drop k nulls) x y v p (ap (λ (b : Bool). (slot_cell b bs s).parse x) (null_here nulls k) ∙ e) in
+    let later = ap (λ (ns : List Bool). with_front (Some v ∷ []) ((slot_cells bs (drop (i + 1) ss) end ns).parse y)) (null_more nulls k) in
+    sym (with_front-twice front (Some v ∷ []) ((slot_cells bs (drop (i + 1) ss) end (drop (k + 1) nulls)).parse y)) ∙ ap (with_front front) (sym (here ∙ one ∙ later)) ∙ so_far
 
-pub stops : (front : List (Option Cell)) (ss : List Slot) (end : Option Fault) (nulls : List Bool) (i k : ℕ) (x : List ℕ) (s : Slot) (e : Fault) (total : Read)
-    → i < length ss → s ≡ get_or ss i s → s.present ≡ true → (slot_cell (get_or nulls k false) s).parse x ≡ Err e
-    → with_front front ((slot_cells (drop i ss) end (drop k nulls)).parse x) ≡ total
+pub stops : (bs : List Bool) (front : List (Option Cell)) (ss : List Slot) (end : Option Fault) (nulls : List Bool) (i k : ℕ) (x : List ℕ) (s : Slot) (e : Fault) (total : Read)
+    → i < length ss → s ≡ get_or ss i s → s.present ≡ true → (slot_cell (get_or nulls k false) bs s).parse x ≡ Err e
+    → with_front front ((slot_cells bs (drop i ss) end (drop k nulls)).parse x) ≡ total
     → total ≡ Err e
-stops front ss end nulls i k x s e total lt is p f so_far =
-    let here = ap (λ (ts : List Slot). (slot_cells ts end (drop k nulls)).parse x) (slot_here ss i s lt is) in
-    let one = fault_next s (drop (i + 1) ss) end (drop k nulls) x e p (ap (λ (b : Bool). (slot_cell b s).parse x) (null_here nulls k) ∙ f) in
+stops bs front ss end nulls i k x s e total lt is p f so_far =
+    let here = ap (λ (ts : List Slot). (slot_cells bs ts end (drop k nulls)).parse x) (slot_here ss i s lt is) in
+    let one = fault_next bs s (drop (i + 1) ss) end (drop k nulls) x e p (ap (λ (b : Bool). (slot_cell b bs s).parse x) (null_here nulls k) ∙ f) in
     sym so_far ∙ ap (with_front front) (here ∙ one)
 
-pub all_read : (front : List (Option Cell)) (ss : List Slot) (end : Option Fault) (nulls : List Bool) (i : ℕ) (x : List ℕ) (total : Read)
-    → length ss ≤ i → with_front front ((slot_cells (drop i ss) end nulls).parse x) ≡ total → with_front front ((ends end).parse x) ≡ total
+pub all_read : (bs : List Bool) (front : List (Option Cell)) (ss : List Slot) (end : Option Fault) (nulls : List Bool) (i : ℕ) (x : List ℕ) (total : Read)
+    → length ss ≤ i → with_front front ((slot_cells bs (drop i ss) end nulls).parse x) ≡ total → with_front front ((ends end).parse x) ≡ total
 unfolding slot_cells
-all_read front ss end nulls i x total le so_far =
-    ap (λ (ts : List Slot). with_front front ((slot_cells ts end nulls).parse x)) (sym (drop_all i ss le)) ∙ so_far
+all_read bs front ss end nulls i x total le so_far =
+    ap (λ (ts : List Slot). with_front front ((slot_cells bs ts end nulls).parse x)) (sym (drop_all i ss le)) ∙ so_far
 
-pub all_well : (front : List (Option Cell)) (ss : List Slot) (end : Option Fault) (nulls : List Bool) (i : ℕ) (x : List ℕ) (total : Read)
-    → length ss ≤ i → end ≡ None → with_front front ((slot_cells (drop i ss) end nulls).parse x) ≡ total → total ≡ Ok (front, x)
-all_well front ss end nulls i x total le none so_far =
-    sym (all_read front ss end nulls i x total le so_far) ∙ ap (λ (o : Option Fault). with_front front ((ends o).parse x)) none ∙ ap (λ (t : List (Option Cell)). Ok (t, x)) (append-nil front)
+pub all_well : (bs : List Bool) (front : List (Option Cell)) (ss : List Slot) (end : Option Fault) (nulls : List Bool) (i : ℕ) (x : List ℕ) (total : Read)
+    → length ss ≤ i → end ≡ None → with_front front ((slot_cells bs (drop i ss) end nulls).parse x) ≡ total → total ≡ Ok (front, x)
+all_well bs front ss end nulls i x total le none so_far =
+    sym (all_read bs front ss end nulls i x total le so_far) ∙ ap (λ (o : Option Fault). with_front front ((ends o).parse x)) none ∙ ap (λ (t : List (Option Cell)). Ok (t, x)) (append-nil front)
 
-pub all_ill : (front : List (Option Cell)) (ss : List Slot) (end : Option Fault) (nulls : List Bool) (i : ℕ) (x : List ℕ) (e : Fault) (total : Read)
-    → length ss ≤ i → end ≡ Some e → with_front front ((slot_cells (drop i ss) end nulls).parse x) ≡ total → total ≡ Err e
-all_ill front ss end nulls i x e total le some so_far =
-    sym (all_read front ss end nulls i x total le so_far) ∙ ap (λ (o : Option Fault). with_front front ((ends o).parse x)) some
+pub all_ill : (bs : List Bool) (front : List (Option Cell)) (ss : List Slot) (end : Option Fault) (nulls : List Bool) (i : ℕ) (x : List ℕ) (e : Fault) (total : Read)
+    → length ss ≤ i → end ≡ Some e → with_front front ((slot_cells bs (drop i ss) end nulls).parse x) ≡ total → total ≡ Err e
+all_ill bs front ss end nulls i x e total le some so_far =
+    sym (all_read bs front ss end nulls i x total le so_far) ∙ ap (λ (o : Option Fault). with_front front ((ends o).parse x)) some

@@ -1,12 +1,11 @@
 -- By a plan, the images and pairs are read that the two events denote.
 use Rattle.std.proofs.Common.{◌≡◌, ℕ, zero, suc, ◌+◌, ◌<◌, ◌≤◌, Bool, true, false, List, [], ◌∷◌, length, drop, Option, Some, None, Result, Ok, Err, refl, sym, ap, subst, ◌∙◌, ◌⊎◌, inl, inr, arith}
-use Rattle.std.specs.Prelude.{slice_index_or}
+use Rattle.std.specs.Prelude.{slice_index_or, unwrap_or, if◌then◌else◌, ◌&&◌}
 use Rattle.std.specs.Option.{option_map, is_some}
 use Rattle.binlog_base.specs.declared.bits.BitOrder.{BitOrder}
 use Rattle.binlog_base.specs.declared.bits.BitOrder.TheVariants.{LeastSignificantFirst}
 use Rattle.binlog_base.specs.declared.fault.Fault.{Fault}
-use Rattle.binlog_base.specs.declared.fault.Fault.TheVariants.{Unhandled}
-use Rattle.binlog_base.specs.Format.{Format, refusal, sequence, map_value, choice, ◌>>=◌}
+use Rattle.binlog_base.specs.Format.{◌>>=◌}
 use Rattle.binlog_base.specs.Bits.{bits_from, bits_of, bit_list, count_set}
 use Rattle.binlog_base.specs.Values.{ColumnView}
 use Rattle.binlog_consts.specs.declared.consts.event_type.EventType.{EventType}
@@ -19,8 +18,8 @@ use Rattle.binlog_table.specs.Lemmas.TableColumns.{no_column}
 use Rattle.mysql_binlog_rows.specs.RowsEvent.{RowsEvent, image_columns, has_before, has_after}
 use Rattle.mysql_binlog_rows.specs.RowsEventWritten.{IsRowsEvent}
 use Rattle.mysql_binlog_rows.specs.Cells.{Cell, cell}
-use Rattle.mysql_binlog_rows.specs.Images.{BinlogRow, Pair, row_column, row_of, nullable_cell, cells, image, maybe_image, is_whole, pair}
-use Rattle.mysql_binlog_rows.specs.Plans.{Planned, Plans, slot_of, nothing_then, planned_then, first_column, after_first, planned_from, unless_refused, plan_of, plans_of, slots_in, slot_count, slot_cell, slot_cells, planned_image, planned_maybe, planned_pair}
+use Rattle.mysql_binlog_rows.specs.Images.{BinlogRow, row_column, row_of, is_json, nullable_cell, cells, options_of, image, maybe_image, has_options, pair}
+use Rattle.mysql_binlog_rows.specs.Plans.{Planned, slot_of, nothing_then, planned_then, first_column, after_first, planned_from, unless_refused, plan_of, plans_of, slots_in, slot_count, slot_cell, slot_cells, planned_image, planned_maybe, planned_pair}
 use Rattle.mysql_binlog_rows.specs.Rows.{IsDescribed, columns_in}
 
 bind_same : {A B : Type 0} (r : Result A Fault) (f g : A → Result B Fault) → ((a : A) → f a ≡ g a) → r >>= f ≡ r >>= g
@@ -62,11 +61,11 @@ with_columns columns read = read >>= λ r. Ok (record { columns = columns; value
 abbrev as_row : CellsRead → RowRead
 as_row read = read >>= λ r. Ok (row_of r.0, r.1)
 
-abbrev by_plan : Planned → List Bool → List ℕ → RowRead
-by_plan k nulls x = with_columns k.columns ((slot_cells k.slots k.fault nulls).parse x)
+abbrev by_plan : List Bool → Planned → List Bool → List ℕ → RowRead
+by_plan bs k nulls x = with_columns k.columns ((slot_cells bs k.slots k.fault nulls).parse x)
 
-abbrev by_table : TableMap → ℕ → List Bool → List Bool → List ℕ → RowRead
-by_table t i present nulls x = as_row ((cells t i present nulls).parse x)
+abbrev by_table : TableMap → List Bool → ℕ → List Bool → List Bool → List ℕ → RowRead
+by_table t bs i present nulls x = as_row ((cells t bs i present nulls).parse x)
 
 -- a row with a column and its cell in front
 abbrev grow : ColumnView → Cell → RowRead → RowRead
@@ -86,50 +85,55 @@ grow_both : (cell : Result (Cell × List ℕ) Fault) (p : List ℕ → Read) (c 
 grow_both (Ok v) p c column columns h = grow_plan column v.0 columns (p v.1) ∙ ap (grow column v.0) (h v.1) ∙ sym (grow_cells column v.0 (c v.1))
 grow_both (Err e) p c column columns h = refl
 
-same_cell : (is_null : Bool) (c : Column) (present : Bool) (x : List ℕ) → (slot_cell is_null (slot_of c present)).parse x ≡ (nullable_cell is_null c).parse x
+-- the partial bit of a column, by its slot
+partial_by : (b : Bool) (bs : List Bool) (k : ℕ) → unwrap_or (option_map (λ j. slice_index_or bs j false) (if b then Some k else None)) false ≡ b && slice_index_or bs k false
+partial_by true bs k = refl
+partial_by false bs k = refl
+
+same_cell : (is_null : Bool) (bs : List Bool) (c : Column) (present : Bool) (x : List ℕ) → (slot_cell is_null bs (slot_of c present)).parse x ≡ (nullable_cell is_null bs c).parse x
 unfolding slot_cell nullable_cell cell
-same_cell is_null c present x = refl
+same_cell is_null bs c present x = rw (partial_by (is_json c.column_type) bs c.json_place) refl
 
-column_reads : (t : TableMap) (i : ℕ) (c : Column) (present : Bool) (others : Planned) (ps nulls : List Bool) (x : List ℕ) → column_at t i ≡ Ok c
-    → ((ns : List Bool) (y : List ℕ) → by_plan others ns y ≡ by_table t (suc i) ps ns y)
-    → by_plan (planned_then t i (Ok c) present others) nulls x ≡ by_table t i (present ∷ ps) nulls x
+column_reads : (t : TableMap) (bs : List Bool) (i : ℕ) (c : Column) (present : Bool) (others : Planned) (ps nulls : List Bool) (x : List ℕ) → column_at t i ≡ Ok c
+    → ((ns : List Bool) (y : List ℕ) → by_plan bs others ns y ≡ by_table t bs (suc i) ps ns y)
+    → by_plan bs (planned_then t i (Ok c) present others) nulls x ≡ by_table t bs i (present ∷ ps) nulls x
 unfolding slot_cells cells
-column_reads t i c true others ps nulls x is h =
-    rw (is, same_cell (slice_index_or nulls 0 false) c true x)
-    (grow_both ((nullable_cell (slice_index_or nulls 0 false) c).parse x) (slot_cells others.slots others.fault (drop 1 nulls)).parse (cells t (suc i) ps (drop 1 nulls)).parse (row_column t i c) others.columns (h (drop 1 nulls)))
-column_reads t i c false others ps nulls x is h = rw is (h nulls x)
+column_reads t bs i c true others ps nulls x is h =
+    rw (is, same_cell (slice_index_or nulls 0 false) bs c true x)
+    (grow_both ((nullable_cell (slice_index_or nulls 0 false) bs c).parse x) (slot_cells bs others.slots others.fault (drop 1 nulls)).parse (cells t bs (suc i) ps (drop 1 nulls)).parse (row_column t i c) others.columns (h (drop 1 nulls)))
+column_reads t bs i c false others ps nulls x is h = rw is (h nulls x)
 
-fault_reads : (t : TableMap) (i : ℕ) (e : Fault) (present : Bool) (others : Planned) (ps nulls : List Bool) (x : List ℕ) → column_at t i ≡ Err e
-    → by_plan (planned_then t i (Err e) present others) nulls x ≡ by_table t i (present ∷ ps) nulls x
+fault_reads : (t : TableMap) (bs : List Bool) (i : ℕ) (e : Fault) (present : Bool) (others : Planned) (ps nulls : List Bool) (x : List ℕ) → column_at t i ≡ Err e
+    → by_plan bs (planned_then t i (Err e) present others) nulls x ≡ by_table t bs i (present ∷ ps) nulls x
 unfolding slot_cells cells
-fault_reads t i e present others ps nulls x is = rw is refl
+fault_reads t bs i e present others ps nulls x is = rw is refl
 
-one_reads : (t : TableMap) (i : ℕ) (r : Result Column Fault) (present : Bool) (others : Planned) (ps nulls : List Bool) (x : List ℕ) → column_at t i ≡ r
-    → ((c : Column) → r ≡ Ok c → (ns : List Bool) (y : List ℕ) → by_plan others ns y ≡ by_table t (suc i) ps ns y)
-    → by_plan (planned_then t i r present others) nulls x ≡ by_table t i (present ∷ ps) nulls x
-one_reads t i (Ok c) present others ps nulls x is h = column_reads t i c present others ps nulls x is (h c refl)
-one_reads t i (Err e) present others ps nulls x is h = fault_reads t i e present others ps nulls x is
+one_reads : (t : TableMap) (bs : List Bool) (i : ℕ) (r : Result Column Fault) (present : Bool) (others : Planned) (ps nulls : List Bool) (x : List ℕ) → column_at t i ≡ r
+    → ((c : Column) → r ≡ Ok c → (ns : List Bool) (y : List ℕ) → by_plan bs others ns y ≡ by_table t bs (suc i) ps ns y)
+    → by_plan bs (planned_then t i r present others) nulls x ≡ by_table t bs i (present ∷ ps) nulls x
+one_reads t bs i (Ok c) present others ps nulls x is h = column_reads t bs i c present others ps nulls x is (h c refl)
+one_reads t bs i (Err e) present others ps nulls x is h = fault_reads t bs i e present others ps nulls x is
 
-none_reads : (t : TableMap) (i : ℕ) (nulls : List Bool) (x : List ℕ) → by_plan (nothing_then None) nulls x ≡ by_table t i [] nulls x
+none_reads : (t : TableMap) (bs : List Bool) (i : ℕ) (nulls : List Bool) (x : List ℕ) → by_plan bs (nothing_then None) nulls x ≡ by_table t bs i [] nulls x
 unfolding slot_cells cells
-none_reads t i nulls x = refl
+none_reads t bs i nulls x = refl
 
 -- the walk after a column, if there is one
-rest_reads : (t : TableMap) (i n : ℕ) (f : ℕ → Result Column Fault) (ps : List Bool) → i + n ≡ length t.types → ((j : ℕ) → f j ≡ column_at t (i + j))
-    → ((m : ℕ) (g : ℕ → Result Column Fault) → suc i + m ≡ length t.types → ((j : ℕ) → g j ≡ column_at t (suc i + j)) → (ns : List Bool) (y : List ℕ) → by_plan (planned_from t (suc i) (columns_by g m) ps) ns y ≡ by_table t (suc i) ps ns y)
-    → (c : Column) → first_column (columns_by f n) ≡ Ok c → (ns : List Bool) (y : List ℕ) → by_plan (planned_from t (suc i) (after_first (columns_by f n)) ps) ns y ≡ by_table t (suc i) ps ns y
-rest_reads t i zero f ps whole each h c is ns y = absurd cc
-rest_reads t i (suc n) f ps whole each h c is ns y =
+rest_reads : (t : TableMap) (bs : List Bool) (i n : ℕ) (f : ℕ → Result Column Fault) (ps : List Bool) → i + n ≡ length t.types → ((j : ℕ) → f j ≡ column_at t (i + j))
+    → ((m : ℕ) (g : ℕ → Result Column Fault) → suc i + m ≡ length t.types → ((j : ℕ) → g j ≡ column_at t (suc i + j)) → (ns : List Bool) (y : List ℕ) → by_plan bs (planned_from t (suc i) (columns_by g m) ps) ns y ≡ by_table t bs (suc i) ps ns y)
+    → (c : Column) → first_column (columns_by f n) ≡ Ok c → (ns : List Bool) (y : List ℕ) → by_plan bs (planned_from t (suc i) (after_first (columns_by f n)) ps) ns y ≡ by_table t bs (suc i) ps ns y
+rest_reads t bs i zero f ps whole each h c is ns y = absurd cc
+rest_reads t bs i (suc n) f ps whole each h c is ns y =
     let here : f 0 ≡ Ok c = sym (by_first (f 0) (columns_by (λ j. f (suc j)) n)) ∙ is in
-    ap (λ (walk : List (Result Column Fault)). by_plan (planned_from t (suc i) walk ps) ns y) (after_by f n c here)
+    ap (λ (walk : List (Result Column Fault)). by_plan bs (planned_from t (suc i) walk ps) ns y) (after_by f n c here)
     ∙ h n (λ j. f (suc j)) (omega (arith, whole)) (each_later t i f each) ns y
 
-cells_read : (t : TableMap) (ps : List Bool) (i n : ℕ) (f : ℕ → Result Column Fault) → i + n ≡ length t.types → ((j : ℕ) → f j ≡ column_at t (i + j))
-    → (nulls : List Bool) (x : List ℕ) → by_plan (planned_from t i (columns_by f n) ps) nulls x ≡ by_table t i ps nulls x
-cells_read t [] i n f whole each nulls x = none_reads t i nulls x
-cells_read t (p ∷ ps) i n f whole each nulls x =
-    one_reads t i (first_column (columns_by f n)) p (planned_from t (suc i) (after_first (columns_by f n)) ps) ps nulls x (sym (first_is t i n f whole each))
-    (rest_reads t i n f ps whole each (λ m g w e. cells_read t ps (suc i) m g w e))
+cells_read : (t : TableMap) (bs ps : List Bool) (i n : ℕ) (f : ℕ → Result Column Fault) → i + n ≡ length t.types → ((j : ℕ) → f j ≡ column_at t (i + j))
+    → (nulls : List Bool) (x : List ℕ) → by_plan bs (planned_from t i (columns_by f n) ps) nulls x ≡ by_table t bs i ps nulls x
+cells_read t bs [] i n f whole each nulls x = none_reads t bs i nulls x
+cells_read t bs (p ∷ ps) i n f whole each nulls x =
+    one_reads t bs i (first_column (columns_by f n)) p (planned_from t (suc i) (after_first (columns_by f n)) ps) ps nulls x (sym (first_is t i n f whole each))
+    (rest_reads t bs i n f ps whole each (λ m g w e. cells_read t bs ps (suc i) m g w e))
 
 -- ---- images and pairs
 
@@ -139,40 +143,27 @@ checked r x = r >>= λ nulls. Ok (nulls, x)
 from_zero : (t : TableMap) (j : ℕ) → column_at t j ≡ column_at t (0 + j)
 from_zero t j = ap (column_at t) (omega arith)
 
-fields_read : (t : TableMap) (fault : Option Fault) (ps nulls : List Bool) (x : List ℕ)
-    → by_plan (unless_refused fault (planned_from t 0 (unless_faulty fault (columns_by (column_at t) (length t.types))) ps)) nulls x
-    ≡ checked (unless fault nulls) x >>= λ r. by_table t 0 ps r.0 r.1
+fields_read : (t : TableMap) (bs : List Bool) (fault : Option Fault) (ps nulls : List Bool) (x : List ℕ)
+    → by_plan bs (unless_refused fault (planned_from t 0 (unless_faulty fault (columns_by (column_at t) (length t.types))) ps)) nulls x
+    ≡ checked (unless fault nulls) x >>= λ r. by_table t bs 0 ps r.0 r.1
 unfolding slot_cells
-fields_read t None ps nulls x = cells_read t ps 0 (length t.types) (column_at t) (omega arith) (from_zero t) nulls x
-fields_read t (Some e) ps nulls x = refl
+fields_read t bs None ps nulls x = cells_read t bs ps 0 (length t.types) (column_at t) (omega arith) (from_zero t) nulls x
+fields_read t bs (Some e) ps nulls x = refl
 
-pub image_reads : (t : TableMap) (ps : List Bool) (x : List ℕ) → (planned_image (plan_of t ps)).parse x ≡ (image t ps).parse x
+pub image_reads : (t : TableMap) (o : Bool) (ps : List Bool) (x : List ℕ) → (planned_image (plan_of t o ps)).parse x ≡ (image t o ps).parse x
 unfolding planned_image image
-image_reads t ps x = bind_same ((bit_list LeastSignificantFirst (count_set ps)).parse x) _ _ (λ r. fields_read t (field_fault t) ps r.0 r.1)
+image_reads t o ps x =
+    bind_same ((options_of t o).parse x) _ _ (λ b. bind_same ((bit_list LeastSignificantFirst (count_set ps)).parse b.1) _ _ (λ r. fields_read t b.0 (field_fault t) ps r.0 r.1))
 
-maybe_reads : (t : TableMap) (o : Option (List Bool)) (x : List ℕ) → (planned_maybe (option_map (plan_of t) o)).parse x ≡ (maybe_image t o).parse x
-maybe_reads t None x = refl
-maybe_reads t (Some ps) x = rw (image_reads t ps x) refl
-
-when_whole : {A : Type 0} (b : Bool) (f g : Format A) (e : Fault) (x : List ℕ) → f.parse x ≡ g.parse x → (choice b f (refusal e)).parse x ≡ (choice b g (refusal e)).parse x
-when_whole true f g e x h = h
-when_whole false f g e x h = refl
-
-abbrev planned_both : Plans → Format Pair
-planned_both p = sequence (planned_maybe p.before) (λ before. map_value (planned_maybe p.after) (λ after. (before, after)))
-
-abbrev both : TableMap → Option (List Bool) → Option (List Bool) → Format Pair
-both t before after = sequence (maybe_image t before) (λ b. map_value (maybe_image t after) (λ a. (b, a)))
-
-both_read : (t : TableMap) (e : RowsEvent) (x : List ℕ) → (planned_both (plans_of t e)).parse x ≡ (both t (image_columns e.num_columns e.before) (image_columns e.num_columns e.after)).parse x
-both_read t e x =
-    rw (maybe_reads t (image_columns e.num_columns e.before) x)
-    (bind_same ((maybe_image t (image_columns e.num_columns e.before)).parse x) _ _ (λ b. rw (maybe_reads t (image_columns e.num_columns e.after) b.1) refl))
+maybe_reads : (t : TableMap) (o : Bool) (present : Option (List Bool)) (x : List ℕ) → (planned_maybe (option_map (plan_of t o) present)).parse x ≡ (maybe_image t o present).parse x
+maybe_reads t o None x = refl
+maybe_reads t o (Some ps) x = rw (image_reads t o ps x) refl
 
 pub plans_read : (t : TableMap) (e : RowsEvent) (x : List ℕ) → (planned_pair (plans_of t e)).parse x ≡ (pair t e).parse x
 unfolding planned_pair pair
 plans_read t e x =
-    when_whole (is_whole e.event_type) (planned_both (plans_of t e)) (both t (image_columns e.num_columns e.before) (image_columns e.num_columns e.after)) Unhandled x (both_read t e x)
+    rw (maybe_reads t false (image_columns e.num_columns e.before) x)
+    (bind_same ((maybe_image t false (image_columns e.num_columns e.before)).parse x) _ _ (λ b. rw (maybe_reads t (has_options e.event_type) (image_columns e.num_columns e.after) b.1) refl))
 
 -- ---- how many columns a plan has
 
@@ -192,18 +183,18 @@ slots_all t (p ∷ ps) i (suc n) f whole each h =
     (next.0, ap (column_at t) (omega arith) ∙ next.1)) in
     rw here (ap suc later)
 
-plan_slots : (t : TableMap) (ps : List Bool) → IsDescribed t (length ps) → slots_in (Some (plan_of t ps)) ≡ length ps
-plan_slots t ps d = rw d.fields (slots_all t ps 0 (length t.types) (column_at t) (omega arith) (from_zero t) (λ j lt. let c = d.columns j lt in (c.0, sym (from_zero t j) ∙ c.1)))
+plan_slots : (t : TableMap) (o : Bool) (ps : List Bool) → IsDescribed t (length ps) → slots_in (Some (plan_of t o ps)) ≡ length ps
+plan_slots t o ps d = rw d.fields (slots_all t ps 0 (length t.types) (column_at t) (omega arith) (from_zero t) (λ j lt. let c = d.columns j lt in (c.0, sym (from_zero t j) ∙ c.1)))
 
 bits_counted : (order : BitOrder) (bytes : List ℕ) (i n : ℕ) → length (bits_from order bytes i n) ≡ n
 bits_counted order bytes i zero = refl
 bits_counted order bytes i (suc n) = ap suc (bits_counted order bytes (suc i) n)
 
-image_least : (t : TableMap) (n : ℕ) (o : Option (List ℕ)) → IsDescribed t n → is_some o ≡ true → slots_in (option_map (plan_of t) (image_columns n o)) ≡ n
-image_least t n None d h = absurd cc
-image_least t n (Some bytes) d h =
+image_least : (t : TableMap) (has : Bool) (n : ℕ) (o : Option (List ℕ)) → IsDescribed t n → is_some o ≡ true → slots_in (option_map (plan_of t has) (image_columns n o)) ≡ n
+image_least t has n None d h = absurd cc
+image_least t has n (Some bytes) d h =
     let count = bits_counted LeastSignificantFirst bytes 0 n in
-    plan_slots t (bits_of LeastSignificantFirst n bytes) (subst (λ (k : ℕ). IsDescribed t k) (sym count) d) ∙ count
+    plan_slots t has (bits_of LeastSignificantFirst n bytes) (subst (λ (k : ℕ). IsDescribed t k) (sym count) d) ∙ count
 
 pub columns_most : (n : ℕ) (o : Option (List ℕ)) → columns_in (image_columns n o) ≤ n
 columns_most n None = omega arith
@@ -218,6 +209,6 @@ some_image _ = inr refl
 pub slots_least : (t : TableMap) (e : RowsEvent) → IsRowsEvent e → IsDescribed t e.num_columns → e.num_columns ≤ slot_count (plans_of t e)
 slots_least t e is d =
     elim (some_image e.event_type) [
-      | inl h ↦ let n = image_least t e.num_columns e.before d (is.before.there ∙ h) in omega (arith, n)
-      | inr h ↦ let n = image_least t e.num_columns e.after d (is.after.there ∙ h) in omega (arith, n)
+      | inl h ↦ let n = image_least t false e.num_columns e.before d (is.before.there ∙ h) in omega (arith, n)
+      | inr h ↦ let n = image_least t (has_options e.event_type) e.num_columns e.after d (is.after.there ∙ h) in omega (arith, n)
     ]

@@ -7,7 +7,9 @@ use Rattle.binlog_base.specs.declared.below.columns.column_type.ColumnType.{Colu
 use Rattle.binlog_base.specs.declared.fault.Fault.{Fault}
 use Rattle.binlog_base.specs.declared.below.columns.column_type.ColumnType.TheVariants as column
 use Rattle.binlog_base.specs.declared.fault.Fault.TheVariants.{MissingMetadata, Unhandled, UnknownBlob, UnknownEnum, YearRange}
-use Rattle.binlog_base.specs.Format.{Format, ◌>>=◌, take_bytes, no_bytes, refusal, check, sequence, map_value, choice}
+use Rattle.binlog_base.specs.Format.{Format, ◌>>=◌, take_bytes, no_bytes, refusal, check, sequence, inside, map_value, choice}
+use Rattle.binlog_base.specs.Items.{repeated}
+use Rattle.binlog_base.specs.declared.below.columns.value.Value.{Value}
 use Rattle.binlog_base.specs.Tables.{from_table}
 use Rattle.binlog_base.specs.Numbers.{little_endian, signed_little_endian}
 use Rattle.binlog_base.specs.ColumnTypes.{column_type_of}
@@ -15,81 +17,99 @@ use Rattle.binlog_base.specs.Values.{PlainValue, Bytes, Int, UInt, Float, Double
 use Rattle.binlog_base.specs.PackedTimes.{timestamp2, datetime2, time2, datetime_value, time_value}
 use Rattle.binlog_values.specs.PackedDecimals.{packed_decimal}
 use Rattle.binlog_values.specs.DecimalText.{decimal_text}
+use Rattle.binlog_values.specs.JsonbValues.{JsonbValue, json}
+use Rattle.binlog_values.specs.JsonbViews.{view_of}
+use Rattle.binlog_values.specs.JsonDiffs.{Diff, diff}
 use Rattle.mysql_binlog_rows.specs.declared.value.form.Width.{Width}
+use Rattle.mysql_binlog_rows.specs.declared.value.form.PlainForm.{PlainForm}
+use Rattle.mysql_binlog_rows.specs.declared.value.form.PlainForm.TheVariants as form
 use Rattle.mysql_binlog_rows.specs.declared.value.form.Form.{Form}
+use Rattle.mysql_binlog_rows.specs.declared.value.form.Form.TheVariants as way
 use Rattle.mysql_binlog_rows.specs.declared.value.form.Width.TheVariants as width
 use Rattle.mysql_binlog_rows.specs.declared.value.BinlogValue.{BinlogValue}
-use Rattle.mysql_binlog_rows.specs.declared.value.form.Form.TheVariants as form
 use Rattle.mysql_binlog_rows.specs.declared.value.BinlogValue.TheVariants as binlog
+use Rattle.mysql_binlog_rows.specs.declared.value.BinlogValueToValueError.{BinlogValueToValueError}
+use Rattle.mysql_binlog_rows.specs.declared.value.BinlogValueToValueError.TheVariants as not_plain
 
--- the value of a cell, whatever its place in memory
+-- the value of a cell, whatever its place in memory: a plain value, a JSON document, or diffs of one
 pub data Cell : Type 0 where
   PlainCell : (value : PlainValue) → Cell
+  JsonCell : (value : JsonbValue) → Cell
+  DiffsCell : (diffs : List Diff) → Cell
 
 abbrev pub cell_of : BinlogValue → Cell
 cell_of (binlog.Value value) = PlainCell (plain_of value)
+cell_of (binlog.Jsonb value) = JsonCell (view_of value)
+cell_of (binlog.JsonDiff diffs) = DiffsCell diffs.items
 
-abbrev pub bytes_cell : List ℕ → Cell
-bytes_cell text = PlainCell (Bytes text)
+-- the plain value of a cell, or why it has none
+abbrev pub to_plain : Cell → Result PlainValue BinlogValueToValueError
+to_plain (PlainCell value) = Ok value
+to_plain (JsonCell value) = Err not_plain.ToJson
+to_plain (DiffsCell diffs) = Err not_plain.JsonDiff
 
-abbrev pub int_cell : ℕ → Cell
-int_cell n = PlainCell (Int (pos n))
+abbrev pub plain_result : Result Value BinlogValueToValueError → Result PlainValue BinlogValueToValueError
+plain_result (Ok value) = Ok (plain_of value)
+plain_result (Err e) = Err e
+
+abbrev pub int_value : ℕ → PlainValue
+int_value n = Int (pos n)
 
 -- ---- numbers
 
 -- TINY, SHORT, INT24, LONG: a little-endian number of w bytes, signed or unsigned
-unfoldable pub integer : ℕ → Bool → Format Cell
-integer w unsigned = choice unsigned (map_value (little_endian w) int_cell) (map_value (signed_little_endian w) (λ z. PlainCell (Int z)))
+unfoldable pub integer : ℕ → Bool → Format PlainValue
+integer w unsigned = choice unsigned (map_value (little_endian w) int_value) (map_value (signed_little_endian w) Int)
 
 -- LONGLONG: a little-endian number of eight bytes, signed or unsigned
-unfoldable pub long_integer : Bool → Format Cell
-long_integer unsigned = choice unsigned (map_value (little_endian 8) (λ n. PlainCell (UInt n))) (map_value (signed_little_endian 8) (λ z. PlainCell (Int z)))
+unfoldable pub long_integer : Bool → Format PlainValue
+long_integer unsigned = choice unsigned (map_value (little_endian 8) UInt) (map_value (signed_little_endian 8) Int)
 
 -- FLOAT and DOUBLE: the bits of the number, in little-endian order
-unfoldable pub float_bits : Format Cell
-float_bits = map_value (little_endian 4) (λ n. PlainCell (Float n))
+unfoldable pub float_bits : Format PlainValue
+float_bits = map_value (little_endian 4) Float
 
-unfoldable pub double_bits : Format Cell
-double_bits = map_value (little_endian 8) (λ n. PlainCell (Double n))
+unfoldable pub double_bits : Format PlainValue
+double_bits = map_value (little_endian 8) Double
 
 -- ---- times of the format before fractional seconds
 
 -- TIMESTAMP: the seconds since 1970, as a little-endian number of four bytes
-unfoldable pub timestamp_cell : Format Cell
-timestamp_cell = map_value (little_endian 4) int_cell
+unfoldable pub timestamp_cell : Format PlainValue
+timestamp_cell = map_value (little_endian 4) int_value
 
 -- TIME: the decimal digits HHMMSS, as a little-endian number of three bytes; each 24 hours are a
 -- day
 abbrev pub time_of_digits : Bool → ℕ → PlainValue
 time_of_digits is_negative n = Time is_negative (n / 10000 / 24) (n / 10000 % 24) (n / 100 % 100) (n % 100) 0
 
-unfoldable pub time_cell : Format Cell
-time_cell = map_value (little_endian 3) (λ n. PlainCell (time_of_digits false n))
+unfoldable pub time_cell : Format PlainValue
+time_cell = map_value (little_endian 3) (time_of_digits false)
 
 -- DATETIME: the decimal digits YYYYMMDDHHMMSS, as a little-endian number of eight bytes; YearRange
 -- if the year is above 65535
-abbrev pub date_of_digits : ℕ → ℕ → Cell
-date_of_digits year n = PlainCell (Date year (n / 100000000 % 100) (n / 1000000 % 100) (n / 10000 % 100) (n / 100 % 100) (n % 100) 0)
+abbrev pub date_of_digits : ℕ → ℕ → PlainValue
+date_of_digits year n = Date year (n / 100000000 % 100) (n / 1000000 % 100) (n / 10000 % 100) (n / 100 % 100) (n % 100) 0
 
-abbrev pub date_of_number : ℕ → Format Cell
+abbrev pub date_of_number : ℕ → Format PlainValue
 date_of_number n = choice (nat_lt (n / 10000000000) 65536) (no_bytes (date_of_digits (n / 10000000000) n)) (refusal YearRange)
 
-unfoldable pub datetime_cell : Format Cell
+unfoldable pub datetime_cell : Format PlainValue
 datetime_cell = sequence (little_endian 8) date_of_number
 
 -- YEAR: the years since 1900 in one byte; the value is the year as text
-abbrev pub year_text : ℕ → Cell
-year_text n = bytes_cell (decimal (1900 + n))
+abbrev pub year_text : ℕ → PlainValue
+year_text n = Bytes (decimal (1900 + n))
 
-unfoldable pub year_cell : Format Cell
+unfoldable pub year_cell : Format PlainValue
 year_cell = map_value (little_endian 1) year_text
 
 -- NEWDATE: a little-endian number of three bytes: five bits for the day, four for the month, and
 -- the year
-abbrev pub date_of_bits : ℕ → Cell
-date_of_bits n = PlainCell (Date (n / 512) (n / 32 % 16) (n % 32) 0 0 0 0)
+abbrev pub date_of_bits : ℕ → PlainValue
+date_of_bits n = Date (n / 512) (n / 32 % 16) (n % 32) 0 0 0 0
 
-unfoldable pub date_cell : Format Cell
+unfoldable pub date_cell : Format PlainValue
 date_cell = map_value (little_endian 3) date_of_bits
 
 -- ---- times with fractional seconds, of that many decimals
@@ -103,34 +123,34 @@ abbrev pub timestamp_text : ℤ × ℤ → List ℕ
 timestamp_text t = if int_eq t.1 (pos 0) then signed_decimal t.0 else signed_decimal t.0 ++ (codes "." ++ six_places t.1)
 
 -- TIMESTAMP2: the value is the seconds since 1970 as text, with the fraction
-unfoldable pub timestamp2_cell : ℕ → Format Cell
-timestamp2_cell decimals = map_value (timestamp2 decimals) (λ t. bytes_cell (timestamp_text t))
+unfoldable pub timestamp2_cell : ℕ → Format PlainValue
+timestamp2_cell decimals = map_value (timestamp2 decimals) (λ t. Bytes (timestamp_text t))
 
 -- DATETIME2 and TIME2: the packed DATETIME and TIME formats
-unfoldable pub datetime2_cell : ℕ → Format Cell
-datetime2_cell decimals = map_value (datetime2 decimals) (λ z. PlainCell (datetime_value z))
+unfoldable pub datetime2_cell : ℕ → Format PlainValue
+datetime2_cell decimals = map_value (datetime2 decimals) datetime_value
 
-unfoldable pub time2_cell : ℕ → Format Cell
-time2_cell decimals = map_value (time2 decimals) (λ z. PlainCell (time_value z))
+unfoldable pub time2_cell : ℕ → Format PlainValue
+time2_cell decimals = map_value (time2 decimals) time_value
 
 -- ---- decimals
 
 -- NEWDECIMAL: a packed decimal; the value is its text, without groups of zeros at the start
-unfoldable pub decimal_cell : ℕ → ℕ → Format Cell
-decimal_cell precision scale = map_value (packed_decimal precision scale false) (λ d. bytes_cell (decimal_text d))
+unfoldable pub decimal_cell : ℕ → ℕ → Format PlainValue
+decimal_cell precision scale = map_value (packed_decimal precision scale false) (λ d. Bytes (decimal_text d))
 
 -- ---- bytes
 
 -- a cell of n bytes
-unfoldable pub fixed_bytes : ℕ → Format Cell
-fixed_bytes n = map_value (take_bytes n) bytes_cell
+unfoldable pub fixed_bytes : ℕ → Format PlainValue
+fixed_bytes n = map_value (take_bytes n) Bytes
 
 -- a little-endian length of w bytes, and then as many bytes as it says
 unfoldable pub text : ℕ → Format (List ℕ)
 text w = sequence (little_endian w) take_bytes
 
-unfoldable pub text_cell : ℕ → Format Cell
-text_cell w = map_value (text w) bytes_cell
+unfoldable pub text_cell : ℕ → Format PlainValue
+text_cell w = map_value (text w) Bytes
 
 -- the length of a cell takes one byte if the greatest length is below 256, else two
 abbrev pub length_width : ℕ → Width
@@ -151,8 +171,8 @@ abbrev pub bit_bytes : ℕ → ℕ → ℕ
 bit_bytes m0 m1 = (m1 * 8 + m0 + 7) / 8
 
 -- ENUM: the number of the value, as a little-endian number of w bytes
-unfoldable pub variant_cell : ℕ → Format Cell
-variant_cell w = map_value (little_endian w) int_cell
+unfoldable pub variant_cell : ℕ → Format PlainValue
+variant_cell w = map_value (little_endian w) int_value
 
 -- ---- how the cells of a column are read
 
@@ -163,24 +183,24 @@ bytes_in width.Two = 2
 bytes_in width.Three = 3
 bytes_in width.Four = 4
 
--- the bytes of a cell that is read in this way
-unfoldable pub cell_by : Form → Format Cell
-cell_by (form.Integer w unsigned) = integer (bytes_in w) unsigned
-cell_by (form.LongInteger unsigned) = long_integer unsigned
-cell_by form.Float = float_bits
-cell_by form.Double = double_bits
-cell_by form.Timestamp = timestamp_cell
-cell_by form.Time = time_cell
-cell_by form.Datetime = datetime_cell
-cell_by form.Year = year_cell
-cell_by form.Date = date_cell
-cell_by (form.Timestamp2 decimals) = timestamp2_cell decimals
-cell_by (form.Datetime2 decimals) = datetime2_cell decimals
-cell_by (form.Time2 decimals) = time2_cell decimals
-cell_by (form.Decimal precision scale) = decimal_cell precision scale
-cell_by (form.Fixed n) = fixed_bytes n
-cell_by (form.Text w) = text_cell (bytes_in w)
-cell_by (form.Variant w) = variant_cell (bytes_in w)
+-- the bytes of a plain value that is read in this way
+unfoldable pub plain_by : PlainForm → Format PlainValue
+plain_by (form.Integer w unsigned) = integer (bytes_in w) unsigned
+plain_by (form.LongInteger unsigned) = long_integer unsigned
+plain_by form.Float = float_bits
+plain_by form.Double = double_bits
+plain_by form.Timestamp = timestamp_cell
+plain_by form.Time = time_cell
+plain_by form.Datetime = datetime_cell
+plain_by form.Year = year_cell
+plain_by form.Date = date_cell
+plain_by (form.Timestamp2 decimals) = timestamp2_cell decimals
+plain_by (form.Datetime2 decimals) = datetime2_cell decimals
+plain_by (form.Time2 decimals) = time2_cell decimals
+plain_by (form.Decimal precision scale) = decimal_cell precision scale
+plain_by (form.Fixed n) = fixed_bytes n
+plain_by (form.Text w) = text_cell (bytes_in w)
+plain_by (form.Variant w) = variant_cell (bytes_in w)
 
 -- the first byte of the metadata, and the first two; MissingMetadata if it is too short
 abbrev pub first_byte : List ℕ → Result ℕ Fault
@@ -197,18 +217,18 @@ first_two (m0 ∷ m1 ∷ more) = Ok (m0, m1)
 abbrev pub blob_widths : List (ℕ × Width)
 blob_widths = (1, width.One) ∷ (2, width.Two) ∷ (3, width.Three) ∷ (4, width.Four) ∷ []
 
-abbrev pub blob_form : ℕ → Result Form Fault
+abbrev pub blob_form : ℕ → Result PlainForm Fault
 blob_form m0 = from_table blob_widths (λ n. UnknownBlob) m0 >>= λ w. Ok (form.Text w)
 
 -- ENUM: the number has one or two bytes, as the metadata says; else UnknownEnum
 abbrev pub variant_widths : List (ℕ × Width)
 variant_widths = (1, width.One) ∷ (2, width.Two) ∷ []
 
-abbrev pub variant_form : ℕ → Result Form Fault
+abbrev pub variant_form : ℕ → Result PlainForm Fault
 variant_form m1 = from_table variant_widths (λ n. UnknownEnum) m1 >>= λ w. Ok (form.Variant w)
 
 -- how cells are read if their type needs two bytes of metadata; Unhandled for all other types
-abbrev pub two_form : ColumnType → List ℕ → Result Form Fault
+abbrev pub two_form : ColumnType → List ℕ → Result PlainForm Fault
 two_form column.MYSQL_TYPE_BIT metadata = first_two metadata >>= λ m. Ok (form.Fixed (bit_bytes m.0 m.1))
 two_form column.MYSQL_TYPE_SET metadata = first_two metadata >>= λ m. Ok (form.Fixed m.1)
 two_form column.MYSQL_TYPE_ENUM metadata = first_two metadata >>= λ m. variant_form m.1
@@ -218,31 +238,36 @@ two_form column.MYSQL_TYPE_STRING metadata = first_two metadata >>= λ m. Ok (fo
 two_form column.MYSQL_TYPE_NEWDECIMAL metadata = first_two metadata >>= λ m. Ok (form.Decimal m.0 m.1)
 two_form _ metadata = Err Unhandled
 
--- How the cells of a column that isn't an array are read, by the column's type and metadata and by
--- whether its numbers are unsigned; or the fault that comes for every cell.
-unfoldable pub element_form : ColumnType → List ℕ → Bool → Result Form Fault
-element_form column.MYSQL_TYPE_TINY metadata unsigned = Ok (form.Integer width.One unsigned)
-element_form column.MYSQL_TYPE_SHORT metadata unsigned = Ok (form.Integer width.Two unsigned)
-element_form column.MYSQL_TYPE_INT24 metadata unsigned = Ok (form.Integer width.Three unsigned)
-element_form column.MYSQL_TYPE_LONG metadata unsigned = Ok (form.Integer width.Four unsigned)
-element_form column.MYSQL_TYPE_LONGLONG metadata unsigned = Ok (form.LongInteger unsigned)
-element_form column.MYSQL_TYPE_FLOAT metadata unsigned = Ok form.Float
-element_form column.MYSQL_TYPE_DOUBLE metadata unsigned = Ok form.Double
-element_form column.MYSQL_TYPE_TIMESTAMP metadata unsigned = Ok form.Timestamp
-element_form column.MYSQL_TYPE_TIME metadata unsigned = Ok form.Time
-element_form column.MYSQL_TYPE_DATETIME metadata unsigned = Ok form.Datetime
-element_form column.MYSQL_TYPE_YEAR metadata unsigned = Ok form.Year
-element_form column.MYSQL_TYPE_NEWDATE metadata unsigned = Ok form.Date
-element_form column.MYSQL_TYPE_TINY_BLOB metadata unsigned = first_byte metadata >>= blob_form
-element_form column.MYSQL_TYPE_MEDIUM_BLOB metadata unsigned = first_byte metadata >>= blob_form
-element_form column.MYSQL_TYPE_LONG_BLOB metadata unsigned = first_byte metadata >>= blob_form
-element_form column.MYSQL_TYPE_BLOB metadata unsigned = first_byte metadata >>= blob_form
-element_form column.MYSQL_TYPE_GEOMETRY metadata unsigned = first_byte metadata >>= blob_form
-element_form column.MYSQL_TYPE_VECTOR metadata unsigned = first_byte metadata >>= blob_form
-element_form column.MYSQL_TYPE_TIMESTAMP2 metadata unsigned = first_byte metadata >>= λ m0. Ok (form.Timestamp2 m0)
-element_form column.MYSQL_TYPE_DATETIME2 metadata unsigned = first_byte metadata >>= λ m0. Ok (form.Datetime2 m0)
-element_form column.MYSQL_TYPE_TIME2 metadata unsigned = first_byte metadata >>= λ m0. Ok (form.Time2 m0)
-element_form type metadata unsigned = two_form type metadata
+-- How the cells of a column that is neither an array nor JSON are read, by the column's type and
+-- metadata and by whether its numbers are unsigned; or the fault that comes for every cell.
+unfoldable pub plain_form : ColumnType → List ℕ → Bool → Result PlainForm Fault
+plain_form column.MYSQL_TYPE_TINY metadata unsigned = Ok (form.Integer width.One unsigned)
+plain_form column.MYSQL_TYPE_SHORT metadata unsigned = Ok (form.Integer width.Two unsigned)
+plain_form column.MYSQL_TYPE_INT24 metadata unsigned = Ok (form.Integer width.Three unsigned)
+plain_form column.MYSQL_TYPE_LONG metadata unsigned = Ok (form.Integer width.Four unsigned)
+plain_form column.MYSQL_TYPE_LONGLONG metadata unsigned = Ok (form.LongInteger unsigned)
+plain_form column.MYSQL_TYPE_FLOAT metadata unsigned = Ok form.Float
+plain_form column.MYSQL_TYPE_DOUBLE metadata unsigned = Ok form.Double
+plain_form column.MYSQL_TYPE_TIMESTAMP metadata unsigned = Ok form.Timestamp
+plain_form column.MYSQL_TYPE_TIME metadata unsigned = Ok form.Time
+plain_form column.MYSQL_TYPE_DATETIME metadata unsigned = Ok form.Datetime
+plain_form column.MYSQL_TYPE_YEAR metadata unsigned = Ok form.Year
+plain_form column.MYSQL_TYPE_NEWDATE metadata unsigned = Ok form.Date
+plain_form column.MYSQL_TYPE_TINY_BLOB metadata unsigned = first_byte metadata >>= blob_form
+plain_form column.MYSQL_TYPE_MEDIUM_BLOB metadata unsigned = first_byte metadata >>= blob_form
+plain_form column.MYSQL_TYPE_LONG_BLOB metadata unsigned = first_byte metadata >>= blob_form
+plain_form column.MYSQL_TYPE_BLOB metadata unsigned = first_byte metadata >>= blob_form
+plain_form column.MYSQL_TYPE_GEOMETRY metadata unsigned = first_byte metadata >>= blob_form
+plain_form column.MYSQL_TYPE_VECTOR metadata unsigned = first_byte metadata >>= blob_form
+plain_form column.MYSQL_TYPE_TIMESTAMP2 metadata unsigned = first_byte metadata >>= λ m0. Ok (form.Timestamp2 m0)
+plain_form column.MYSQL_TYPE_DATETIME2 metadata unsigned = first_byte metadata >>= λ m0. Ok (form.Datetime2 m0)
+plain_form column.MYSQL_TYPE_TIME2 metadata unsigned = first_byte metadata >>= λ m0. Ok (form.Time2 m0)
+plain_form type metadata unsigned = two_form type metadata
+
+-- how the cells of a column that isn't an array are read
+abbrev pub element_form : ColumnType → List ℕ → Bool → Result Form Fault
+element_form column.MYSQL_TYPE_JSON metadata unsigned = Ok way.Json
+element_form type metadata unsigned = plain_form type metadata unsigned >>= λ f. Ok (way.Plain f)
 
 -- TYPED_ARRAY: read as a cell of the type that the first byte of the metadata names, with all of
 -- the metadata; Unhandled if that type is an array or unknown
@@ -257,6 +282,18 @@ abbrev pub form_of : ColumnType → List ℕ → Bool → Result Form Fault
 form_of column.MYSQL_TYPE_TYPED_ARRAY metadata unsigned = array_form metadata unsigned
 form_of type metadata unsigned = element_form type metadata unsigned
 
--- the bytes of a cell of a column of this type and metadata, signed or unsigned
-unfoldable pub cell : ColumnType → List ℕ → Bool → Format Cell
-cell type metadata unsigned = sequence (check (form_of type metadata unsigned)) cell_by
+-- JSON: a length of four bytes, and in as many bytes a value of binary JSON; diffs up to the end, if
+-- the cell is partial
+unfoldable pub json_cell : Bool → Format Cell
+json_cell partial =
+    sequence (little_endian 4) (λ n.
+    choice partial (map_value (inside n (repeated diff)) DiffsCell) (map_value (inside n json) JsonCell))
+
+-- the bytes of a cell that is read in this way, partial or not
+unfoldable pub cell_by : Bool → Form → Format Cell
+cell_by partial (way.Plain f) = map_value (plain_by f) PlainCell
+cell_by partial way.Json = json_cell partial
+
+-- the bytes of a cell of a column of this type and metadata, signed or unsigned, partial or not
+unfoldable pub cell : ColumnType → List ℕ → Bool → Bool → Format Cell
+cell type metadata unsigned partial = sequence (check (form_of type metadata unsigned)) (cell_by partial)

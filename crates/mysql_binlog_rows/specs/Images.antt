@@ -1,14 +1,17 @@
 -- The images of rows in a rows event, and the pairs of images.
-use Rattle.std.specs.Prelude.{ℕ, suc, ◌+◌, Bool, true, false, List, [], ◌∷◌, ◌++◌, map, Option, Some, None, drop, slice_index_or, unwrap_or, codes}
+use Rattle.std.specs.Prelude.{ℕ, suc, ◌+◌, ◌%◌, ◌==◌, ◌&&◌, Bool, true, false, List, [], ◌∷◌, ◌++◌, map, Option, Some, None, drop, slice_index_or, unwrap_or, codes}
 use Rattle.std.specs.Fmt.{decimal}
 use Rattle.binlog_base.specs.declared.bits.BitOrder.TheVariants.{LeastSignificantFirst}
-use Rattle.binlog_base.specs.declared.fault.Fault.TheVariants.{Unhandled}
-use Rattle.binlog_base.specs.Format.{Format, no_bytes, refusal, check, sequence, map_value, choice}
+use Rattle.binlog_base.specs.declared.below.columns.column_type.ColumnType.{ColumnType}
+use Rattle.binlog_base.specs.declared.below.columns.column_type.ColumnType.TheVariants as column
+use Rattle.binlog_base.specs.Format.{Format, no_bytes, check, sequence, map_value, choice}
 use Rattle.binlog_base.specs.Bits.{count_set, bit_list}
+use Rattle.binlog_base.specs.Numbers.{lenenc}
 use Rattle.binlog_base.specs.Values.{ColumnView, column_flags_of, Null}
 use Rattle.binlog_consts.specs.declared.consts.event_type.EventType.{EventType}
 use Rattle.binlog_consts.specs.declared.consts.event_type.EventType.TheVariants as event
 use Rattle.binlog_table.specs.TableMap.{TableMap}
+use Rattle.binlog_table.specs.ColumnTypes.{json_count}
 use Rattle.binlog_table.specs.Keys.{unless}
 use Rattle.binlog_table.specs.Extracted.{field_fault}
 use Rattle.binlog_table.specs.TableColumns.{Column, column_at}
@@ -44,47 +47,64 @@ pub record BinlogRow : Type 0 where
 abbrev pub row_of : List (ColumnView × Cell) → BinlogRow
 row_of cells = record { columns = map (λ c. c.0) cells; values = map (λ c. Some c.1) cells }
 
+abbrev pub is_json : ColumnType → Bool
+is_json column.MYSQL_TYPE_JSON = true
+is_json _ = false
+
+-- The k-th JSON column of the table has the k-th partial bit. A column is whole if there is no such
+-- bit, and so is each that isn't JSON.
+abbrev pub is_partial : List Bool → Column → Bool
+is_partial partials c = is_json c.column_type && slice_index_or partials c.json_place false
+
 -- NULL, which takes no bytes, if the null bit is set; else the cell
-unfoldable pub nullable_cell : Bool → Column → Format Cell
-nullable_cell is_null c = choice is_null (no_bytes (PlainCell Null)) (cell c.column_type (unwrap_or c.metadata []) c.unsigned)
+unfoldable pub nullable_cell : Bool → List Bool → Column → Format Cell
+nullable_cell is_null partials c = choice is_null (no_bytes (PlainCell Null)) (cell c.column_type (unwrap_or c.metadata []) c.unsigned (is_partial partials c))
 
 -- The columns of the event from number i on, with a bit for each that says whether it is in the
 -- image. Each has a type, a character set, a name and a key flag without a fault; and then its cell
 -- if it is in the image. `nulls` has one bit for each cell still to come.
-unfoldable pub cells : TableMap → ℕ → List Bool → List Bool → Format (List (ColumnView × Cell))
-cells t i [] nulls = no_bytes []
-cells t i (present ∷ others) nulls =
+unfoldable pub cells : TableMap → List Bool → ℕ → List Bool → List Bool → Format (List (ColumnView × Cell))
+cells t partials i [] nulls = no_bytes []
+cells t partials i (present ∷ others) nulls =
     sequence (check (column_at t i)) (λ column.
     choice present
-    (sequence (nullable_cell (slice_index_or nulls 0 false) column) (λ value. map_value (cells t (suc i) others (drop 1 nulls)) (λ more. (row_column t i column, value) ∷ more)))
-    (cells t (suc i) others nulls))
+    (sequence (nullable_cell (slice_index_or nulls 0 false) partials column) (λ value. map_value (cells t partials (suc i) others (drop 1 nulls)) (λ more. (row_column t i column, value) ∷ more)))
+    (cells t partials (suc i) others nulls))
 
--- An image: one null bit for each column in the image; then no field of the optional metadata is
--- faulty; then the cells of the columns that aren't NULL.
-unfoldable pub image : TableMap → List Bool → Format BinlogRow
-image t present =
+-- The options of an image: a length-encoded number; and if its lowest bit is set, which is
+-- PARTIAL_JSON_UPDATES, one partial bit for each of so many JSON columns.
+unfoldable pub partial_bits : ℕ → Format (List Bool)
+partial_bits json_columns =
+    sequence lenenc (λ options. choice (options % 2 == 1) (bit_list LeastSignificantFirst json_columns) (no_bytes []))
+
+abbrev pub options_of : TableMap → Bool → Format (List Bool)
+options_of t has_options = choice has_options (partial_bits (json_count t.types)) (no_bytes [])
+
+-- An image: the options, if it has any; one null bit for each column in the image; then no field of
+-- the optional metadata is faulty; then the cells of the columns that aren't NULL.
+unfoldable pub image : TableMap → Bool → List Bool → Format BinlogRow
+image t has_options present =
+    sequence (options_of t has_options) (λ partials.
     sequence (bit_list LeastSignificantFirst (count_set present)) (λ nulls.
     sequence (check (unless (field_fault t) nulls)) (λ nulls.
-    map_value (cells t 0 present nulls) row_of))
+    map_value (cells t partials 0 present nulls) row_of)))
 
 -- ---- pairs
 
 abbrev pub Pair : Type 0
 Pair = Option BinlogRow × Option BinlogRow
 
-abbrev pub maybe_image : TableMap → Option (List Bool) → Format (Option BinlogRow)
-maybe_image t None = no_bytes None
-maybe_image t (Some present) = map_value (image t present) Some
+abbrev pub maybe_image : TableMap → Bool → Option (List Bool) → Format (Option BinlogRow)
+maybe_image t has_options None = no_bytes None
+maybe_image t has_options (Some present) = map_value (image t has_options present) Some
 
-abbrev pub is_whole : EventType → Bool
-is_whole event.PARTIAL_UPDATE_ROWS_EVENT = false
-is_whole _ = true
+-- whether the images after the change have options
+abbrev pub has_options : EventType → Bool
+has_options event.PARTIAL_UPDATE_ROWS_EVENT = true
+has_options _ = false
 
--- A pair: the image before the change and the image after it, each if the event has it. Unhandled
--- if the images of the event aren't supported yet.
+-- a pair: the image before the change and the image after it, each if the event has it
 unfoldable pub pair : TableMap → RowsEvent → Format Pair
 pair t e =
-    choice (is_whole e.event_type)
-    (sequence (maybe_image t (image_columns e.num_columns e.before)) (λ before.
-    map_value (maybe_image t (image_columns e.num_columns e.after)) (λ after. (before, after))))
-    (refusal Unhandled)
+    sequence (maybe_image t false (image_columns e.num_columns e.before)) (λ before.
+    map_value (maybe_image t (has_options e.event_type) (image_columns e.num_columns e.after)) (λ after. (before, after)))

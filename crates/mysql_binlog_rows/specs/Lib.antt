@@ -5,6 +5,7 @@ pub mod Cells
 pub mod OldTimes
 pub mod Images
 pub mod RowValues
+pub mod NotPlain
 pub mod Options
 pub mod Plans
 pub mod Cover

@@ -3,10 +3,14 @@
 mod below;
 mod consts;
 mod decimals;
+mod filter;
 mod images;
 mod jsonb;
+mod memory;
 mod misc;
 mod optional_metadata;
+mod partial;
+mod readers;
 mod table_map;
 mod times;
 mod trees;
@@ -23,6 +27,11 @@ use std::alloc::{AllocError, Global};
 use std::rc::RcSlice;
 use std::test::Fail;
 
+/// Whether all of the checks hold. One call costs less to prove than an assertion for each.
+pub(crate) fn all(checks: &[bool]) -> bool {
+    checks.iter().all(|check| *check)
+}
+
 /// Reads an event of this type, whose post-header has this length. The post-header length of
 /// `WRITE_ROWS_EVENT` is 10.
 fn read(bytes: &[u8], event_type: EventType, post_header_len: u8) -> Result<RowsEvent<'_>, Fault> {
@@ -34,12 +43,7 @@ fn read(bytes: &[u8], event_type: EventType, post_header_len: u8) -> Result<Rows
 }
 
 /// Two rows of two columns.
-fn two_rows() -> [u8; 25] {
-    [
-        1, 0, 0, 0, 0, 0, 1, 0, 2, 0, 2, 3, 0, 0x2a, 0, 0, 0, 2, 0x61, 0x62, 2, 0xff, 0xff, 0xff,
-        0xff,
-    ]
-}
+const TWO_ROWS: &[u8] = b"\x01\0\0\0\0\0\x01\0\x02\0\x02\x03\0\x2a\0\0\0\x02ab\x02\xff\xff\xff\xff";
 
 /// Whether the event has this table, this many columns, and these rows.
 fn has_parts(event: &RowsEvent<'_>, table_id: u64, columns: u64, rows: &[u8]) -> bool {
@@ -59,14 +63,17 @@ fn image_counts(event: &RowsEvent<'_>) -> (Option<usize>, Option<usize>) {
 
 #[test]
 fn inserted_rows(rt: HostRuntime) -> Result<(), Fail> {
-    let bytes = two_rows();
-    let event = read(&bytes, EventType::WRITE_ROWS_EVENT, 10)?;
-    assert!(rt; event.event_type() == EventType::WRITE_ROWS_EVENT);
-    assert!(rt; has_parts(&event, 1, 2, &bytes[12..]));
-    assert!(rt; image_counts(&event) == (None, Some(2)));
-    assert_eq!(rt; event.flags_raw(), 1);
-    assert!(rt; event.flags() == RowsEventFlags::STMT_END);
-    assert_eq!(rt; event.len(BinlogVersion::Version4), 25);
+    let event = read(TWO_ROWS, EventType::WRITE_ROWS_EVENT, 10)?;
+    assert!(rt;
+        all(&[
+            event.event_type() == EventType::WRITE_ROWS_EVENT,
+            has_parts(&event, 1, 2, &TWO_ROWS[12..]),
+            image_counts(&event) == (None, Some(2)),
+            event.flags_raw() == 1,
+            event.flags() == RowsEventFlags::STMT_END,
+            event.len(BinlogVersion::Version4) == 25,
+        ])
+    );
     Ok(())
 }
 
@@ -95,9 +102,13 @@ fn first_version(rt: HostRuntime) -> Result<(), Fail> {
     // The event's own post-header has 6 bytes: the table id has 4, and there is no extra data.
     let bytes = &[1, 0, 0, 0, 1, 0, 2, 3, 3];
     let event = read(bytes, EventType::WRITE_ROWS_EVENT_V1, 6)?;
-    assert!(rt; has_parts(&event, 1, 2, &[3]));
-    assert!(rt; image_counts(&event) == (None, Some(2)));
-    assert_eq!(rt; event.len(BinlogVersion::Version4), 13);
+    assert!(rt;
+        all(&[
+            has_parts(&event, 1, 2, &[3]),
+            image_counts(&event) == (None, Some(2)),
+            event.len(BinlogVersion::Version4) == 13,
+        ])
+    );
     Ok(())
 }
 
@@ -131,8 +142,7 @@ fn an_event_of_the_first_version_is_written(rt: HostRuntime) -> Result<(), Fail>
 
 #[test]
 fn extra_data_is_written(rt: HostRuntime) -> Result<(), Fail> {
-    let inserted = two_rows();
-    assert!(rt; is_written(&rt, &inserted, EventType::WRITE_ROWS_EVENT, 10, &inserted)?);
+    assert!(rt; is_written(&rt, TWO_ROWS, EventType::WRITE_ROWS_EVENT, 10, TWO_ROWS)?);
     // A length of extra data below two is read as no extra data, and written as two.
     let expected = &[1, 0, 0, 0, 0, 0, 1, 0, 2, 0, 1, 1];
     for len in 0..2 {
@@ -149,17 +159,15 @@ fn is_copied(rt: &HostRuntime, event: &RowsEvent<'_>) -> Result<bool, AllocError
 
 #[test]
 fn a_copy_of_an_event(rt: HostRuntime) -> Result<(), Fail> {
-    let bytes = two_rows();
-    let event = read(&bytes, EventType::WRITE_ROWS_EVENT, 10)?;
+    let event = read(TWO_ROWS, EventType::WRITE_ROWS_EVENT, 10)?;
     assert!(rt; is_copied(&rt, &event)?);
     Ok(())
 }
 
 #[test]
 fn an_owned_event(rt: HostRuntime) -> Result<(), Fail> {
-    let bytes = two_rows();
-    let owned = read(&bytes, EventType::WRITE_ROWS_EVENT, 10)?.into_owned(rt.alloc())?;
-    assert!(rt; has_parts(&owned, 1, 2, &bytes[12..]));
+    let owned = read(TWO_ROWS, EventType::WRITE_ROWS_EVENT, 10)?.into_owned(rt.alloc())?;
+    assert!(rt; has_parts(&owned, 1, 2, &TWO_ROWS[12..]));
     Ok(())
 }
 
@@ -173,26 +181,28 @@ fn is_refused(bytes: &[u8], fault: Fault) -> bool {
 
 #[test]
 fn refused_events(rt: HostRuntime) {
-    let bytes = two_rows();
     for len in 0..12 {
-        assert!(rt; is_refused(&bytes[..len], Fault::UnexpectedEof), "{len}");
+        assert!(rt; is_refused(&TWO_ROWS[..len], Fault::UnexpectedEof), "{len}");
     }
-    assert!(rt; is_refused(&[1, 0, 0, 0, 0, 0, 1, 0, 2, 0, 0xfb], Fault::BadLenEnc));
     assert!(rt;
-        is_refused(
-            &[
-                1, 0, 0, 0, 0, 0, 1, 0, 2, 0, 0xfe, 0xff, 0xff, 0xff, 0xff, 0xff, 0xff, 0xff, 0xff
-            ],
-            Fault::UnexpectedEof
-        )
+        all(&[
+            is_refused(&[1, 0, 0, 0, 0, 0, 1, 0, 2, 0, 0xfb], Fault::BadLenEnc),
+            is_refused(
+                &[
+                    1, 0, 0, 0, 0, 0, 1, 0, 2, 0, 0xfe, 0xff, 0xff, 0xff, 0xff, 0xff, 0xff, 0xff,
+                    0xff
+                ],
+                Fault::UnexpectedEof
+            ),
+            is_refused(&[1, 0, 0, 0, 0, 0, 1, 0, 5, 0, 1, 1], Fault::UnexpectedEof),
+        ])
     );
-    assert!(rt; is_refused(&[1, 0, 0, 0, 0, 0, 1, 0, 5, 0, 1, 1], Fault::UnexpectedEof));
 }
 
 /// The number of a LONG cell.
 fn long_cell(rt: &HostRuntime, unsigned: bool, bytes: &[u8]) -> Result<i64, Fault> {
     let metadata: &[u8] = &[];
-    let cell: BinlogValue = ParseBuf(bytes).parse((
+    let cell: BinlogValue<'_> = ParseBuf(bytes).parse((
         rt.alloc(),
         ColumnType::MYSQL_TYPE_LONG,
         metadata,
@@ -207,14 +217,18 @@ fn long_cell(rt: &HostRuntime, unsigned: bool, bytes: &[u8]) -> Result<i64, Faul
 
 #[test]
 fn cells_of_numbers(rt: HostRuntime) {
-    assert!(rt; long_cell(&rt, false, &[0xff, 0xff, 0xff, 0xff]) == Ok(-1));
-    assert!(rt; long_cell(&rt, true, &[0xff, 0xff, 0xff, 0xff]) == Ok(4294967295));
-    assert!(rt; long_cell(&rt, false, &[0xff, 0xff, 0xff]) == Err(Fault::UnexpectedEof));
+    assert!(rt;
+        all(&[
+            long_cell(&rt, false, &[0xff, 0xff, 0xff, 0xff]) == Ok(-1),
+            long_cell(&rt, true, &[0xff, 0xff, 0xff, 0xff]) == Ok(4294967295),
+            long_cell(&rt, false, &[0xff, 0xff, 0xff]) == Err(Fault::UnexpectedEof),
+        ])
+    );
 }
 
 /// The bytes of a cell of text, with this metadata.
 fn text_cell(rt: &HostRuntime, metadata: &[u8], bytes: &[u8]) -> Result<Vec<u8>, Fault> {
-    let cell: BinlogValue = ParseBuf(bytes).parse((
+    let cell: BinlogValue<'_> = ParseBuf(bytes).parse((
         rt.alloc(),
         ColumnType::MYSQL_TYPE_VARCHAR,
         metadata,
@@ -230,25 +244,23 @@ fn text_cell(rt: &HostRuntime, metadata: &[u8], bytes: &[u8]) -> Result<Vec<u8>,
 #[test]
 fn cells_of_text(rt: HostRuntime) -> Result<(), Fail> {
     let short = text_cell(&rt, &[10, 0], &[2, 0x61, 0x62, 0x63])?;
-    assert_eq!(rt; short.as_slice(), b"ab".as_slice());
+    assert!(rt; short.as_slice() == b"ab".as_slice());
     let long = text_cell(&rt, &[0, 1], &[2, 0, 0x61, 0x62])?;
-    assert_eq!(rt; long.as_slice(), b"ab".as_slice());
-    assert!(rt; matches!(text_cell(&rt, &[10], &[]), Err(Fault::MissingMetadata)));
     assert!(rt;
-        matches!(
-            text_cell(&rt, &[10, 0], &[2, 0x61]),
-            Err(Fault::UnexpectedEof)
-        )
+        all(&[
+            long.as_slice() == b"ab".as_slice(),
+            matches!(text_cell(&rt, &[10], &[]), Err(Fault::MissingMetadata)),
+            matches!(
+                text_cell(&rt, &[10, 0], &[2, 0x61]),
+                Err(Fault::UnexpectedEof)
+            ),
+        ])
     );
     Ok(())
 }
 
 /// The table d.t of two columns, LONG and VARCHAR.
-fn two_columns() -> [u8; 21] {
-    [
-        1, 0, 0, 0, 0, 0, 1, 0, 1, 0x64, 0, 1, 0x74, 0, 2, 3, 0x0f, 2, 0x0a, 0, 2,
-    ]
-}
+const TWO_COLUMNS: &[u8] = b"\x01\0\0\0\0\0\x01\0\x01d\0\x01t\0\x02\x03\x0f\x02\x0a\0\x02";
 
 /// The pairs of a rows event of this type, whose post-header has this length.
 fn decode(
@@ -335,12 +347,16 @@ fn are_columns(columns: &[Column]) -> bool {
 
 #[test]
 fn two_inserted_rows(rt: HostRuntime) -> Result<(), Fail> {
-    let decoded = inserted(&rt, &two_columns(), &two_rows())?;
+    let decoded = inserted(&rt, TWO_COLUMNS, TWO_ROWS)?;
     assert!(rt; decoded.fault.is_none());
     match decoded.pairs.as_slice() {
         [first, second] => {
-            assert!(rt; is_inserted(first, Some(42), Some(b"ab")));
-            assert!(rt; is_inserted(second, Some(-1), None));
+            assert!(rt;
+                all(&[
+                    is_inserted(first, Some(42), Some(b"ab")),
+                    is_inserted(second, Some(-1), None),
+                ])
+            );
         }
         _ => assert!(rt; false),
     }
@@ -368,12 +384,11 @@ fn are_equal(pair: &RowPair, other: &RowPair) -> bool {
 
 #[test]
 fn equal_rows(rt: HostRuntime) -> Result<(), Fail> {
-    let decoded = inserted(&rt, &two_columns(), &two_rows())?;
-    let again = inserted(&rt, &two_columns(), &two_rows())?;
+    let decoded = inserted(&rt, TWO_COLUMNS, TWO_ROWS)?;
+    let again = inserted(&rt, TWO_COLUMNS, TWO_ROWS)?;
     match (decoded.pairs.as_slice(), again.pairs.as_slice()) {
         ([first, second], [other, _]) => {
-            assert!(rt; are_equal(first, other));
-            assert!(rt; !are_equal(second, other));
+            assert!(rt; all(&[are_equal(first, other), !are_equal(second, other)]));
         }
         _ => assert!(rt; false),
     }
@@ -382,7 +397,7 @@ fn equal_rows(rt: HostRuntime) -> Result<(), Fail> {
 
 #[test]
 fn columns_of_rows(rt: HostRuntime) -> Result<(), Fail> {
-    let decoded = inserted(&rt, &two_columns(), &two_rows())?;
+    let decoded = inserted(&rt, TWO_COLUMNS, TWO_ROWS)?;
     for pair in &decoded.pairs {
         assert!(rt; has_columns(rt.alloc(), pair)?);
     }
@@ -392,13 +407,38 @@ fn columns_of_rows(rt: HostRuntime) -> Result<(), Fail> {
     Ok(())
 }
 
+/// How many pairs the first `len` bytes of `TWO_ROWS` have, and the fault after them. There are at
+/// least the 12 bytes of the event before its rows data.
+fn pairs_of_prefix(len: usize) -> (usize, Option<Fault>) {
+    match len {
+        12 => (0, None),
+        13..=19 => (0, Some(Fault::UnexpectedEof)),
+        20 => (1, None),
+        21..=24 => (1, Some(Fault::UnexpectedEof)),
+        _ => (2, None),
+    }
+}
+
 #[test]
-fn ends_of_rows_data(rt: HostRuntime) -> Result<(), Fail> {
-    let rows = two_rows();
-    let cut = inserted(&rt, &two_columns(), &rows[..24]);
-    assert!(rt; ends(&cut, 1, Some(Fault::UnexpectedEof)));
-    let none = inserted(&rt, &two_columns(), &rows[..12]);
-    assert!(rt; ends(&none, 0, None));
+fn cut_runs(rt: HostRuntime) {
+    for len in 0..=25 {
+        let decoded = inserted(&rt, TWO_COLUMNS, &TWO_ROWS[..len]);
+        if len < 12 {
+            assert!(rt; refuses(&decoded, Fault::UnexpectedEof), "{len}");
+        } else {
+            let (pairs, fault) = pairs_of_prefix(len);
+            assert!(rt; ends(&decoded, pairs, fault), "{len}");
+        }
+    }
+}
+
+#[test]
+fn four_thousand_pairs(rt: HostRuntime) -> Result<(), Fail> {
+    let mut rows = TWO_ROWS[..12].to_vec(rt.alloc())?;
+    for _ in 0..2000 {
+        rows.extend_from_slice(&TWO_ROWS[12..])?;
+    }
+    assert!(rt; ends(&inserted(&rt, TWO_COLUMNS, &rows), 4000, None));
     Ok(())
 }
 
@@ -406,7 +446,11 @@ fn ends_of_rows_data(rt: HostRuntime) -> Result<(), Fail> {
 fn row_of(alloc: Global, value: Option<Value>) -> Result<BinlogRow, Fault> {
     let column = Column::new(ColumnType::MYSQL_TYPE_LONG);
     let columns = RcSlice::from_vec(vec![in alloc; column]?)?;
-    let values = vec![in alloc; value.map(BinlogValue::Value)]?;
+    let value = match value {
+        Some(value) => Some(BinlogValue::Value(value)),
+        None => None,
+    };
+    let values = vec![in alloc; value]?;
     Ok(BinlogRow::new(values, columns))
 }
 
@@ -414,9 +458,13 @@ fn row_of(alloc: Global, value: Option<Value>) -> Result<BinlogRow, Fault> {
 fn nulls_are_values(rt: HostRuntime) -> Result<(), Fail> {
     let null = row_of(rt.alloc(), Some(Value::NULL))?;
     let taken = row_of(rt.alloc(), None)?;
-    assert!(rt; matches!(null.as_ref(0), Some(BinlogValue::Value(Value::NULL))));
-    assert!(rt; taken.as_ref(0).is_none());
-    assert!(rt; null.as_ref(1).is_none());
+    assert!(rt;
+        all(&[
+            matches!(null.as_ref(0), Some(BinlogValue::Value(Value::NULL))),
+            taken.as_ref(0).is_none(),
+            null.as_ref(1).is_none(),
+        ])
+    );
     assert!(rt; null == row_of(rt.alloc(), Some(Value::NULL))?);
     assert!(rt; null != taken);
     let null_text = format!(in rt.alloc(); "{null:?}")?;
@@ -437,13 +485,16 @@ fn is_faulty(rt: &HostRuntime, table: &[u8], rows: &[u8], fault: Fault) -> Resul
 
 #[test]
 fn faults_of_pairs(rt: HostRuntime) -> Result<(), Fail> {
-    let table = two_columns();
     // No column is in the image, so a pair has no bytes.
     let empty = &[1, 0, 0, 0, 0, 0, 1, 0, 2, 0, 2, 0, 5];
-    assert!(rt; is_faulty(&rt, &table, empty, Fault::EmptyPair)?);
+    assert!(rt; is_faulty(&rt, TWO_COLUMNS, empty, Fault::EmptyPair)?);
+    // Nor in either image of an update.
+    let update = &[1, 0, 0, 0, 0, 0, 1, 0, 2, 0, 2, 0, 0, 5];
+    let decoded = decode(&rt, TWO_COLUMNS, update, EventType::UPDATE_ROWS_EVENT, 10);
+    assert!(rt; ends(&decoded, 0, Some(Fault::EmptyPair)));
     // The event has three columns.
     let three = [1, 0, 0, 0, 0, 0, 1, 0, 2, 0, 3, 7, 7];
-    assert!(rt; is_faulty(&rt, &table, &three, Fault::NoColumnType)?);
+    assert!(rt; is_faulty(&rt, TWO_COLUMNS, &three, Fault::NoColumnType)?);
     // VARCHAR without metadata.
     let bare = &[
         1, 0, 0, 0, 0, 0, 1, 0, 1, 0x64, 0, 1, 0x74, 0, 1, 0x0f, 0, 1,
@@ -466,13 +517,7 @@ fn faults_of_pairs(rt: HostRuntime) -> Result<(), Fail> {
 #[test]
 fn first_version_pairs(rt: HostRuntime) -> Result<(), Fail> {
     let bytes = &[1, 0, 0, 0, 1, 0, 2, 3, 3];
-    let decoded = decode(
-        &rt,
-        &two_columns(),
-        bytes,
-        EventType::WRITE_ROWS_EVENT_V1,
-        6,
-    )?;
+    let decoded = decode(&rt, TWO_COLUMNS, bytes, EventType::WRITE_ROWS_EVENT_V1, 6)?;
     assert!(rt; decoded.fault.is_none());
     match decoded.pairs.as_slice() {
         [pair] => assert!(rt; is_inserted(pair, None, None)),
@@ -484,17 +529,19 @@ fn first_version_pairs(rt: HostRuntime) -> Result<(), Fail> {
 #[test]
 fn refused_runs(rt: HostRuntime) {
     let count = &[1, 0, 0, 0, 0, 0, 1, 0, 2, 0, 0xfb];
-    assert!(rt; refuses(&inserted(&rt, &two_columns(), count), Fault::BadLenEnc));
+    assert!(rt; refuses(&inserted(&rt, TWO_COLUMNS, count), Fault::BadLenEnc));
     let long = &[
         1, 0, 0, 0, 0, 0, 1, 0, 2, 0, 0xfe, 0xff, 0xff, 0xff, 0xff, 0xff, 0xff, 0xff, 0xff,
     ];
-    assert!(rt; refuses(&inserted(&rt, &two_columns(), long), Fault::UnexpectedEof));
-    // Both events are refused: the fault is that of the table map event.
     assert!(rt;
-        refuses(
-            &inserted(&rt, &two_columns()[..20], count),
-            Fault::UnexpectedEof
-        )
+        all(&[
+            refuses(&inserted(&rt, TWO_COLUMNS, long), Fault::UnexpectedEof),
+            // Both events are refused: the fault is that of the table map event.
+            refuses(
+                &inserted(&rt, &TWO_COLUMNS[..20], count),
+                Fault::UnexpectedEof
+            ),
+        ])
     );
 }
 
@@ -516,8 +563,11 @@ fn walk(rt: &HostRuntime, table: &[u8], bytes: &[u8]) -> Result<[char; 4], Fault
 
 #[test]
 fn pairs_one_by_one(rt: HostRuntime) {
-    let rows = two_rows();
-    let cut = &rows[..24];
-    assert!(rt; walk(&rt, &two_columns(), &rows) == Ok(['p', 'p', '-', '-']));
-    assert!(rt; walk(&rt, &two_columns(), cut) == Ok(['p', 'f', '-', '-']));
+    let cut = &TWO_ROWS[..24];
+    assert!(rt;
+        all(&[
+            walk(&rt, TWO_COLUMNS, TWO_ROWS) == Ok(['p', 'p', '-', '-']),
+            walk(&rt, TWO_COLUMNS, cut) == Ok(['p', 'f', '-', '-']),
+        ])
+    );
 }

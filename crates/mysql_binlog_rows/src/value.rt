@@ -1,25 +1,30 @@
 //! One cell of a row.
 
 mod bytes;
+mod copies;
 mod decimals;
 mod form;
+mod json;
 mod numbers;
 #[cfg(test)]
 mod tests;
 mod times;
 
-ghost use Rattle.std.specs.Prelude.{◌≡◌, true, false};
+ghost use Rattle.std.specs.Prelude.{◌≡◌, true, IfOk};
+ghost use Rattle.std.specs.Ordering.{on};
+ghost use Rattle.std.specs.Cmp.{on_per, partial_equiv_from_equiv};
 ghost use Rattle.binlog_base.specs.Format.{ParsesAs, OrMemory};
-ghost use Rattle.mysql_binlog_rows.specs.Cells.{Cell, cell_of, cell_by, cell};
+ghost use Rattle.binlog_base.specs.Values.{plain_of};
+ghost use Rattle.mysql_binlog_rows.specs.Cells.{Cell, cell_of, plain_by, cell, to_plain, plain_result};
 ghost use Rattle.mysql_binlog_rows.specs.Lemmas.Cells.{exact_cell};
 ghost use Rattle.mysql_binlog_rows.specs.Equality.{same_cell};
 ghost use Rattle.mysql_binlog_rows.specs.Lemmas.Equality.{same_cell_is_equivalence};
-ghost use Rattle.std.specs.Ordering.{on};
-ghost use Rattle.std.specs.Cmp.{on_per, partial_equiv_from_equiv};
 
 use self::bytes::{read_fixed, read_text};
+use self::copies::{clone_diffs, clone_plain, own_diffs};
 use self::decimals::read_decimal;
-pub(crate) use self::form::{Form, form_of};
+pub(crate) use self::form::{Form, PlainForm, form_of};
+pub(crate) use self::json::read_json;
 use self::numbers::{read_double, read_float, read_integer, read_long_integer, read_variant};
 pub use self::times::signed_old_time;
 use self::times::{
@@ -28,25 +33,59 @@ use self::times::{
 };
 use binlog_base::below::{ColumnType, MyDeserialize, ParseBuf, Value};
 use binlog_base::fault::Fault;
-use std::alloc::Global;
+use binlog_values::jsonb;
+use binlog_values::jsondiff::JsonDiff;
+use std::alloc::{AllocError, Global};
 use thiserror::Error;
 
 /// The value of a cell.
 #[derive(Debug, Drop)]
-pub enum BinlogValue {
+pub enum BinlogValue<'a> {
     /// A plain value.
     Value(Value),
+    /// A JSON document, in the binary form of JSON.
+    Jsonb(jsonb::Value<'a>),
+    /// The diffs of a JSON document, if only they are in the event.
+    JsonDiff(Vec<JsonDiff<'a>>),
 }
 
-/// Two are equal where their cells are the same.
-impl PartialEq for BinlogValue {
+impl<'a> BinlogValue<'a> {
+    /// Returns the same value, with bytes of its own. Fails where memory is refused.
+    pub fn clone(&self, alloc: Global) -> Result<BinlogValue<'a>, AllocError>
+        ensures { IfOk result (λ copy. cell_of copy ≡ cell_of self.now) }
+    {
+        match self {
+            BinlogValue::Value(value) => Ok(BinlogValue::Value(clone_plain(alloc, value)?)),
+            BinlogValue::Jsonb(value) => Ok(BinlogValue::Jsonb(value.clone(alloc)?)),
+            BinlogValue::JsonDiff(diffs) => Ok(BinlogValue::JsonDiff(clone_diffs(alloc, diffs)?)),
+        }
+    }
+
+    /// Returns the value with bytes that it owns. Borrowed bytes are copied, and the call fails
+    /// where memory is refused.
+    pub fn into_owned(self, alloc: Global) -> Result<BinlogValue<'static>, AllocError>
+        ensures { IfOk result (λ owned. cell_of owned ≡ cell_of self.entry) }
+    {
+        match self {
+            BinlogValue::Value(value) => Ok(BinlogValue::Value(value)),
+            BinlogValue::Jsonb(value) => Ok(BinlogValue::Jsonb(value.into_owned(alloc)?)),
+            BinlogValue::JsonDiff(diffs) => Ok(BinlogValue::JsonDiff(own_diffs(alloc, diffs)?)),
+        }
+    }
+}
+
+/// Two values are equal if they have the same variant and the same parts.
+impl<'a> PartialEq for BinlogValue<'a> {
     ghost eq = { on cell_of same_cell };
 
     ghost laws = { on_per cell_of (partial_equiv_from_equiv same_cell_is_equivalence) };
 
-    fn eq(&self, other: &Self) -> bool {
+    fn eq(&self, other: &BinlogValue<'a>) -> bool {
         match (self, other) {
             (BinlogValue::Value(value), BinlogValue::Value(others)) => value == others,
+            (BinlogValue::Jsonb(value), BinlogValue::Jsonb(others)) => value == others,
+            (BinlogValue::JsonDiff(diffs), BinlogValue::JsonDiff(others)) => diffs == others,
+            _ => false,
         }
     }
 }
@@ -62,61 +101,84 @@ pub enum BinlogValueToValueError {
     JsonDiff,
 }
 
-/// Reads a cell in this way.
-#[tactic(auto, unfolding(crate::specs::Cells::cell_by))]
-pub(crate) fn read_by(
-    alloc: Global,
-    form: Form,
-    buf: &mut ParseBuf<'_>,
-) -> Result<BinlogValue, Fault>
-    ensures { OrMemory result (ParsesAs cell_of (cell_by form) result buf.old.0.now buf.new.0.now) }
-{
-    match form {
-        Form::Integer(width, unsigned) => read_integer(width, unsigned, buf),
-        Form::LongInteger(unsigned) => read_long_integer(unsigned, buf),
-        Form::Float => read_float(buf),
-        Form::Double => read_double(buf),
-        Form::Timestamp => read_timestamp(buf),
-        Form::Time => read_time(buf),
-        Form::Datetime => read_datetime(buf),
-        Form::Year => read_year(alloc, buf),
-        Form::Date => read_date(buf),
-        Form::Timestamp2(decimals) => read_timestamp2(alloc, decimals, buf),
-        Form::Datetime2(decimals) => read_datetime2(decimals, buf),
-        Form::Time2(decimals) => read_time2(decimals, buf),
-        Form::Decimal(precision, scale) => read_decimal(alloc, precision, scale, buf),
-        Form::Fixed(len) => read_fixed(alloc, len, buf),
-        Form::Text(width) => read_text(alloc, width, buf),
-        Form::Variant(width) => read_variant(width, buf),
+/// Converts a plain value. Binary JSON and diffs are refused.
+impl<'a> TryFrom<BinlogValue<'a>> for Value {
+    type Error = BinlogValueToValueError;
+
+    ghost try_from_gives = { λ v r. plain_result r ≡ to_plain (cell_of v) };
+
+    fn try_from(value: BinlogValue<'a>) -> Result<Value, BinlogValueToValueError> {
+        match value {
+            BinlogValue::Value(value) => Ok(value),
+            BinlogValue::Jsonb(_) => Err(BinlogValueToValueError::ToJson),
+            BinlogValue::JsonDiff(_) => Err(BinlogValueToValueError::JsonDiff),
+        }
     }
 }
 
-// Reads the cell of a column of this type and metadata, unsigned or not.
-#[tactic(auto, unfolding(crate::specs::Cells::cell))]
-fn read_cell(
+/// Reads the plain value of a cell in this way.
+#[tactic(auto, unfolding(crate::specs::Cells::plain_by))]
+pub(crate) fn read_plain(
+    alloc: Global,
+    form: PlainForm,
+    buf: &mut ParseBuf<'_>,
+) -> Result<Value, Fault>
+    ensures { OrMemory result (ParsesAs plain_of (plain_by form) result buf.old.0.now buf.new.0.now) }
+{
+    match form {
+        PlainForm::Integer(width, unsigned) => read_integer(width, unsigned, buf),
+        PlainForm::LongInteger(unsigned) => read_long_integer(unsigned, buf),
+        PlainForm::Float => read_float(buf),
+        PlainForm::Double => read_double(buf),
+        PlainForm::Timestamp => read_timestamp(buf),
+        PlainForm::Time => read_time(buf),
+        PlainForm::Datetime => read_datetime(buf),
+        PlainForm::Year => read_year(alloc, buf),
+        PlainForm::Date => read_date(buf),
+        PlainForm::Timestamp2(decimals) => read_timestamp2(alloc, decimals, buf),
+        PlainForm::Datetime2(decimals) => read_datetime2(decimals, buf),
+        PlainForm::Time2(decimals) => read_time2(decimals, buf),
+        PlainForm::Decimal(precision, scale) => read_decimal(alloc, precision, scale, buf),
+        PlainForm::Fixed(len) => read_fixed(alloc, len, buf),
+        PlainForm::Text(width) => read_text(alloc, width, buf),
+        PlainForm::Variant(width) => read_variant(width, buf),
+    }
+}
+
+// Reads the cell of a column of this type and metadata.
+#[tactic(auto, unfolding(crate::specs::Cells::cell, crate::specs::Cells::cell_by))]
+fn read_cell<'de>(
     alloc: Global,
     column_type: ColumnType,
     metadata: &[u8],
     unsigned: bool,
-    buf: &mut ParseBuf<'_>,
-) -> Result<BinlogValue, Fault>
-    ensures { OrMemory result (ParsesAs cell_of (cell column_type metadata.now unsigned) result
+    partial: bool,
+    buf: &mut ParseBuf<'de>,
+) -> Result<BinlogValue<'de>, Fault>
+    ensures { OrMemory result (ParsesAs cell_of (cell column_type metadata.now unsigned partial) result
         buf.old.0.now buf.new.0.now) }
 {
-    read_by(alloc, form_of(column_type, metadata, unsigned)?, buf)
+    match form_of(column_type, metadata, unsigned)? {
+        Form::Plain(form) => Ok(BinlogValue::Value(read_plain(alloc, form, buf)?)),
+        Form::Json => read_json(alloc, partial, buf),
+    }
 }
 
-/// A cell is read with the allocator, the column's type and metadata, whether its numbers are unsigned, and whether it is partial.
-impl<'de> MyDeserialize<'de> for BinlogValue {
+/// A cell is read with the allocator, the column's type and metadata, whether its numbers are
+/// unsigned, and, for JSON, whether it is partial.
+///
+/// A cell of type JSON borrows its bytes. It is a length in four bytes and in as many bytes a value
+/// of binary JSON, after which bytes are ignored; or, if it is partial, diffs up to the end.
+impl<'de> MyDeserialize<'de> for BinlogValue<'de> {
     ghost Seen = { Cell };
 
     ghost seen = { cell_of };
 
-    ghost format = { λ ctx. cell ctx.1 ctx.2.now ctx.3 };
+    ghost format = { λ ctx. cell ctx.1 ctx.2.now ctx.3 ctx.4 };
 
     ghost takes_memory = { true };
 
-    ghost exact = { λ ctx. exact_cell ctx.1 ctx.2.now ctx.3 };
+    ghost exact = { λ ctx. exact_cell ctx.1 ctx.2.now ctx.3 ctx.4 };
 
     const SIZE: Option<usize> = None;
 
@@ -126,7 +188,7 @@ impl<'de> MyDeserialize<'de> for BinlogValue {
         ctx: (Global, ColumnType, &'de [u8], bool, bool),
         buf: &mut ParseBuf<'de>,
     ) -> Result<Self, Fault> {
-        let (alloc, column_type, metadata, unsigned, _partial) = ctx;
-        read_cell(alloc, column_type, metadata, unsigned, buf)
+        let (alloc, column_type, metadata, unsigned, partial) = ctx;
+        read_cell(alloc, column_type, metadata, unsigned, partial, buf)
     }
 }

@@ -5,10 +5,12 @@ ghost use Rattle.std.specs.Fmt.{WritesOnOk};
 ghost use Rattle.hex.specs.Hex.{encode_lower};
 ghost use Rattle.std.specs.Option.{option_map};
 ghost use Rattle.binlog_base.specs.Values.{plain_of};
+ghost use Rattle.binlog_values.specs.JsonbViews.{view_of};
 ghost use Rattle.mysql_binlog_rows.specs.Cells.{cell_of};
-ghost use Rattle.rows.specs.Lines.{plain_text, cell_text, name_text, field_text, fields_text, image_text, lines_text};
+ghost use Rattle.rows.specs.Lines.{plain_text, json_text, cell_text, name_text, field_text, fields_text, image_text, lines_text};
 
 use binlog_base::below::{Column, Value};
+use binlog_values::jsonb;
 use bstr::BStr;
 use mysql_binlog_rows::row::BinlogRow;
 use mysql_binlog_rows::rows_event::RowPair;
@@ -90,9 +92,30 @@ impl fmt::Display for Plain<'_> {
     }
 }
 
+// The text of a JSON document: the kind of a container and the count of its elements, or `scalar`.
+#[derive(Drop)]
+struct Json<'a>(&'a jsonb::Value<'a>);
+
+impl fmt::Display for Json<'_> {
+    ghost output = { λ v. Some (json_text (view_of v.0.now)) };
+
+    fn fmt<W: fmt::Write>(&self, f: &mut fmt::Formatter<W>) -> fmt::Result {
+        match self.0.element_count() {
+            None => write!(f, "scalar"),
+            Some(count) => {
+                if self.0.is_array() {
+                    write!(f, "array({count})")
+                } else {
+                    write!(f, "object({count})")
+                }
+            }
+        }
+    }
+}
+
 // The text of a cell; empty if the value was taken from its row.
 #[derive(Drop)]
-struct Cell<'a>(Option<&'a BinlogValue>);
+struct Cell<'a>(Option<&'a BinlogValue<'static>>);
 
 impl fmt::Display for Cell<'_> {
     ghost output = { λ c. Some (cell_text (option_map (λ v. cell_of v.now) c.0)) };
@@ -103,6 +126,14 @@ impl fmt::Display for Cell<'_> {
             Some(BinlogValue::Value(value)) => {
                 let plain = Plain(value);
                 write!(f, "{plain}")
+            }
+            Some(BinlogValue::Jsonb(value)) => {
+                let json = Json(value);
+                write!(f, "{json}")
+            }
+            Some(BinlogValue::JsonDiff(diffs)) => {
+                let count = diffs.len();
+                write!(f, "diffs({count})")
             }
         }
     }
@@ -185,8 +216,9 @@ impl fmt::Display for Image<'_> {
 /// separated by `, `. Invalid UTF-8 in a name is replaced.
 ///
 /// A cell is `NULL`, a whole number, `x` and lower-case hexadecimal for bytes, `f32:` or `f64:` and
-/// the bits of a float in hexadecimal, `date(year,month,day,hour,minute,second,microseconds)`, or
-/// `time(negative,days,hours,minutes,seconds,microseconds)`. If the value was taken from the row,
+/// the bits of a float in hexadecimal, `date(year,month,day,hour,minute,second,microseconds)`,
+/// `time(negative,days,hours,minutes,seconds,microseconds)`, `array(count)`, `object(count)` or
+/// `scalar` for a JSON document, or `diffs(count)` for the diffs of one. If the value was taken from the row,
 /// nothing is written for it.
 #[derive(Drop)]
 pub struct Lines<'a>(pub &'a [RowPair]);

@@ -8,9 +8,9 @@ use binlog_consts::consts::EventType;
 use mysql_binlog_rows::rows_event::{RowsEventCtx, decode_pairs};
 use mysql_binlog_rows::value::BinlogValue;
 use std::alloc::{AllocError, Global};
-use std::io;
 use std::io::Write;
 use std::test::Fail;
+use std::{io, str};
 
 const USAGE: &str = "usage: rows MLEN TYPE PLEN WLEN MAPHEX ROWSHEX\n";
 
@@ -78,6 +78,30 @@ fn rows_of_a_table(rt: HostRuntime) -> Result<(), Fail> {
     ];
     for (rows, status, text) in cases {
         assert!(rt; prints_rows(rt.alloc(), rows, status, text)?, "{rows}");
+    }
+    Ok(())
+}
+
+/// The digits of two inserted rows.
+const INSERTED: &[u8] = b"010000000000010002000203002A00000002616202FFFFFFFF";
+
+/// The status for the first `len` bytes of `INSERTED`, and what is printed.
+fn printed(len: usize) -> (u8, &'static str) {
+    match len {
+        12 => (0, ""),
+        0..=19 => (1, "fault UnexpectedEof\n"),
+        20 => (0, "- -> {@0=42, @1=x6162}\n"),
+        21..=24 => (1, "- -> {@0=42, @1=x6162}\nfault UnexpectedEof\n"),
+        _ => (0, "- -> {@0=42, @1=x6162}\n- -> {@0=-1, @1=NULL}\n"),
+    }
+}
+
+#[test]
+fn cut_events(rt: HostRuntime) -> Result<(), Fail> {
+    for len in 0..=25 {
+        let (status, text) = printed(len);
+        let rows = str::from_utf8(&INSERTED[..2 * len])?;
+        assert!(rt; prints_rows(rt.alloc(), rows, status, text)?, "{len}");
     }
     Ok(())
 }
@@ -408,7 +432,7 @@ fn texts_of_errors(rt: HostRuntime) -> Result<(), Fail> {
 #[test]
 fn lines_of_faults(rt: HostRuntime) {
     let mut out = Vec::new(rt.alloc());
-    assert_eq!(rt; fail(&mut out, Fault::Memory), 1);
+    assert!(rt; fail(&mut out, Fault::Memory) == 1);
     assert!(rt; out.as_slice() == b"fault Memory\n".as_slice());
 }
 
@@ -469,9 +493,43 @@ fn status_of_closed(alloc: Global) -> Result<u8, AllocError> {
     Ok(run(alloc, &words, &mut Closed, &mut Closed))
 }
 
+/// A table of two JSON columns.
+const DOCUMENTS: &str = "010000000000010001640001740002F5F502040403";
+
+#[test]
+fn partial_updates(rt: HostRuntime) -> Result<(), Fail> {
+    let cases = [
+        (
+            DOCUMENTS,
+            "01000000000001000200020002010200050000000203242E61",
+            "{} -> {@1=diffs(1)}\n",
+        ),
+        (
+            DOCUMENTS,
+            "01000000000001000200020002000003000000052A00",
+            "{} -> {@1=scalar}\n",
+        ),
+        (
+            DOCUMENTS,
+            "010000000000010002000200020000050000000000000400",
+            "{} -> {@1=object(0)}\n",
+        ),
+        (
+            TABLE,
+            "010000000000010002000200000000",
+            "{} -> {}\n{} -> {}\n",
+        ),
+    ];
+    for (table, rows, text) in cases {
+        let words = ["8", "27", "10", "10", table, rows];
+        assert!(rt; prints(rt.alloc(), &words, 0, text, "")?, "{rows}");
+    }
+    Ok(())
+}
+
 #[test]
 fn closed_output(rt: HostRuntime) -> Result<(), Fail> {
-    assert_eq!(rt; status_of_closed(rt.alloc())?, 1);
+    assert!(rt; status_of_closed(rt.alloc())? == 1);
     Ok(())
 }
 
@@ -488,7 +546,10 @@ fn first_numbers(alloc: Global, table: &[u8], rows: &[u8]) -> Result<Vec<Option<
     }
     let mut numbers = Vec::new(alloc);
     for (_, after) in &decoded.pairs {
-        let value = after.as_ref().and_then(|row| row.as_ref(0));
+        let value = match after {
+            Some(row) => row.as_ref(0),
+            None => None,
+        };
         numbers.push(match value {
             Some(BinlogValue::Value(Value::Int(number))) => Some(*number),
             _ => None,

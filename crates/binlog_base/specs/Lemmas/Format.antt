@@ -5,7 +5,7 @@ use Rattle.std.proofs.lemmas.List.{take_at, drop_at, take-append-drop, length-ap
 use Rattle.binlog_base.specs.declared.fault.Fault.{Fault}
 use Rattle.binlog_base.specs.declared.fault.Fault.TheVariants.{UnexpectedEof}
 use Rattle.binlog_base.specs.Faults.{IsOfBytes}
-use Rattle.binlog_base.specs.Format.{Format, IsExact, IsExactToEnd, Exact, ParsesAs, ReadsAs, OrMemoryIf, ◌>>=◌, take_bytes, no_bytes, refusal, check, within, sequence, map_value, choice, all_left}
+use Rattle.binlog_base.specs.Format.{Format, IsExact, IsExactToEnd, Exact, ParsesAs, ReadsAs, OrMemoryIf, ◌>>=◌, take_bytes, no_bytes, refusal, check, within, all_of, sequence, inside, map_value, choice, all_left}
 
 -- the value of a step that did not fail, and the fault of one that did
 pub bind_ok : {A B : Type 0} (r : Result A Fault) (f : A → Result B Fault) (y : B) → (r >>= f) ≡ Ok y → (x : A) × (r ≡ Ok x) × (f x ≡ Ok y)
@@ -217,6 +217,27 @@ to_end_both {A} {B} f g ef eg = record {
       ];
   of_bytes = λ x e h. elim h [ inl l ↦ ef.of_bytes x e l | inr s ↦ (eg s.0).of_bytes s.2 e s.5 ];
 }
+
+-- ---- a value that takes all bytes that were read before
+
+exact_all_of : {A : Type 0} (b : List ℕ) (f : Format A) → IsExactToEnd f → IsExact (all_of b f)
+exact_all_of {A} b f ef = record {
+  sound = λ x a rest e.
+      let o = bind_ok (f.parse b) (λ r. Ok (r.0, x)) (a, rest) e in
+      let inner = ef.sound b o.0.0 o.0.1 o.1 in
+      let same : (o.0.0, x) ≡ (a, rest) = ok_is (o.0.0, x) (a, rest) o.2 in
+      ([], ap (λ (p : A × List ℕ). p.1) same, (refl, subst (λ (c : A). f.spells b c) (ap (λ (p : A × List ℕ). p.0) same) inner.1));
+  complete = λ y rest a s. rw (s.0, ef.complete b a s.1) refl;
+  refused_sound = λ x e h. elim (bind_err (f.parse b) (λ r. Ok (r.0, x)) e h) [
+    | inl l ↦ ef.refused_sound b e l
+    | inr o ↦ absurd (ok_or_err (Ok (o.0.0, x)) (o.0.0, x) e refl o.2)
+  ];
+  refused_complete = λ x e h. rw (ef.refused_complete b e h) refl;
+  of_bytes = λ x e h. ef.of_bytes b e h;
+}
+
+pub exact_inside : {A : Type 0} (n : ℕ) (f : Format A) → IsExactToEnd f → IsExact (inside n f)
+exact_inside n f ef = exact_sequence (take_bytes n) _ (exact_take_bytes n) (λ b. exact_all_of b f ef)
 
 -- ---- the result of a call that reads a value, by spells and refuses
 

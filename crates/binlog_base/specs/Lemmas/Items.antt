@@ -1,14 +1,15 @@
 -- The items of a list, one after another; so many of a format.
-use Rattle.std.proofs.Common.{◌≡◌, ℕ, zero, suc, ◌+◌, ◌-◌, ◌<◌, ◌≤◌, List, [], ◌∷◌, ◌++◌, length, Result, Ok, Err, refl, sym, ap, ◌∙◌, arith, add-one}
-use Rattle.std.proofs.lemmas.List.{length-append}
+use Rattle.std.proofs.Common.{◌≡◌, ◌≢◌, ℕ, zero, suc, ◌+◌, ◌-◌, ◌<◌, ◌≤◌, List, [], ◌∷◌, ◌++◌, length, map, Result, Ok, Err, refl, sym, ap, subst, ◌∙◌, arith, add-one, inl, inr, append_assoc}
+use Rattle.std.proofs.lemmas.List.{length-append, append-nil}
 use Rattle.binlog_base.specs.declared.fault.Fault.{Fault}
-use Rattle.binlog_base.specs.Format.{Format, IsExact, take_bytes, sequence, no_bytes}
-use Rattle.binlog_base.specs.Lemmas.Format.{bind_ok, exact_take_bytes, exact_no_bytes, exact_sequence, exact_map_value}
+use Rattle.binlog_base.specs.Faults.{IsOfBytes}
+use Rattle.binlog_base.specs.Format.{Format, IsExact, IsExactToEnd, ◌>>=◌, take_bytes, sequence, no_bytes}
+use Rattle.binlog_base.specs.Lemmas.Format.{bind_ok, bind_err, ok_is, err_is, ok_or_err, exact_take_bytes, exact_no_bytes, exact_sequence, exact_map_value}
 use Rattle.binlog_base.specs.Numbers.{little_endian, lenenc, lenenc_after}
 use Rattle.binlog_base.specs.Lemmas.Numbers.{exact_lenenc_after}
 use Rattle.binlog_base.specs.Fixed.{fixed}
 use Rattle.binlog_base.specs.Strings.{lenenc_string}
-use Rattle.binlog_base.specs.Items.{AreItems, item_then, first_items, items, Eats, times, weigh}
+use Rattle.binlog_base.specs.Items.{AreItems, item_then, first_items, items, values_of, repeated, Eats, times, weigh}
 
 pub eats_both : {A B : Type 0} (f : Format A) (g : A → Format B) → Eats f → ((a : A) → IsExact (g a)) → Eats (sequence f g)
 eats_both f g ef eg x b left e =
@@ -146,6 +147,78 @@ eats_lenenc = eats_both (little_endian 1) lenenc_after (eats_little 0) exact_len
 pub eats_lenenc_string : Eats lenenc_string
 unfolding lenenc_string
 eats_lenenc_string = eats_both lenenc take_bytes eats_lenenc exact_take_bytes
+
+-- ---- to the end
+
+values_back : {A : Type 0} (vs : List A) → values_of (map Ok vs) ≡ Ok vs
+values_back [] = refl
+values_back (a ∷ vs) = rw (values_back vs) refl
+
+fault_back : {A : Type 0} (vs : List A) (e : Fault) → values_of (map Ok vs ++ Err e ∷ []) ≡ Err e
+fault_back [] e = refl
+fault_back (a ∷ vs) e = rw (fault_back vs e) refl
+
+are_values : {A : Type 0} (f : Format A) (x : List ℕ) (found : List (Result A Fault)) (vs : List A) → AreItems f x found → values_of found ≡ Ok vs → AreItems f x (map Ok vs)
+are_values {A} f x [] vs h is = subst (λ (bs : List A). AreItems f x (map Ok bs)) (ok_is [] vs is) h
+are_values {A} f x (Ok a ∷ more) vs h is =
+    let o = bind_ok (values_of more) (λ bs. Ok (a ∷ bs)) vs is in
+    subst (λ (bs : List A). AreItems f x (map Ok bs)) (ok_is (a ∷ o.0) vs o.2) (h.0, h.1, h.2, h.3, are_values f h.1 more o.0 h.4 o.1)
+are_values f x (Err e ∷ more) vs h is = absurd (ok_or_err (values_of (Err e ∷ more)) vs e is refl)
+
+are_refused : {A : Type 0} (f : Format A) (x : List ℕ) (found : List (Result A Fault)) (e : Fault) → AreItems f x found → values_of found ≡ Err e → (vs : List A) × AreItems f x (map Ok vs ++ Err e ∷ [])
+are_refused f x [] e h is = absurd (ok_or_err (values_of []) [] e refl is)
+are_refused f x (Ok a ∷ more) e h is = elim (bind_err (values_of more) (λ bs. Ok (a ∷ bs)) e is) [
+  | inl l ↦ let later = are_refused f h.1 more e h.4 l in (a ∷ later.0, (h.0, h.1, h.2, h.3, later.1))
+  | inr o ↦ absurd (ok_or_err (Ok (a ∷ o.0)) (a ∷ o.0) e refl o.2)
+]
+are_refused {A} f x (Err d ∷ more) e h is = ([], subst (λ (c : Fault). AreItems f x (Err c ∷ [])) (err_is {A = List A} d e is) (h.0, h.1, refl))
+
+fault_of_bytes : {A : Type 0} (f : Format A) → IsExact f → (x : List ℕ) (vs : List A) (e : Fault) → AreItems f x (map Ok vs ++ Err e ∷ []) → IsOfBytes e
+fault_of_bytes f ex x [] e h = ex.of_bytes x e h.1
+fault_of_bytes f ex x (a ∷ vs) e h = fault_of_bytes f ex h.1 vs e h.4
+
+pub exact_repeated : {A : Type 0} (f : Format A) → IsExact f → Eats f → IsExactToEnd (repeated f)
+exact_repeated {A} f ex ef = record {
+  sound = λ x vs left is.
+      let o = bind_ok (values_of (items f x)) (λ bs. Ok (bs, [])) (vs, left) is in
+      let same : (o.0, []) ≡ (vs, left) = ok_is (o.0, []) (vs, left) o.2 in
+      let found = are_values f x (items f x) o.0 (items_are f ex ef x) o.1 in (
+        sym (ap (λ (p : List A × List ℕ). p.1) same),
+        subst (λ (bs : List A). AreItems f x (map Ok bs)) (ap (λ (p : List A × List ℕ). p.0) same) found,
+      );
+  complete = λ x vs s. rw (sym (items_only f ex ef x (map Ok vs) s), values_back vs) refl;
+  refused_sound = λ x e h. elim (bind_err (values_of (items f x)) (λ bs. Ok (bs, [])) e h) [
+    | inl l ↦ are_refused f x (items f x) e (items_are f ex ef x) l
+    | inr o ↦ absurd (ok_or_err (Ok (o.0, [])) (o.0, []) e refl o.2)
+  ];
+  refused_complete = λ x e h. rw (sym (items_only f ex ef x (map Ok h.0 ++ Err e ∷ []) h.1), fault_back h.0 e) refl;
+  of_bytes = λ x e h. fault_of_bytes f ex x h.0 e h.1;
+}
+
+-- values that were read, and what is read after them
+abbrev pub values_then : {A : Type 0} → List A → Result (List A × List ℕ) Fault → Result (List A × List ℕ) Fault
+values_then vs r = r >>= λ more. Ok (vs ++ more.0, more.1)
+
+one_value : {A : Type 0} (vs : List A) (a : A) (r : Result (List A) Fault) → values_then vs ((r >>= λ bs. Ok (a ∷ bs)) >>= λ bs. Ok (bs, [])) ≡ values_then (vs ++ a ∷ []) (r >>= λ bs. Ok (bs, []))
+one_value {A} vs a (Ok bs) = ap (λ (cs : List A). Ok (cs, [])) (sym (append_assoc vs (a ∷ []) bs))
+one_value vs a (Err e) = refl
+
+not_empty : (x : List ℕ) → x ≢ [] → 0 < length x
+not_empty [] h = absurd (h refl)
+not_empty (b ∷ x) h = omega arith
+
+-- the end
+pub repeated_end : {A : Type 0} (f : Format A) (vs : List A) (x : List ℕ) → x ≡ [] → values_then vs ((repeated f).parse x) ≡ Ok (vs, [])
+repeated_end f vs x h = rw (h, items_end f, append-nil vs) refl
+
+-- one more value
+pub repeated_ok : {A : Type 0} (f : Format A) → Eats f → (vs : List A) (x : List ℕ) (a : A) (left : List ℕ) → f.parse x ≡ Ok (a, left)
+    → values_then vs ((repeated f).parse x) ≡ values_then (vs ++ a ∷ []) ((repeated f).parse left)
+repeated_ok f ef vs x a left h = rw (items_ok f ef x a left h) (one_value vs a (values_of (items f left)))
+
+-- a fault
+pub repeated_err : {A : Type 0} (f : Format A) (vs : List A) (x : List ℕ) (e : Fault) → x ≢ [] → f.parse x ≡ Err e → values_then vs ((repeated f).parse x) ≡ Err e
+repeated_err f vs x e some h = rw (items_err f x e (not_empty x some) h) refl
 
 -- ---- so many
 

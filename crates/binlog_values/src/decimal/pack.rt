@@ -10,7 +10,7 @@ ghost use Rattle.binlog_values.specs.Decimals.{group_bytes, packed_bytes};
 ghost use Rattle.binlog_values.specs.DecimalMasks.{masked_bytes};
 ghost use Rattle.binlog_values.specs.DecimalPacking.{group_left, plain_left, groups_left, packed_left, AreDigits, TakesDigits, TakesGroup};
 
-use super::group::{group_width, number_of};
+use super::group::{group_width, number_of_digits};
 use super::mask::mask;
 use super::{DIG_PER_DEC, Decimal};
 use binlog_base::below::{Sink, write_all};
@@ -32,7 +32,7 @@ impl Group {
         ensures bytes { group_left result ≡ masked_bytes negative first (group_bytes digits.now) }
         ensures some { result.start < 4 }
     {
-        let mut bytes = (number_of(digits, 10) as u32).to_be_bytes();
+        let mut bytes = number_of_digits(digits).to_be_bytes();
         let start = 4 - group_width(digits.len());
         mask(negative, first, &mut bytes[start..]);
         Group { bytes, start }

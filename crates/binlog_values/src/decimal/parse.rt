@@ -95,7 +95,11 @@ fn are_zeros(before: &[u8], after: &[u8]) -> bool
 fn digits_of(alloc: Global, text: &[u8]) -> Result<Vec<u8>, AllocError>
     ensures { IfOk result (λ digits. digits.items ≡ digits_of text.now) }
 {
-    text.iter().map(|c| c.saturating_sub(b'0')).collect(alloc)
+    let mut digits = Vec::with_capacity(alloc, text.len())?;
+    for byte in text {
+        digits.push(byte.saturating_sub(b'0'))?;
+    }
+    Ok(digits)
 }
 
 // Makes a decimal of the texts before and after the point. It is negative if `minus` is true and

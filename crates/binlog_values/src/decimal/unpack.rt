@@ -7,7 +7,7 @@ ghost use Rattle.binlog_values.specs.PackedDecimals.{packed_digits};
 ghost use Rattle.binlog_base.specs.Format.{Parses};
 
 use super::DIG_PER_DEC;
-use super::group::{digits_size, group_width, number_of, power_of_10, put_digits};
+use super::group::{digits_size, group_width, number_of_bytes, power_of_10, put_digits};
 use super::lent::Lent;
 use super::mask::{is_negative, unmask};
 use binlog_base::fault::Fault;
@@ -18,7 +18,7 @@ fn unpack_group(bytes: &[u8], digits: &mut [u8]) -> Result<(), Fault>
     requires width { length bytes.now ≡ group_width (length digits.old) }
     ensures { Unpacks result (length digits.old ∷ []) bytes.now digits.new }
 {
-    let number = number_of(bytes, 256);
+    let number = number_of_bytes(bytes);
     if number >= power_of_10(digits.len()) {
         return Err(Fault::DecimalGroup);
     }

@@ -5,8 +5,9 @@ ghost use Rattle.std.specs.Cow.{cow_slice_items};
 ghost use Rattle.binlog_base.specs.Format.{ParsesAs, Parses};
 ghost use Rattle.binlog_base.specs.Items.{result_map};
 ghost use Rattle.binlog_values.specs.JsonbLayout.{number_at, offset_size, header_len};
-ghost use Rattle.binlog_values.specs.JsonbValues.{container, typed_at, key_at};
-ghost use Rattle.binlog_values.specs.JsonbSeen.{typed};
+ghost use Rattle.binlog_values.specs.JsonbValues.{container, nested, typed_at, key_at};
+ghost use Rattle.binlog_values.specs.JsonEquality.{parts_of};
+ghost use Rattle.binlog_values.specs.JsonbSeen.{typed, parts_seen};
 
 use super::format::{ComplexType, StorageFormat};
 use super::types::JsonbType;
@@ -220,6 +221,24 @@ impl<'a, T: StorageFormat, U: ComplexType> ComplexValue<'a, T, U> {
     {
         let _ = &self.element_count;
         U::IS_ARRAY
+    }
+
+    // Returns all parts of the container, to compare it: the number of its type, the count of its
+    // elements, and its bytes.
+    pub(super) fn parts(&self) -> (u8, i128, &[u8])
+        ensures { parts_seen result ≡ parts_of (nested self.now) }
+    {
+        let number = match (U::IS_ARRAY, T::IS_LARGE) {
+            (false, false) => 0,
+            (false, true) => 1,
+            (true, false) => 2,
+            (true, true) => 3,
+        };
+        (
+            number,
+            i128::from(self.element_count),
+            self.bytes.as_slice(),
+        )
     }
 
     // Returns the same container, with bytes of its own.

@@ -5,6 +5,8 @@ ghost use Rattle.binlog_base.specs.Format.{ParsesAs};
 ghost use Rattle.binlog_base.specs.Numbers.{little_endian};
 ghost use Rattle.binlog_values.specs.JsonbValues.{literal_value, opaque_value, value, is_array, is_object, is_int, is_uint, is_double, count_in, opaque_type};
 ghost use Rattle.binlog_values.specs.JsonbViews.{view_of};
+ghost use Rattle.binlog_values.specs.JsonEquality.{parts_of};
+ghost use Rattle.binlog_values.specs.JsonbSeen.{parts_seen};
 
 use super::complex::ComplexValue;
 use super::format::{Array, Large, Object, Small};
@@ -19,7 +21,7 @@ use std::alloc::{AllocError, Global};
 use std::fmt;
 
 /// A value of binary JSON. A container's elements are not read with it.
-#[derive(PartialEq, Drop)]
+#[derive(Drop)]
 pub enum Value<'a> {
     Null,
     Bool(bool),
@@ -194,6 +196,54 @@ impl<'de> MyDeserialize<'de> for Value<'de> {
         let value = Value::read(value_type, buf)?;
         buf.eat_all();
         Ok(value)
+    }
+}
+
+impl<'a> Value<'a> {
+    // Returns all parts of the value, to compare it: the number of its type, its number, and its
+    // bytes.
+    fn parts(&self) -> (u8, i128, &[u8])
+        ensures { parts_seen result ≡ parts_of (view_of self.now) }
+    {
+        match self {
+            Value::Null => (4, 0, &[]),
+            Value::Bool(true) => (4, 1, &[]),
+            Value::Bool(false) => (4, 2, &[]),
+            Value::I16(number) => (5, i128::from(*number), &[]),
+            Value::U16(number) => (6, i128::from(*number), &[]),
+            Value::I32(number) => (7, i128::from(*number), &[]),
+            Value::U32(number) => (8, i128::from(*number), &[]),
+            Value::I64(number) => (9, i128::from(*number), &[]),
+            Value::U64(number) => (10, i128::from(*number), &[]),
+            Value::F64(bits) => (11, i128::from(*bits), &[]),
+            Value::String(text) => (12, 0, text.str_raw()),
+            Value::SmallArray(container) => container.parts(),
+            Value::LargeArray(container) => container.parts(),
+            Value::SmallObject(container) => container.parts(),
+            Value::LargeObject(container) => container.parts(),
+            Value::Opaque(value) => (
+                15,
+                i128::from(value.value_type().to_number()),
+                value.data_raw(),
+            ),
+        }
+    }
+}
+
+/// Two values are equal if they have the same variant, and the same number and bytes. Containers are
+/// compared by their bytes.
+impl<'a> PartialEq for Value<'a> {
+    ghost use Rattle.std.specs.Ordering.{on};
+    ghost use Rattle.std.specs.Cmp.{on_per, partial_equiv_from_equiv};
+    ghost use Rattle.binlog_values.specs.JsonEquality.{same_json};
+    ghost use Rattle.binlog_values.specs.Lemmas.JsonEquality.{same_json_is_equivalence};
+
+    ghost eq = { on view_of same_json };
+
+    ghost laws = { on_per view_of (partial_equiv_from_equiv same_json_is_equivalence) };
+
+    fn eq(&self, other: &Value<'a>) -> bool {
+        self.parts() == other.parts()
     }
 }
 

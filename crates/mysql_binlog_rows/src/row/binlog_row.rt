@@ -5,8 +5,9 @@ ghost use Rattle.std.specs.Option.{option_map};
 ghost use Rattle.std.specs.Rc.{rc_slice_items};
 ghost use Rattle.mysql_binlog_rows.specs.Cells.{PlainCell, cell_of};
 ghost use Rattle.binlog_base.specs.Values.{plain_of, value_at};
-ghost use Rattle.mysql_binlog_rows.specs.Equality.{same_cell, plain_of_cell};
+ghost use Rattle.mysql_binlog_rows.specs.Equality.{same_cell};
 ghost use Rattle.mysql_binlog_rows.specs.RowValues.{AreThere};
+ghost use Rattle.mysql_binlog_rows.specs.NotPlain.{IsNotPlain, IsRefused};
 ghost use Rattle.mysql_binlog_rows.specs.Lemmas.Equality.{same_cell_is_equivalence};
 ghost use Rattle.mysql_binlog_rows.specs.declared.row.binlog_row.BinlogRowToRowError.TheVariants as RowError;
 ghost use Rattle.std.specs.Option.{option_eq};
@@ -26,7 +27,7 @@ use thiserror::Error;
 /// value was taken. Rows of one event share their columns.
 #[derive(Debug, Drop)]
 pub struct BinlogRow {
-    values: Vec<Option<BinlogValue>>,
+    values: Vec<Option<BinlogValue<'static>>>,
     columns: RcSlice<Column>,
 }
 
@@ -59,11 +60,11 @@ impl PartialEq for BinlogRow {
 
 impl BinlogRow {
     /// The row of these values and columns.
-    pub fn new(values: Vec<Option<BinlogValue>>, columns: RcSlice<Column>) -> Self
+    pub fn new(values: Vec<Option<BinlogValue<'static>>>, columns: RcSlice<Column>) -> Self
         ensures { result ≡ record {
           columns = rc_slice_items columns;
           values = map (option_map cell_of)
-              values.items;
+              values.entry.items;
         } }
     {
         BinlogRow { values, columns }
@@ -98,7 +99,7 @@ impl BinlogRow {
     }
 
     /// The value of place `index`; `None` past the last place, or where the value was taken.
-    pub fn as_ref(&self, index: usize) -> Option<&BinlogValue>
+    pub fn as_ref(&self, index: usize) -> Option<&BinlogValue<'static>>
         ensures { option_map (λ v. cell_of v.now) result ≡ value_at self.now.values index }
     {
         match self.values.get(index) {
@@ -109,7 +110,7 @@ impl BinlogRow {
 
     /// Takes the value of place `index` out of the row. `None` past the last place, or where the
     /// value was taken before.
-    pub fn take(&mut self, index: usize) -> Option<BinlogValue>
+    pub fn take(&mut self, index: usize) -> Option<BinlogValue<'static>>
         ensures taken { option_map cell_of result ≡ value_at self.old.values index }
         ensures left { self.new ≡ record self.old { values = set self.old.values index None } }
     {
@@ -121,16 +122,16 @@ impl BinlogRow {
     }
 
     /// Puts a value at place `index`, in place of what is there.
-    pub fn place(&mut self, index: usize, value: BinlogValue)
+    pub fn place(&mut self, index: usize, value: BinlogValue<'static>)
         requires { index < length self.old.values }
-        ensures { self.new ≡ record self.old { values = set self.old.values index (Some (cell_of value)) } }
+        ensures { self.new ≡ record self.old { values = set self.old.values index (Some (cell_of value.entry)) } }
     {
         self.values[index] = Some(value);
     }
 
     /// Returns the values. None of them may have been taken out of the row. Fails where memory for
     /// the list is refused.
-    pub fn unwrap(self, alloc: Global) -> Result<Vec<BinlogValue>, AllocError>
+    pub fn unwrap(self, alloc: Global) -> Result<Vec<BinlogValue<'static>>, AllocError>
         requires { AreThere self.values }
         ensures { IfOk result (λ values. map (λ v. Some (cell_of v)) values.items ≡ self.values) }
     {
@@ -143,29 +144,66 @@ impl BinlogRow {
         Ok(values)
     }
 
-    /// Converts the row to a row of plain values. A value that was taken stays taken. Fails where
-    /// memory is refused, and at the first value that isn't plain.
+    /// Converts the row to a row of plain values. A value that was taken stays taken.
+    ///
+    /// Fails with `Memory` where memory is refused, and with `NotPlain` at the first value that isn't
+    /// plain, with its place, counted from 0.
     pub fn into_row(self, alloc: Global) -> Result<Row, BinlogRowToRowError>
-        ensures row { IfOk result (λ row. row ≡ record {
-          columns = self.columns;
-          values = map (option_map plain_of_cell) self.values;
-        }) }
-        ensures err { IfErr result (λ e. e ≡ RowError.Memory) }
+        ensures columns { IfOk result (λ row. row.columns ≡ self.columns) }
+        ensures values { IfOk result (λ row. map (option_map PlainCell) row.values ≡ self.values) }
+        ensures err { IfErr result (IsRefused self.values) }
     {
         let mut values = Vec::with_capacity(alloc, self.values.len())?;
         for value in self.values {
-            values.push(value.map(plain_value))?;
+            let offset = values.len();
+            values.push(plain_value(offset, value)?)?;
         }
         Ok(new_row_raw(values, self.columns))
     }
+
+    /// Returns the same row, with values of its own. It shares its columns with this row. Fails
+    /// where memory is refused.
+    pub fn clone(&self, alloc: Global) -> Result<BinlogRow, AllocError>
+        ensures { IfOk result (λ copy. copy ≡ self.now) }
+    {
+        let mut values = Vec::with_capacity(alloc, self.values.len())?;
+        for value in &self.values {
+            values.push(clone_value(alloc, value)?)?;
+        }
+        Ok(BinlogRow {
+            values,
+            columns: self.columns.clone()?,
+        })
+    }
 }
 
-// Returns the plain value of a cell.
-fn plain_value(value: BinlogValue) -> Value
-    ensures { PlainCell (plain_of result) ≡ cell_of value }
+// Returns the plain value at place `offset` of a row, if it wasn't taken.
+fn plain_value(
+    offset: usize,
+    value: Option<BinlogValue<'static>>,
+) -> Result<Option<Value>, BinlogRowToRowError>
+    ensures value { IfOk result (λ v. option_map (λ p. PlainCell (plain_of p)) v ≡ option_map cell_of value.entry) }
+    ensures err { IfErr result (IsNotPlain offset (option_map cell_of value.entry)) }
 {
     match value {
-        BinlogValue::Value(value) => value,
+        None => Ok(None),
+        Some(value) => match Value::try_from(value) {
+            Ok(value) => Ok(Some(value)),
+            Err(error) => Err(BinlogRowToRowError::NotPlain(offset, error)),
+        },
+    }
+}
+
+// Copies a value, if it wasn't taken.
+fn clone_value(
+    alloc: Global,
+    value: &Option<BinlogValue<'static>>,
+) -> Result<Option<BinlogValue<'static>>, AllocError>
+    ensures { IfOk result (λ copy. option_map cell_of copy ≡ option_map cell_of value.now) }
+{
+    match value {
+        None => Ok(None),
+        Some(value) => Ok(Some(value.clone(alloc)?)),
     }
 }
 

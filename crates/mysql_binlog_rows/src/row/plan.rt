@@ -9,11 +9,13 @@ ghost use Rattle.binlog_table.specs.ColumnsLeft.{seen_column};
 ghost use Rattle.mysql_binlog_rows.specs.Cells.{cell_of};
 ghost use Rattle.binlog_base.specs.Values.{column_flags_of};
 ghost use Rattle.mysql_binlog_rows.specs.Images.{default_name, row_flags, row_column};
-ghost use Rattle.mysql_binlog_rows.specs.Plans.{slot_of, first_column, after_first, planned_from, plan_of, planned_image, slot_cell, slot_cells};
+ghost use Rattle.mysql_binlog_rows.specs.Plans.{json_place_of, slot_of, first_column, after_first, planned_from, plan_of, planned_options, planned_image, is_partial_slot, slot_cell, slot_cells};
 
 use super::binlog_row::BinlogRow;
-use crate::value::{BinlogValue, Form, form_of, read_by};
-use binlog_base::below::{Column, ColumnFlags, MyDeserialize, ParseBuf, Value};
+use crate::value::{BinlogValue, Form, form_of, read_json, read_plain};
+use binlog_base::below::{
+    Column, ColumnFlags, ColumnType, IntRepr, LenEnc, MyDeserialize, ParseBuf, Value,
+};
 use binlog_base::bits::{BitOrder, BitView};
 use binlog_base::fault::Fault;
 use binlog_consts::consts::Flags;
@@ -23,12 +25,12 @@ use std::alloc::Global;
 use std::marker::Model;
 use std::rc::RcSlice;
 
-/// A column of the event, as a plan keeps it: how its cells are read, its place among the table's
-/// JSON columns, and whether it is in the image.
+/// A column of the event, as a plan keeps it: how its cells are read, the place of a JSON column
+/// among the table's, and whether it is in the image.
 #[derive(Drop)]
 struct Slot {
     form: Result<Form, Fault>,
-    json_place: usize,
+    json_place: Option<usize>,
     present: bool,
 }
 
@@ -60,6 +62,7 @@ impl Model for Planned {
 /// How images with the same bitmap of columns are read. A plan is made once for an event.
 #[derive(Drop)]
 pub(crate) struct Plan {
+    has_options: bool,
     count: usize,
     json_columns: usize,
     slots: Vec<Slot>,
@@ -74,6 +77,7 @@ impl Model for Plan {
     ghost Value = { Spec.Plan };
 
     ghost view = { λ p. record {
+      has_options = p.has_options;
       count = p.count;
       json_columns = p.json_columns;
       planned = record { slots = p.slots.items; columns = rc_slice_items p.columns; fault = p.fault };
@@ -145,6 +149,16 @@ fn next_column<'a>(walk: &mut TableColumns<'a>) -> Result<TableColumn<'a>, Fault
     }
 }
 
+// Returns the place of a JSON column among the table's.
+fn json_place_of(column: &TableColumn<'_>) -> Option<usize>
+    ensures { result ≡ json_place_of (seen_column column.now) }
+{
+    match column.column_type {
+        ColumnType::MYSQL_TYPE_JSON => Some(column.json_place),
+        _ => None,
+    }
+}
+
 // Returns how the cells of a column are read.
 fn slot_of(column: &TableColumn<'_>, present: bool) -> Slot
     ensures { result ≡ slot_of (seen_column column.now) present }
@@ -152,7 +166,7 @@ fn slot_of(column: &TableColumn<'_>, present: bool) -> Slot
     let metadata = column.metadata.unwrap_or(&[]);
     Slot {
         form: form_of(column.column_type, metadata, column.unsigned),
-        json_place: column.json_place,
+        json_place: json_place_of(column),
         present,
     }
 }
@@ -196,15 +210,17 @@ fn plan_columns(
 
 impl Plan {
     /// Makes the plan for images with the columns of the table whose bits are set in `present`, and
-    /// adds the steps that it took. `Memory` if memory can't be allocated.
+    /// adds the steps that it took. `has_options` says that the images begin with options. `Memory`
+    /// if memory can't be allocated.
     pub fn make(
         alloc: Global,
         table: &TableMapEvent<'_>,
+        has_options: bool,
         present: &BitView<'_>,
         steps: &mut u128,
     ) -> Result<Plan, Fault>
         requires { steps.old < 2 ^ 127 }
-        ensures plan { IfOk result (λ p. p ≡ plan_of table.now present.now) }
+        ensures plan { IfOk result (λ p. p ≡ plan_of table.now has_options present.now) }
         ensures least { IfOk result (λ p. steps.old + length p.planned.slots ≤ steps.new) }
         ensures most { IfOk result (λ _. steps.new
             ≤ steps.old + length present.now + length table.now.optional_metadata) }
@@ -222,6 +238,7 @@ impl Plan {
         };
         *steps += walk.steps();
         Ok(Plan {
+            has_options,
             count: present.count_ones(),
             json_columns: table.json_column_count(),
             slots: planned.slots,
@@ -230,13 +247,31 @@ impl Plan {
         })
     }
 
-    /// Reads one image: the null bits, and then the cells that aren't NULL.
+    // Reads the options of an image and returns its partial bits. There are none if the image has no
+    // options, or if the lowest bit of the options isn't set.
+    #[tactic(auto, unfolding(crate::specs::Images::partial_bits))]
+    fn read_partials<'b>(&self, buf: &mut ParseBuf<'b>) -> Result<BitView<'b>, Fault>
+        ensures { Parses (planned_options self.now) result buf.old.0.now buf.new.0.now }
+    {
+        let order = BitOrder::LeastSignificantFirst;
+        if self.has_options {
+            let options = <LenEnc as IntRepr>::deserialize(buf)?;
+            if options % 2 == 1 {
+                return buf.parse((order, self.json_columns));
+            }
+        }
+        Ok(BitView::new(&[], 0, order))
+    }
+
+    /// Reads one image: the options, if it has any, the null bits, and then the cells that aren't
+    /// NULL.
     #[tactic(auto, unfolding(crate::specs::Plans::planned_image))]
     pub fn read(&self, alloc: Global, buf: &mut ParseBuf<'_>) -> Result<BinlogRow, Fault>
         ensures { OrMemory result (Parses (planned_image self.now) result buf.old.0.now buf.new.0.now) }
     {
+        let partials = self.read_partials(buf)?;
         let nulls: BitView<'_> = buf.parse((BitOrder::LeastSignificantFirst, self.count))?;
-        let values = read_cells(alloc, &self.slots, self.fault, &nulls, buf)?;
+        let values = read_cells(alloc, &self.slots, self.fault, &partials, &nulls, buf)?;
         Ok(BinlogRow::new(values, self.columns.clone()?))
     }
 }
@@ -247,17 +282,18 @@ fn read_cells(
     alloc: Global,
     slots: &[Slot],
     end: Option<Fault>,
+    partials: &BitView<'_>,
     nulls: &BitView<'_>,
     buf: &mut ParseBuf<'_>,
-) -> Result<Vec<Option<BinlogValue>>, Fault>
-    ensures { OrMemory result (ParsesAs (λ v. map (option_map cell_of) v.items) (slot_cells slots.now end
-        nulls.now) result buf.old.0.now buf.new.0.now) }
+) -> Result<Vec<Option<BinlogValue<'static>>>, Fault>
+    ensures { OrMemory result (ParsesAs (λ v. map (option_map cell_of) v.items) (slot_cells partials.now
+        slots.now end nulls.now) result buf.old.0.now buf.new.0.now) }
 {
     let mut values = Vec::with_capacity(alloc, nulls.len())?;
     let mut place = 0;
     for slot in slots {
         if slot.present {
-            let value = read_nullable_cell(alloc, slot, is_set(nulls, place), buf)?;
+            let value = read_nullable_cell(alloc, slot, partials, is_set(nulls, place), buf)?;
             values.push(Some(value))?;
             place += 1;
         }
@@ -275,19 +311,33 @@ fn is_set(bits: &BitView<'_>, place: usize) -> bool
     bits.get(place).unwrap_or(false)
 }
 
+// Returns whether the cells of a column are partial, by the partial bits.
+fn is_partial(slot: &Slot, partials: &BitView<'_>) -> bool
+    ensures { result ≡ is_partial_slot partials.now slot.now }
+{
+    match slot.json_place {
+        Some(place) => is_set(partials, place),
+        None => false,
+    }
+}
+
 // Returns NULL if the null bit is set, and reads the cell otherwise.
-#[tactic(auto, unfolding(crate::specs::Plans::slot_cell))]
+#[tactic(auto, unfolding(crate::specs::Plans::slot_cell, crate::specs::Cells::cell_by))]
 fn read_nullable_cell(
     alloc: Global,
     slot: &Slot,
+    partials: &BitView<'_>,
     is_null: bool,
     buf: &mut ParseBuf<'_>,
-) -> Result<BinlogValue, Fault>
-    ensures { OrMemory result (ParsesAs cell_of (slot_cell is_null slot.now) result buf.old.0.now
-        buf.new.0.now) }
+) -> Result<BinlogValue<'static>, Fault>
+    ensures { OrMemory result (ParsesAs cell_of (slot_cell is_null partials.now slot.now) result
+        buf.old.0.now buf.new.0.now) }
 {
     if is_null {
         return Ok(BinlogValue::Value(Value::NULL));
     }
-    read_by(alloc, slot.form?, buf)
+    match slot.form? {
+        Form::Plain(form) => Ok(BinlogValue::Value(read_plain(alloc, form, buf)?)),
+        Form::Json => Ok(read_json(alloc, is_partial(slot, partials), buf)?.into_owned(alloc)?),
+    }
 }

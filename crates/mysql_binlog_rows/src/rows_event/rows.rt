@@ -6,7 +6,7 @@ ghost use Rattle.binlog_base.specs.declared.fault.Fault.TheVariants as Fault;
 ghost use Rattle.binlog_base.specs.Format.{Parses, OrMemory};
 ghost use Rattle.binlog_table.specs.TableMap.{TableMap};
 ghost use Rattle.mysql_binlog_rows.specs.RowsEvent.{RowsEvent as Event};
-ghost use Rattle.mysql_binlog_rows.specs.Images.{is_whole, pair};
+ghost use Rattle.mysql_binlog_rows.specs.Images.{has_options, pair};
 ghost use Rattle.mysql_binlog_rows.specs.Plans.{plan_of, slots_in, slot_count, planned_maybe, planned_pair};
 ghost use Rattle.mysql_binlog_rows.specs.Rows.{Reads, PairGives, at_rest, columns_in, plans_of_events, most_of_events};
 ghost use Rattle.mysql_binlog_rows.specs.Columns.{plans_in, is_planned, PlansKept};
@@ -29,7 +29,6 @@ pub type RowPair = (Option<BinlogRow>, Option<BinlogRow>);
 struct Plans {
     before: Option<Plan>,
     after: Option<Plan>,
-    is_whole: bool,
     steps: u128,
 }
 
@@ -41,11 +40,11 @@ impl Model for Plans {
     ghost Value = { Made };
 
     ghost view = { λ p. record {
-      plans = record { before = p.before; after = p.after; is_whole = p.is_whole };
+      plans = record { before = p.before; after = p.after };
       steps = p.steps;
     } };
 
-    ghost invariant = { λ p. slot_count (record { before = p.before; after = p.after; is_whole = p.is_whole }) ≤ p.steps };
+    ghost invariant = { λ p. slot_count (record { before = p.before; after = p.after }) ≤ p.steps };
 }
 
 /// The two events that the plans are made from.
@@ -97,22 +96,23 @@ impl<'a> Model for RowsEventRows<'a> {
     } };
 }
 
-// Returns whether all images of the event are whole.
-fn is_whole(event_type: EventType) -> bool
-    ensures { result ≡ is_whole event_type }
+// Returns whether the images after the change have options.
+fn has_options(event_type: EventType) -> bool
+    ensures { result ≡ has_options event_type }
 {
-    !matches!(event_type, EventType::PARTIAL_UPDATE_ROWS_EVENT)
+    matches!(event_type, EventType::PARTIAL_UPDATE_ROWS_EVENT)
 }
 
 // Makes the plan of an image, if the event has it, and adds the steps that it took.
 fn maybe_plan(
     alloc: Global,
     table: &TableMapEvent<'_>,
+    has_options: bool,
     present: Option<BitView<'_>>,
     steps: &mut u128,
 ) -> Result<Option<Plan>, Fault>
     requires { steps.old < 2 ^ 127 }
-    ensures plan { IfOk result (λ p. p ≡ option_map (plan_of table.now) present.entry) }
+    ensures plan { IfOk result (λ p. p ≡ option_map (plan_of table.now has_options) present.entry) }
     ensures least { IfOk result (λ p. steps.old + slots_in p ≤ steps.new) }
     ensures most { IfOk result (λ _. steps.new ≤ steps.old + (columns_in present.entry + length table.now.optional_metadata)) }
     ensures fits { IfOk result (λ _. steps.new < steps.old + 2 ^ 70) }
@@ -120,7 +120,7 @@ fn maybe_plan(
 {
     match present {
         None => Ok(None),
-        Some(present) => Ok(Some(Plan::make(alloc, table, &present, steps)?)),
+        Some(present) => Ok(Some(Plan::make(alloc, table, has_options, &present, steps)?)),
     }
 }
 
@@ -146,12 +146,14 @@ impl Plans {
     {
         let mut steps = 0;
         let (table, event) = (events.table, events.event);
-        let before = maybe_plan(alloc, table, event.columns_before_image(), &mut steps)?;
-        let after = maybe_plan(alloc, table, event.columns_after_image(), &mut steps)?;
+        let options = has_options(event.event_type());
+        let columns = event.columns_before_image();
+        let before = maybe_plan(alloc, table, false, columns, &mut steps)?;
+        let columns = event.columns_after_image();
+        let after = maybe_plan(alloc, table, options, columns, &mut steps)?;
         Ok(Plans {
             before,
             after,
-            is_whole: is_whole(event.event_type()),
             steps,
         })
     }
@@ -160,9 +162,6 @@ impl Plans {
     fn read(&self, alloc: Global, buf: &mut ParseBuf<'_>) -> Result<RowPair, Fault>
         ensures { OrMemory result (Parses (planned_pair self.now.plans) result buf.old.0.now buf.new.0.now) }
     {
-        if !self.is_whole {
-            return Err(Fault::Unhandled);
-        }
         let before = read_maybe(alloc, &self.before, buf)?;
         let after = read_maybe(alloc, &self.after, buf)?;
         Ok((before, after))
@@ -218,13 +217,14 @@ impl<'a> RowsEvent<'a> {
     /// Returns an iterator over the pairs of rows. `table` is the table map event that describes
     /// the columns. This call takes no memory.
     ///
-    /// The iterator ends after its first fault. For each image, in order: `UnexpectedEof` if the
-    /// null bits are cut; the fault of the first faulty field of the optional metadata; then, for
+    /// The iterator ends after its first fault. For each image, in order: in the image after the
+    /// change of a `PARTIAL_UPDATE_ROWS_EVENT`, `BadLenEnc` or `UnexpectedEof` if the options or the
+    /// partial bits can't be read; `UnexpectedEof` if the null bits are cut; the fault of the first faulty field of the optional metadata; then, for
     /// each column of the event in order, the faults of its type (`UnknownColumnType`,
     /// `UnexpectedColumnType`, `NoColumnType`), of its character set, its name and its key, and,
     /// if it is in the image and isn't NULL, of its cell: `MissingMetadata`, `UnknownEnum`,
     /// `UnknownBlob` or `DecimalScale` for the column's metadata, `Unhandled` for a type that isn't
-    /// supported yet, `UnexpectedEof` if the cell is cut, and the faults of single types, such as
+    /// supported, `UnexpectedEof` if the cell is cut, and the faults of single types, such as
     /// `DecimalGroup`. After the images, `EmptyPair` if they have no bytes. `Memory` if memory
     /// can't be allocated.
     pub fn rows<'b>(&'b self, alloc: Global, table: &'b TableMapEvent<'b>) -> RowsEventRows<'b>

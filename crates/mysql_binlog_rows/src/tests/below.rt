@@ -1,5 +1,6 @@
 //! Tests of numbers, byte strings, columns, rows, faults and lists of bits.
 
+use super::all;
 use binlog_base::below::{
     BareBytes, BeI16, BeI24, BeI32, BeU16, BeU24, BeU32, BeU40, BeU48, BytesRepr, Column,
     ColumnFlags, ColumnType, Const, EofBytes, Failed, GeometryType, I8, IntRepr, LeI16, LeI24,
@@ -22,14 +23,22 @@ fn number<T: IntRepr>(bytes: &[u8]) -> Result<T::Primitive, Fault> {
 
 #[test]
 fn numbers_of_fixed_width(rt: HostRuntime) {
-    assert!(rt; matches!(number::<U8>(&[0xff]), Ok(255)));
-    assert!(rt; matches!(number::<I8>(&[0xff]), Ok(-1)));
-    assert!(rt; matches!(number::<LeI24>(&[0, 0, 0x80]), Ok(-0x80_0000)));
-    assert!(rt; matches!(number::<LeI24>(&[0xff, 0xff, 0x7f, 9]), Ok(0x7f_ffff)));
-    assert!(rt; matches!(number::<LeU48>(&[1, 2, 0, 0, 0, 0]), Ok(0x201)));
-    assert!(rt; matches!(number::<BeU24>(&[1, 2, 3]), Ok(0x1_0203)));
-    assert!(rt; matches!(number::<BeI16>(&[0xff, 0xfe]), Ok(-2)));
-    assert!(rt; matches!(number::<LeU48>(&[1, 2, 0, 0, 0]), Err(Fault::UnexpectedEof)));
+    assert!(rt;
+        all(&[
+            (
+                number::<U8>(&[0xff]),
+                number::<I8>(&[0xff]),
+                number::<LeI24>(&[0, 0, 0x80]),
+                number::<LeI24>(&[0xff, 0xff, 0x7f, 9]),
+            ) == (Ok(255), Ok(-1), Ok(-0x80_0000), Ok(0x7f_ffff)),
+            (
+                number::<LeU48>(&[1, 2, 0, 0, 0, 0]),
+                number::<BeU24>(&[1, 2, 3]),
+                number::<BeI16>(&[0xff, 0xfe]),
+                number::<LeU48>(&[1, 2, 0, 0, 0]),
+            ) == (Ok(0x201), Ok(0x1_0203), Ok(-2), Err(Fault::UnexpectedEof)),
+        ])
+    );
 }
 
 /// Whether the bytes are read as the number, and are what is written of it.
@@ -37,88 +46,94 @@ fn is_spelled<T: IntRepr<Primitive: PartialEq>>(
     rt: &HostRuntime,
     bytes: &[u8],
     number: T::Primitive,
-) -> Result<bool, Fail> {
-    let read: RawInt<T> = ParseBuf(bytes).parse(())?;
+) -> bool {
     let mut buf = Vec::new(rt.alloc());
-    RawInt::<T>::new(number).serialize(&mut buf)?;
-    Ok(read.0 == number && buf.as_slice() == bytes)
+    match ParseBuf(bytes).parse::<RawInt<T>>(()) {
+        Ok(read) if read.0 == number => {
+            read.serialize(&mut buf).is_ok() && buf.as_slice() == bytes
+        }
+        _ => false,
+    }
 }
 
 #[test]
-fn numbers_of_each_kind(rt: HostRuntime) -> Result<(), Fail> {
-    assert!(rt; is_spelled::<U8>(&rt, &[0x81], 129)?);
-    assert!(rt; is_spelled::<I8>(&rt, &[0x81], -127)?);
-    assert!(rt; is_spelled::<LeU16>(&rt, &[0x81, 0x88], 34945)?);
-    assert!(rt; is_spelled::<LeI16>(&rt, &[0x81, 0x88], -30591)?);
-    assert!(rt; is_spelled::<LeU24>(&rt, &[0x81, 0x88, 0x8f], 9406593)?);
-    assert!(rt; is_spelled::<LeI24>(&rt, &[0x81, 0x88, 0x8f], -7370623)?);
-    assert!(rt; is_spelled::<LeU32>(&rt, &[0x81, 0x88, 0x8f, 0x96], 2525988993)?);
-    assert!(rt; is_spelled::<LeI32>(&rt, &[0x81, 0x88, 0x8f, 0x96], -1768978303)?);
-    assert!(rt; is_spelled::<LeU48>(&rt, &[0x81, 0x88, 0x8f, 0x96, 0x9d, 0xa4], 180996742809729)?);
-    assert!(rt; is_spelled::<LeI48>(&rt, &[0x81, 0x88, 0x8f, 0x96, 0x9d, 0xa4], -100478233900927)?);
+fn numbers_of_each_kind(rt: HostRuntime) {
     assert!(rt;
-        is_spelled::<LeU64>(
-            &rt,
-            &[0x81, 0x88, 0x8f, 0x96, 0x9d, 0xa4, 0xab, 0xb2],
-            12874564956511504513
-        )?
+        all(&[
+            is_spelled::<U8>(&rt, &[0x81], 129),
+            is_spelled::<I8>(&rt, &[0x81], -127),
+            is_spelled::<LeU16>(&rt, &[0x81, 0x88], 34945),
+            is_spelled::<LeI16>(&rt, &[0x81, 0x88], -30591),
+            is_spelled::<LeU24>(&rt, &[0x81, 0x88, 0x8f], 9406593),
+            is_spelled::<LeI24>(&rt, &[0x81, 0x88, 0x8f], -7370623),
+            is_spelled::<LeU32>(&rt, &[0x81, 0x88, 0x8f, 0x96], 2525988993),
+            is_spelled::<LeI32>(&rt, &[0x81, 0x88, 0x8f, 0x96], -1768978303),
+            is_spelled::<LeU48>(&rt, &[0x81, 0x88, 0x8f, 0x96, 0x9d, 0xa4], 180996742809729),
+            is_spelled::<LeI48>(&rt, &[0x81, 0x88, 0x8f, 0x96, 0x9d, 0xa4], -100478233900927),
+            is_spelled::<LeU64>(
+                &rt,
+                &[0x81, 0x88, 0x8f, 0x96, 0x9d, 0xa4, 0xab, 0xb2],
+                12874564956511504513
+            ),
+            is_spelled::<LeI64>(
+                &rt,
+                &[0x81, 0x88, 0x8f, 0x96, 0x9d, 0xa4, 0xab, 0xb2],
+                -5572179117198047103
+            ),
+            is_spelled::<BeU16>(&rt, &[0x81, 0x88], 33160),
+            is_spelled::<BeI16>(&rt, &[0x81, 0x88], -32376),
+            is_spelled::<BeU24>(&rt, &[0x81, 0x88, 0x8f], 8489103),
+            is_spelled::<BeI24>(&rt, &[0x81, 0x88, 0x8f], -8288113),
+            is_spelled::<BeU32>(&rt, &[0x81, 0x88, 0x8f, 0x96], 2173210518),
+            is_spelled::<BeI32>(&rt, &[0x81, 0x88, 0x8f, 0x96], -2121756778),
+            is_spelled::<BeU40>(&rt, &[0x81, 0x88, 0x8f, 0x96, 0x9d], 556341892765),
+            is_spelled::<BeU48>(&rt, &[0x81, 0x88, 0x8f, 0x96, 0x9d, 0xa4], 142423524548004),
+            is_spelled::<u8>(&rt, &[0x81], 129),
+            is_spelled::<i8>(&rt, &[0x81], -127),
+        ])
     );
-    assert!(rt;
-        is_spelled::<LeI64>(
-            &rt,
-            &[0x81, 0x88, 0x8f, 0x96, 0x9d, 0xa4, 0xab, 0xb2],
-            -5572179117198047103
-        )?
-    );
-    assert!(rt; is_spelled::<BeU16>(&rt, &[0x81, 0x88], 33160)?);
-    assert!(rt; is_spelled::<BeI16>(&rt, &[0x81, 0x88], -32376)?);
-    assert!(rt; is_spelled::<BeU24>(&rt, &[0x81, 0x88, 0x8f], 8489103)?);
-    assert!(rt; is_spelled::<BeI24>(&rt, &[0x81, 0x88, 0x8f], -8288113)?);
-    assert!(rt; is_spelled::<BeU32>(&rt, &[0x81, 0x88, 0x8f, 0x96], 2173210518)?);
-    assert!(rt; is_spelled::<BeI32>(&rt, &[0x81, 0x88, 0x8f, 0x96], -2121756778)?);
-    assert!(rt; is_spelled::<BeU40>(&rt, &[0x81, 0x88, 0x8f, 0x96, 0x9d], 556341892765)?);
-    assert!(rt; is_spelled::<BeU48>(&rt, &[0x81, 0x88, 0x8f, 0x96, 0x9d, 0xa4], 142423524548004)?);
-    assert!(rt; is_spelled::<u8>(&rt, &[0x81], 129)?);
-    assert!(rt; is_spelled::<i8>(&rt, &[0x81], -127)?);
-    // Of a number that the kind can't hold the lowest bytes are written.
+}
+
+#[test]
+fn the_lowest_bytes_are_written(rt: HostRuntime) -> Result<(), Fail> {
+    // Of a number that the kind can't hold.
     let mut buf = Vec::new(rt.alloc());
     LeU24::serialize(0x8102_0304, &mut buf)?;
     BeI24::serialize(-0x7efd_fcfc, &mut buf)?;
-    assert!(rt; buf.as_slice() == [4, 3, 2, 2, 3, 4].as_slice());
+    assert!(rt; buf.as_slice() == b"\x04\x03\x02\x02\x03\x04".as_slice());
     Ok(())
 }
 
 #[test]
 fn length_encoded_numbers(rt: HostRuntime) {
-    assert!(rt; matches!(number::<LenEnc>(&[0xfc, 5, 0]), Ok(5)));
-    assert!(rt; matches!(number::<LenEnc>(&[0xfb]), Err(Fault::BadLenEnc)));
-    assert!(rt; matches!(number::<LenEnc>(&[0xff]), Err(Fault::BadLenEnc)));
-    assert!(rt; matches!(number::<LenEnc>(&[0xfc, 5]), Err(Fault::UnexpectedEof)));
     assert!(rt;
-        matches!(
-            number::<LenEnc>(&[0xfe, 1, 0, 0, 0, 0, 0, 0, 0x80]),
-            Ok(0x8000_0000_0000_0001)
-        )
+        all(&[
+            (
+                number::<LenEnc>(&[0xfc, 5, 0]),
+                number::<LenEnc>(&[0xfb]),
+                number::<LenEnc>(&[0xff]),
+                number::<LenEnc>(&[0xfc, 5]),
+                number::<LenEnc>(b"\xfe\x01\0\0\0\0\0\0\x80"),
+            ) == (
+                Ok(5),
+                Err(Fault::BadLenEnc),
+                Err(Fault::BadLenEnc),
+                Err(Fault::UnexpectedEof),
+                Ok(0x8000_0000_0000_0001)
+            ),
+            (
+                number::<VarLen>(b"\xff\xff\xff\xff\x10"),
+                number::<VarLen>(b"\xff\xff\xff\xff\x0f"),
+                number::<VarLen>(b"\xff\xff\xff\xff\xff"),
+                number::<VarLen>(&[0x80]),
+            ) == (
+                Err(Fault::BadVarLen),
+                Ok(0xffff_ffff),
+                Err(Fault::BadVarLen),
+                Err(Fault::UnexpectedEof)
+            ),
+        ])
     );
-    assert!(rt;
-        matches!(
-            number::<VarLen>(&[0xff, 0xff, 0xff, 0xff, 0x10]),
-            Err(Fault::BadVarLen)
-        )
-    );
-    assert!(rt;
-        matches!(
-            number::<VarLen>(&[0xff, 0xff, 0xff, 0xff, 0x0f]),
-            Ok(0xffff_ffff)
-        )
-    );
-    assert!(rt;
-        matches!(
-            number::<VarLen>(&[0xff, 0xff, 0xff, 0xff, 0xff]),
-            Err(Fault::BadVarLen)
-        )
-    );
-    assert!(rt; matches!(number::<VarLen>(&[0x80]), Err(Fault::UnexpectedEof)));
 }
 
 /// The documentation's table of column types.
@@ -165,21 +180,25 @@ fn column_types_by_number(rt: HostRuntime) {
         let row = COLUMN_TYPES.iter().find(|row| row.0 == number);
         match row {
             Some((_, column_type)) => {
-                assert_eq!(rt; ColumnType::try_from(number), Ok(*column_type), "{number}");
-                assert_eq!(rt; u8::from(*column_type), number);
+                assert!(rt;
+                    ColumnType::try_from(number) == Ok(*column_type),
+                    "{number}"
+                );
+                assert!(rt; u8::from(*column_type) == number);
             }
-            None => assert_eq!(rt;
-                ColumnType::try_from(number),
-                Err(UnknownColumnType(number))
-            ),
+            None => assert!(rt; ColumnType::try_from(number) == Err(UnknownColumnType(number))),
         }
     }
-    assert!(rt; ColumnType::MYSQL_TYPE_NEWDECIMAL.is_numeric_type());
-    assert!(rt; !ColumnType::MYSQL_TYPE_YEAR.is_numeric_type());
-    assert!(rt; ColumnType::MYSQL_TYPE_BLOB.is_character_type());
-    assert!(rt; !ColumnType::MYSQL_TYPE_TINY_BLOB.is_character_type());
-    assert!(rt; ColumnType::MYSQL_TYPE_SET.is_enum_or_set_type());
-    assert!(rt; !ColumnType::MYSQL_TYPE_BIT.is_enum_or_set_type());
+    assert!(rt;
+        all(&[
+            ColumnType::MYSQL_TYPE_NEWDECIMAL.is_numeric_type(),
+            !ColumnType::MYSQL_TYPE_YEAR.is_numeric_type(),
+            ColumnType::MYSQL_TYPE_BLOB.is_character_type(),
+            !ColumnType::MYSQL_TYPE_TINY_BLOB.is_character_type(),
+            ColumnType::MYSQL_TYPE_SET.is_enum_or_set_type(),
+            !ColumnType::MYSQL_TYPE_BIT.is_enum_or_set_type(),
+        ])
+    );
 }
 
 #[test]
@@ -197,17 +216,13 @@ fn geometry_types_by_number(rt: HostRuntime) {
     for number in 0..=255u8 {
         match table.get(usize::from(number)) {
             Some(geometry_type) => {
-                assert_eq!(rt;
-                    GeometryType::try_from(number),
-                    Ok(*geometry_type),
+                assert!(rt;
+                    GeometryType::try_from(number) == Ok(*geometry_type),
                     "{number}"
                 );
-                assert_eq!(rt; u8::from(*geometry_type), number);
+                assert!(rt; u8::from(*geometry_type) == number);
             }
-            None => assert_eq!(rt;
-                GeometryType::try_from(number),
-                Err(UnknownGeometryType(number))
-            ),
+            None => assert!(rt; GeometryType::try_from(number) == Err(UnknownGeometryType(number))),
         }
     }
 }
@@ -250,8 +265,8 @@ const FAULTS: [(Fault, FaultKind); 28] = [
 #[test]
 fn faults_by_number(rt: HostRuntime) {
     for (i, (fault, kind)) in FAULTS.iter().enumerate() {
-        assert_eq!(rt; usize::from(fault.number()), i + 1);
-        assert_eq!(rt; fault.kind(), *kind, "{fault}");
+        assert!(rt; usize::from(fault.number()) == i + 1);
+        assert!(rt; fault.kind() == *kind, "{fault}");
     }
 }
 
@@ -262,193 +277,201 @@ fn written(rt: &HostRuntime, value: &impl MySerialize) -> Result<Vec<u8>, Fail> 
     Ok(buf)
 }
 
+/// Whether these bytes are what a value is written as, after a byte that is there already.
+fn writes(rt: &HostRuntime, value: &impl MySerialize, bytes: &[u8]) -> bool {
+    let mut buf = Vec::new(rt.alloc());
+    buf.push(7u8).is_ok() && value.serialize(&mut buf).is_ok() && buf.as_slice() == bytes
+}
+
 #[test]
-fn numbers_are_written(rt: HostRuntime) -> Result<(), Fail> {
-    assert_eq!(rt;
-        written(&rt, &RawInt::<LeU48>::new(0x201))?.as_slice(),
-        [7, 1, 2, 0, 0, 0, 0].as_slice()
+fn numbers_are_written(rt: HostRuntime) {
+    assert!(rt;
+        all(&[
+            writes(&rt, &RawInt::<LeU48>::new(0x201), b"\x07\x01\x02\0\0\0\0"),
+            writes(&rt, &RawInt::<LeI24>::new(-2), b"\x07\xfe\xff\xff"),
+            writes(&rt, &RawInt::<BeI16>::new(-2), b"\x07\xff\xfe"),
+            writes(&rt, &RawInt::<LenEnc>::new(250), b"\x07\xfa"),
+            writes(&rt, &RawInt::<LenEnc>::new(251), b"\x07\xfc\xfb\0"),
+            writes(&rt, &RawInt::<LenEnc>::new(0x1_0000), b"\x07\xfd\0\0\x01"),
+            writes(
+                &rt,
+                &RawInt::<LenEnc>::new(0x100_0000),
+                b"\x07\xfe\0\0\0\x01\0\0\0\0"
+            ),
+            writes(&rt, &RawInt::<VarLen>::new(300), b"\x07\xac\x02"),
+            writes(
+                &rt,
+                &RawInt::<VarLen>::new(0xffff_ffff),
+                b"\x07\xff\xff\xff\xff\x0f"
+            ),
+            writes(&rt, &Skip::<1>, b"\x07\0"),
+        ])
     );
-    assert_eq!(rt;
-        written(&rt, &RawInt::<LeI24>::new(-2))?.as_slice(),
-        [7, 0xfe, 0xff, 0xff].as_slice()
-    );
-    assert_eq!(rt;
-        written(&rt, &RawInt::<BeI16>::new(-2))?.as_slice(),
-        [7, 0xff, 0xfe].as_slice()
-    );
-    assert_eq!(rt;
-        written(&rt, &RawInt::<LenEnc>::new(250))?.as_slice(),
-        [7, 250].as_slice()
-    );
-    assert_eq!(rt;
-        written(&rt, &RawInt::<LenEnc>::new(251))?.as_slice(),
-        [7, 0xfc, 251, 0].as_slice()
-    );
-    assert_eq!(rt;
-        written(&rt, &RawInt::<LenEnc>::new(0x1_0000))?.as_slice(),
-        [7, 0xfd, 0, 0, 1].as_slice()
-    );
-    assert_eq!(rt;
-        written(&rt, &RawInt::<LenEnc>::new(0x100_0000))?.as_slice(),
-        [7, 0xfe, 0, 0, 0, 1, 0, 0, 0, 0].as_slice()
-    );
-    assert_eq!(rt;
-        written(&rt, &RawInt::<VarLen>::new(300))?.as_slice(),
-        [7, 0xac, 2].as_slice()
-    );
-    assert_eq!(rt;
-        written(&rt, &RawInt::<VarLen>::new(0xffff_ffff))?.as_slice(),
-        [7, 0xff, 0xff, 0xff, 0xff, 0x0f].as_slice()
-    );
-    assert_eq!(rt; written(&rt, &Skip::<1>)?.as_slice(), [7, 0].as_slice());
-    Ok(())
 }
 
 #[test]
 fn strings_are_read(rt: HostRuntime) -> Result<(), Fail> {
-    let mut buf = ParseBuf(&[2, 97, 98, 1, 99, 0x81, 0, 100, 101, 102, 103]);
+    let mut buf = ParseBuf(b"\x02ab\x01c\x81\0defg");
     let short: RawBytes<U8Bytes> = buf.parse(())?;
-    assert_eq!(rt; short.as_bytes(), b"ab".as_slice());
     let lenenc: RawBytes<LenEnc> = buf.parse(())?;
-    assert_eq!(rt; lenenc.as_bytes(), b"c".as_slice());
     let varlen: RawBytes<VarLen> = buf.parse(())?;
-    assert_eq!(rt; varlen.as_bytes(), b"d".as_slice());
     let bare: RawBytes<BareBytes<9>> = buf.parse(2)?;
-    assert_eq!(rt; bare.len(), 2);
-    assert!(rt; !bare.is_empty());
-    assert_eq!(rt; buf.len(), 1);
+    let left = buf.len();
     let rest: RawBytes<EofBytes> = buf.parse(())?;
-    assert_eq!(rt; rest.as_bytes(), b"g".as_slice());
-    assert!(rt; buf.is_empty());
     assert!(rt;
-        matches!(
-            ParseBuf(&[2, 97]).parse::<RawBytes<U8Bytes>>(()),
-            Err(Fault::UnexpectedEof)
-        )
+        all(&[
+            short.as_bytes() == b"ab".as_slice(),
+            lenenc.as_bytes() == b"c".as_slice(),
+            varlen.as_bytes() == b"d".as_slice(),
+            bare.len() == 2 && !bare.is_empty(),
+            left == 1 && buf.is_empty(),
+            rest.as_bytes() == b"g".as_slice(),
+        ])
     );
-    assert!(rt;
-        matches!(
-            ParseBuf(&[0xfb]).parse::<RawBytes<LenEnc>>(()),
-            Err(Fault::BadLenEnc)
-        )
-    );
-    assert!(rt;
-        matches!(
-            ParseBuf(&[]).parse::<Skip<1>>(()),
-            Err(Fault::UnexpectedEof)
-        )
-    );
-    assert!(rt; ParseBuf(&[9]).parse::<Skip<1>>(()).is_ok());
-    let mut few = ParseBuf(&[1, 2, 3]);
-    assert_eq!(rt; few.checked_eat(2), Some([1, 2].as_slice()));
-    assert_eq!(rt; (few.checked_eat(2), few.len()), (None, 1));
-    assert_eq!(rt; few.eat(2), Err(Fault::UnexpectedEof));
-    assert_eq!(rt; few.eat(1), Ok([3].as_slice()));
-    assert_eq!(rt; ParseBuf(&[1, 2, 3]).eat_all(), [1, 2, 3].as_slice());
-    assert_eq!(rt; <Skip<1> as MyDeserialize>::SIZE, None);
-    assert_eq!(rt; <RawInt<BeU24> as MyDeserialize>::SIZE, Some(3));
     Ok(())
+}
+
+/// Whether reading a value is refused by this fault.
+fn refuses<'a, T: MyDeserialize<'a, Ctx = ()> + Drop>(bytes: &'a [u8], fault: Fault) -> bool {
+    match ParseBuf(bytes).parse::<T>(()) {
+        Ok(_) => false,
+        Err(other) => other == fault,
+    }
+}
+
+#[test]
+fn strings_are_refused(rt: HostRuntime) {
+    assert!(rt;
+        all(&[
+            refuses::<RawBytes<U8Bytes>>(&[2, 97], Fault::UnexpectedEof),
+            refuses::<RawBytes<LenEnc>>(&[0xfb], Fault::BadLenEnc),
+            refuses::<Skip<1>>(&[], Fault::UnexpectedEof),
+            ParseBuf(&[9]).parse::<Skip<1>>(()).is_ok(),
+            <Skip<1> as MyDeserialize>::SIZE.is_none(),
+            <RawInt<BeU24> as MyDeserialize>::SIZE == Some(3),
+        ])
+    );
+}
+
+#[test]
+fn bytes_are_eaten(rt: HostRuntime) {
+    let mut few = ParseBuf(&[1, 2, 3]);
+    assert!(rt;
+        all(&[
+            few.checked_eat(2) == Some([1, 2].as_slice()),
+            (few.checked_eat(2), few.len()) == (None, 1),
+            few.eat(2) == Err(Fault::UnexpectedEof),
+            few.eat(1) == Ok([3].as_slice()),
+            ParseBuf(&[1, 2, 3]).eat_all() == [1, 2, 3].as_slice(),
+        ])
+    );
 }
 
 #[test]
 fn strings_are_written(rt: HostRuntime) -> Result<(), Fail> {
     let alloc = rt.alloc();
     let text = RawBytes::<U8Bytes>::new(CowSlice::Borrowed(b"a\xffb"));
-    assert_eq!(rt; text.as_str(alloc)?.as_str(), "a\u{fffd}b");
+    assert!(rt; text.as_str(alloc)?.as_str() == "a\u{fffd}b");
     let owned = text.into_owned(alloc)?;
-    assert_eq!(rt;
-        written(&rt, &owned)?.as_slice(),
-        [7, 3, 97, 0xff, 98].as_slice()
+    assert!(rt;
+        all(&[
+            writes(&rt, &owned, b"\x07\x03a\xffb"),
+            owned.into_bytes().as_slice() == b"a\xffb".as_slice(),
+        ])
     );
-    assert_eq!(rt; owned.into_bytes().as_slice(), [97, 0xff, 98].as_slice());
-    let long = vec![in alloc; 5u8; 300]?;
+    let bare = RawBytes::<BareBytes<4>>::new(CowSlice::Borrowed(b"abcde"));
+    assert!(rt; writes(&rt, &bare, b"\x07abcd"));
+    let rest = RawBytes::<EofBytes>::new(CowSlice::Borrowed(b"xy"));
+    assert!(rt;
+        all(&[
+            writes(&rt, &rest, b"\x07xy"),
+            rest == RawBytes::new(CowSlice::Borrowed(b"xy")),
+        ])
+    );
+    Ok(())
+}
+
+#[test]
+fn long_strings_are_written(rt: HostRuntime) -> Result<(), Fail> {
+    let long = vec![in rt.alloc(); 5u8; 300]?;
     let cut = RawBytes::<U8Bytes>::new(CowSlice::Borrowed(&long));
-    assert_eq!(rt; written(&rt, &cut)?.len(), 1 + 1 + 255);
     let whole = RawBytes::<LenEnc>::new(CowSlice::Borrowed(&long));
-    assert_eq!(rt; written(&rt, &whole)?.len(), 1 + 3 + 300);
     let groups = RawBytes::<VarLen>::new(CowSlice::Borrowed(&long));
-    assert_eq!(rt; written(&rt, &groups)?.len(), 1 + 2 + 300);
+    assert!(rt; written(&rt, &cut)?.len() == 1 + 1 + 255);
+    assert!(rt; written(&rt, &whole)?.len() == 1 + 3 + 300);
+    assert!(rt; written(&rt, &groups)?.len() == 1 + 2 + 300);
     let mut buf = vec![in rt.alloc(); 7u8]?;
     <U8Bytes as BytesRepr>::serialize(&long, &mut buf)?;
-    assert_eq!(rt; buf.len(), 1 + 1 + 255);
-    let bare = RawBytes::<BareBytes<4>>::new(CowSlice::Borrowed(&long));
-    assert_eq!(rt; written(&rt, &bare)?.as_slice(), [7, 5, 5, 5, 5].as_slice());
-    let rest = RawBytes::<EofBytes>::new(CowSlice::Borrowed(b"xy"));
-    assert_eq!(rt; written(&rt, &rest)?.as_slice(), [7, 120, 121].as_slice());
-    assert!(rt; rest == RawBytes::new(CowSlice::Borrowed(b"xy")));
+    assert!(rt; buf.len() == 1 + 1 + 255);
     Ok(())
 }
 
 #[test]
 fn flags_and_constants(rt: HostRuntime) -> Result<(), Fail> {
     let flags: RawFlags<ColumnFlags, LeU16> = ParseBuf(&[0x22, 0]).parse(())?;
-    assert_eq!(rt;
-        flags.get(),
-        ColumnFlags::UNSIGNED_FLAG | ColumnFlags::PRI_KEY_FLAG
-    );
-    assert_eq!(rt; flags.bits(), 0x22);
-    assert_eq!(rt;
-        written(&rt, &RawFlags::<ColumnFlags, LeU16>::new(0x22))?.as_slice(),
-        [7, 0x22, 0].as_slice()
-    );
+    let named = ColumnFlags::UNSIGNED_FLAG | ColumnFlags::PRI_KEY_FLAG;
     let long: Const<ColumnType, U8> = ParseBuf(&[3]).parse(())?;
-    assert_eq!(rt; long.0, ColumnType::MYSQL_TYPE_LONG);
     let json: Const<ColumnType, u8> = ParseBuf(&[245]).parse(())?;
-    assert_eq!(rt; json.0, ColumnType::MYSQL_TYPE_JSON);
-    assert_eq!(rt; written(&rt, &json)?.as_slice(), [7, 245].as_slice());
     let point = Const::<GeometryType, U8>::new(GeometryType::GEOM_POINT);
-    assert_eq!(rt; point.0, GeometryType::GEOM_POINT);
-    assert_eq!(rt; written(&rt, &point)?.as_slice(), [7, 1].as_slice());
     assert!(rt;
-        matches!(
-            ParseBuf(&[244]).parse::<Const<ColumnType, U8>>(()),
-            Err(Fault::UnknownColumnType(244))
-        )
-    );
-    assert!(rt;
-        matches!(
-            ParseBuf(&[8]).parse::<Const<GeometryType, U8>>(()),
-            Err(Fault::UnknownGeometryType(8))
-        )
+        all(&[
+            flags.get() == named && flags.bits() == 0x22,
+            writes(
+                &rt,
+                &RawFlags::<ColumnFlags, LeU16>::new(0x22),
+                b"\x07\x22\0"
+            ),
+            long.0 == ColumnType::MYSQL_TYPE_LONG,
+            json.0 == ColumnType::MYSQL_TYPE_JSON,
+            writes(&rt, &json, b"\x07\xf5"),
+            point.0 == GeometryType::GEOM_POINT,
+            writes(&rt, &point, b"\x07\x01"),
+            refuses::<Const<ColumnType, U8>>(&[244], Fault::UnknownColumnType(244)),
+            refuses::<Const<GeometryType, U8>>(&[8], Fault::UnknownGeometryType(8)),
+        ])
     );
     Ok(())
 }
 
 #[test]
 fn bits_in_both_orders(rt: HostRuntime) -> Result<(), Fail> {
-    let bytes = [0b1000_0011u8, 0b0000_0001];
-    let low = BitView::new(&bytes, 9, BitOrder::LeastSignificantFirst);
-    let high: BitView = ParseBuf(&bytes).parse((BitOrder::MostSignificantFirst, 9))?;
-    assert_eq!(rt; low.len(), 9);
-    assert!(rt; !low.is_empty());
-    assert_eq!(rt; low.count_ones(), 4);
-    assert_eq!(rt; high.count_ones(), 3);
-    assert_eq!(rt;
-        (low.get(1), low.get(8), low.get(9)),
-        (Some(true), Some(true), None)
-    );
-    assert_eq!(rt; (high.get(1), high.get(8)), (Some(false), Some(false)));
+    let bytes = b"\x83\x01";
+    let low = BitView::new(bytes, 9, BitOrder::LeastSignificantFirst);
+    let high: BitView = ParseBuf(bytes).parse((BitOrder::MostSignificantFirst, 9))?;
     // There are no bits past the bytes.
-    let all = BitView::new(&bytes, 17, BitOrder::LeastSignificantFirst);
-    assert_eq!(rt; (all.len(), all.get(16)), (16, None));
-    assert_eq!(rt; low.iter().take(3).filter(|bit| *bit).count(), 2);
-    // The same nine bits, with others after them.
-    let filled = &[0b1000_0011, 0b1111_1111];
-    assert!(rt; low == BitView::new(filled, 9, BitOrder::LeastSignificantFirst));
-    let mirrored = &[0b1100_0001, 0b1111_1111];
-    assert!(rt; low == BitView::new(mirrored, 9, BitOrder::MostSignificantFirst));
-    assert!(rt; low != high);
-    assert!(rt; low != all);
-    let three = BitView::new(&bytes, 3, BitOrder::LeastSignificantFirst);
-    let text = format!(in rt.alloc(); "{three:?}")?;
-    assert_eq!(rt; text.as_str(), "[true, true, false]");
-    assert_eq!(rt; (bitmap_len(0), bitmap_len(8), bitmap_len(9)), (0, 1, 2));
+    let whole = BitView::new(bytes, 17, BitOrder::LeastSignificantFirst);
     assert!(rt;
-        matches!(
-            ParseBuf(&[1]).parse::<BitView>((BitOrder::LeastSignificantFirst, 9)),
-            Err(Fault::UnexpectedEof)
-        )
+        all(&[
+            low.len() == 9 && !low.is_empty(),
+            low.count_ones() == 4,
+            high.count_ones() == 3,
+            (low.get(1), low.get(8), low.get(9)) == (Some(true), Some(true), None),
+            (high.get(1), high.get(8)) == (Some(false), Some(false)),
+            (whole.len(), whole.get(16)) == (16, None),
+            low.iter().take(3).filter(|bit| *bit).count() == 2,
+            low != high,
+            low != whole,
+            (bitmap_len(0), bitmap_len(8), bitmap_len(9)) == (0, 1, 2),
+        ])
     );
+    Ok(())
+}
+
+#[test]
+fn equal_bits(rt: HostRuntime) -> Result<(), Fail> {
+    let low = BitView::new(b"\x83\x01", 9, BitOrder::LeastSignificantFirst);
+    // The same nine bits, with others after them.
+    assert!(rt;
+        all(&[
+            low == BitView::new(b"\x83\xff", 9, BitOrder::LeastSignificantFirst),
+            low == BitView::new(b"\xc1\xff", 9, BitOrder::MostSignificantFirst),
+        ])
+    );
+    let three = BitView::new(b"\x83\x01", 3, BitOrder::LeastSignificantFirst);
+    let text = format!(in rt.alloc(); "{three:?}")?;
+    assert!(rt; text.as_str() == "[true, true, false]");
+    let cut = ParseBuf(&[1]).parse::<BitView>((BitOrder::LeastSignificantFirst, 9));
+    assert!(rt; matches!(cut, Err(Fault::UnexpectedEof)));
     Ok(())
 }
 
@@ -462,26 +485,43 @@ fn columns_and_rows(rt: HostRuntime) -> Result<(), Fail> {
         .with_name(alloc, b"@0")?
         .with_flags(ColumnFlags::PRI_KEY_FLAG)
         .with_character_set(45);
-    assert_eq!(rt; column.column_type(), ColumnType::MYSQL_TYPE_LONG);
-    assert_eq!(rt; column.schema_ref(), b"d".as_slice());
-    assert_eq!(rt; column.table_ref(), b"t".as_slice());
-    assert_eq!(rt; column.org_table_ref(), b"o".as_slice());
-    assert_eq!(rt; column.name_ref(), b"@0".as_slice());
-    assert_eq!(rt; column.flags(), ColumnFlags::PRI_KEY_FLAG);
-    assert_eq!(rt; column.character_set(), 45);
+    assert!(rt;
+        all(&[
+            column.column_type() == ColumnType::MYSQL_TYPE_LONG,
+            column.schema_ref() == b"d".as_slice(),
+            column.table_ref() == b"t".as_slice(),
+            column.org_table_ref() == b"o".as_slice(),
+            column.name_ref() == b"@0".as_slice(),
+            column.flags() == ColumnFlags::PRI_KEY_FLAG,
+            column.character_set() == 45,
+        ])
+    );
     let columns = RcSlice::from_vec(vec![in alloc; column]?)?;
     let row = new_row_raw(vec![in alloc; Some(Value::Int(-1)), None]?, columns);
-    assert_eq!(rt; row.len(), 2);
-    assert!(rt; !row.is_empty());
-    assert_eq!(rt; row.columns_ref().len(), 1);
-    assert!(rt; matches!(row.as_ref(0), Some(Value::Int(-1))));
-    assert!(rt; row.as_ref(1).is_none());
-    assert!(rt; row.as_ref(2).is_none());
+    assert!(rt;
+        all(&[
+            row.len() == 2 && !row.is_empty(),
+            row.columns_ref().len() == 1,
+            matches!(row.as_ref(0), Some(Value::Int(-1))),
+            row.as_ref(1).is_none(),
+            row.as_ref(2).is_none(),
+        ])
+    );
+    Ok(())
+}
+
+#[test]
+fn equal_values(rt: HostRuntime) -> Result<(), Fail> {
+    let alloc = rt.alloc();
     // Bytes are compared wherever they are, and floats by their bits.
     let text = Value::Bytes(vec![in alloc; 1u8, 2]?);
     assert!(rt; text == Value::Bytes(vec![in alloc; 1u8, 2]?));
-    assert!(rt; Value::Float(0x7fc0_0000) == Value::Float(0x7fc0_0000));
-    assert!(rt; Value::Int(1) != Value::UInt(1));
+    assert!(rt;
+        all(&[
+            Value::Float(0x7fc0_0000) == Value::Float(0x7fc0_0000),
+            Value::Int(1) != Value::UInt(1),
+        ])
+    );
     Ok(())
 }
 
@@ -489,12 +529,15 @@ fn columns_and_rows(rt: HostRuntime) -> Result<(), Fail> {
 fn bytes_are_sources(rt: HostRuntime) {
     let mut buf = [0u8; 2];
     let mut slice: &[u8] = &[1, 2, 3];
-    assert_eq!(rt; slice.read_some(&mut buf), Ok(2));
-    assert_eq!(rt; buf, [1, 2]);
+    assert!(rt; all(&[slice.read_some(&mut buf) == Ok(2), buf == [1, 2]]));
     let mut rest = ParseBuf(slice);
-    assert_eq!(rt; rest.read_some(&mut buf), Ok(1));
-    assert_eq!(rt; rest.read_some(&mut buf), Ok(0));
-    assert_eq!(rt; Fault::from(Failed), Fault::Reader);
+    assert!(rt;
+        all(&[
+            rest.read_some(&mut buf) == Ok(1),
+            rest.read_some(&mut buf) == Ok(0),
+            Fault::from(Failed) == Fault::Reader,
+        ])
+    );
 }
 
 #[test]

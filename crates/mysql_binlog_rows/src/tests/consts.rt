@@ -1,5 +1,6 @@
 //! Tests of the constants and flags.
 
+use super::all;
 use binlog_consts::consts::{
     BinlogChecksumAlg, BinlogVersion, EventFlags, EventType, Flags, Gno, GtidFlags, IncidentType,
     IntvarEventType, InvalidGno, LoadDuplicateHandling, OptionalMetadataFieldType, RowsEventFlags,
@@ -120,17 +121,18 @@ fn event_types_by_number(rt: HostRuntime) {
             follows(&EVENT_TYPES, number, UnknownEventType(number)),
             "{number}"
         );
-        assert_eq!(rt; u8::from(UnknownEventType(number)), number);
+        assert!(rt; u8::from(UnknownEventType(number)) == number);
     }
     for (number, event_type) in EVENT_TYPES {
-        assert_eq!(rt; event_type as u8, number);
+        assert!(rt; event_type as u8 == number);
     }
-    assert_eq!(rt; EventType::try_from(0x29), Err(UnknownEventType(0x29)));
-    assert_eq!(rt;
-        EventType::try_from(0x2a),
-        Ok(EventType::GTID_TAGGED_LOG_EVENT)
+    assert!(rt;
+        all(&[
+            EventType::try_from(0x29) == Err(UnknownEventType(0x29)),
+            EventType::try_from(0x2a) == Ok(EventType::GTID_TAGGED_LOG_EVENT),
+            EventType::ENUM_END_EVENT as u8 == 0x2b,
+        ])
     );
-    assert_eq!(rt; EventType::ENUM_END_EVENT as u8, 0x2b);
 }
 
 #[test]
@@ -148,19 +150,20 @@ fn keys_and_fields_by_number(rt: HostRuntime) {
             ),
             "{number}"
         );
-        assert_eq!(rt; u8::from(UnknownOptionalMetadataFieldType(number)), number);
+        assert!(rt; u8::from(UnknownOptionalMetadataFieldType(number)) == number);
     }
     for (number, key) in STATUS_VAR_KEYS {
-        assert_eq!(rt; key as u8, number);
+        assert!(rt; key as u8 == number);
     }
     for (number, field) in OPTIONAL_METADATA_FIELD_TYPES {
-        assert_eq!(rt; field as u8, number);
+        assert!(rt; field as u8 == number);
     }
-    assert_eq!(rt;
-        StatusVarKey::try_from(20),
-        Ok(StatusVarKey::DefaultTableEncryption)
+    assert!(rt;
+        all(&[
+            StatusVarKey::try_from(20) == Ok(StatusVarKey::DefaultTableEncryption),
+            StatusVarKey::try_from(21) == Err(UnknownStatusVarKey(21)),
+        ])
     );
-    assert_eq!(rt; StatusVarKey::try_from(21), Err(UnknownStatusVarKey(21)));
 }
 
 const CHECKSUM_ALGS: [(u8, BinlogChecksumAlg); 2] = [
@@ -199,18 +202,22 @@ fn small_enums_by_number(rt: HostRuntime) {
             follows(&INTVAR_EVENT_TYPES, number, UnknownIntvarEventType(number)),
             "{number}"
         );
-        assert_eq!(rt; u8::from(UnknownChecksumAlg(number)), number);
-        assert_eq!(rt; u8::from(UnknownDuplicateHandling(number)), number);
-        assert_eq!(rt; u8::from(UnknownIntvarEventType(number)), number);
+        assert!(rt;
+            all(&[
+                u8::from(UnknownChecksumAlg(number)) == number,
+                u8::from(UnknownDuplicateHandling(number)) == number,
+                u8::from(UnknownIntvarEventType(number)) == number,
+            ])
+        );
     }
     for (number, algorithm) in CHECKSUM_ALGS {
-        assert_eq!(rt; algorithm as u8, number);
+        assert!(rt; algorithm as u8 == number);
     }
     for (number, handling) in DUPLICATE_HANDLINGS {
-        assert_eq!(rt; u8::from(handling), number);
+        assert!(rt; u8::from(handling) == number);
     }
     for (number, kind) in INTVAR_EVENT_TYPES {
-        assert_eq!(rt; u8::from(kind), number);
+        assert!(rt; u8::from(kind) == number);
     }
 }
 
@@ -237,20 +244,28 @@ fn versions_and_incidents_by_number(rt: HostRuntime) {
             follows(&INCIDENT_TYPES, number, UnknownIncidentType(number)),
             "{number}"
         );
-        assert_eq!(rt; u16::from(UnknownBinlogVersion(number)), number);
-        assert_eq!(rt; u16::from(UnknownIncidentType(number)), number);
+        assert!(rt;
+            all(&[
+                u16::from(UnknownBinlogVersion(number)) == number,
+                u16::from(UnknownIncidentType(number)) == number,
+            ])
+        );
     }
     for (number, version) in BINLOG_VERSIONS {
-        assert_eq!(rt; u16::from(version), number);
+        assert!(rt; u16::from(version) == number);
         for (other, other_version) in BINLOG_VERSIONS {
-            assert_eq!(rt; version.cmp(&other_version), number.cmp(&other));
-            assert_eq!(rt; version < other_version, number < other);
+            assert!(rt;
+                all(&[
+                    version.cmp(&other_version) == number.cmp(&other),
+                    (version < other_version) == (number < other),
+                ])
+            );
         }
     }
     for (number, incident) in INCIDENT_TYPES {
-        assert_eq!(rt; u16::from(incident), number);
+        assert!(rt; u16::from(incident) == number);
     }
-    assert_eq!(rt; BinlogVersion::try_from(0), Err(UnknownBinlogVersion(0)));
+    assert!(rt; BinlogVersion::try_from(0) == Err(UnknownBinlogVersion(0)));
 }
 
 const PAYLOAD_FIELDS: [(u64, TransactionPayloadFields); 4] = [
@@ -284,52 +299,57 @@ fn payloads_by_number(rt: HostRuntime) {
     }
     for byte in 0..=255u8 {
         let number = u64::from(byte);
-        assert_eq!(rt;
-            TransactionPayloadFields::try_from(byte),
-            TransactionPayloadFields::try_from(number)
-        );
-        assert_eq!(rt;
-            TransactionPayloadCompressionType::try_from(byte),
-            TransactionPayloadCompressionType::try_from(number)
+        assert!(rt;
+            all(&[
+                TransactionPayloadFields::try_from(byte)
+                    == TransactionPayloadFields::try_from(number),
+                TransactionPayloadCompressionType::try_from(byte)
+                    == TransactionPayloadCompressionType::try_from(number),
+            ])
         );
     }
     for (number, field) in PAYLOAD_FIELDS {
-        assert_eq!(rt; u64::from(field), number);
-        assert_eq!(rt; u64::from(u8::from(field)), number);
+        assert!(rt;
+            all(&[
+                u64::from(field) == number,
+                u64::from(u8::from(field)) == number,
+            ])
+        );
     }
     for (number, compression) in PAYLOAD_COMPRESSIONS {
-        assert_eq!(rt; compression as u64, number);
+        assert!(rt; compression as u64 == number);
     }
-    assert_eq!(rt;
-        TransactionPayloadFields::try_from(256u64),
-        Err(UnknownTransactionPayloadFields(256))
-    );
-    assert_eq!(rt;
-        TransactionPayloadCompressionType::try_from(255u8),
-        Ok(TransactionPayloadCompressionType::NONE)
-    );
-    assert_eq!(rt;
-        TransactionPayloadCompressionType::try_from(1u8),
-        Err(UnknownTransactionPayloadCompressionType(1))
+    assert!(rt;
+        all(&[
+            TransactionPayloadFields::try_from(256u64) == Err(UnknownTransactionPayloadFields(256)),
+            TransactionPayloadCompressionType::try_from(255u8)
+                == Ok(TransactionPayloadCompressionType::NONE),
+            TransactionPayloadCompressionType::try_from(1u8)
+                == Err(UnknownTransactionPayloadCompressionType(1)),
+        ])
     );
 }
 
 #[test]
 fn group_numbers(rt: HostRuntime) -> Result<(), Fail> {
     let highest = 0x7fff_ffff_ffff_ffff;
-    assert_eq!(rt; (Gno::MIN_GNO, Gno::MAX_GNO), (1, highest));
+    assert!(rt; (Gno::MIN_GNO, Gno::MAX_GNO) == (1, highest));
     for number in [0, 1, 2, 300, 1 << 62, highest - 1] {
-        assert_eq!(rt; Gno::try_from(number).map(Gno::get), Ok(number));
+        assert!(rt; Gno::try_from(number).map(Gno::get) == Ok(number));
     }
     for number in [highest, highest + 1, u64::MAX] {
-        assert_eq!(rt; Gno::try_from(number), Err(InvalidGno(number)));
-        assert_eq!(rt; u64::from(InvalidGno(number)), number);
+        assert!(rt;
+            all(&[
+                Gno::try_from(number) == Err(InvalidGno(number)),
+                u64::from(InvalidGno(number)) == number,
+            ])
+        );
     }
     assert!(rt; Gno::try_from(2)? < Gno::try_from(300)?);
     let alloc = rt.alloc();
-    assert_eq!(rt;
-        InvalidGno(highest).to_string(alloc)?.as_str(),
-        "9223372036854775807 is neither 0 nor a group number from 1 up to, but not including, 9223372036854775807"
+    assert!(rt;
+        InvalidGno(highest).to_string(alloc)?.as_str()
+            == "9223372036854775807 is neither 0 nor a group number from 1 up to, but not including, 9223372036854775807"
     );
     Ok(())
 }
@@ -349,17 +369,17 @@ fn event_flags_by_bits(rt: HostRuntime) {
         (0x0200, EventFlags::LOG_EVENT_MTS_ISOLATE_F),
     ];
     for (bits, flag) in named {
-        assert_eq!(rt; flag.bits(), bits);
-        assert_eq!(rt; EventFlags::try_from(bits), Ok(flag));
+        assert!(rt; all(&[flag.bits() == bits, EventFlags::try_from(bits) == Ok(flag)]));
     }
     // The ten lowest bits have names.
-    assert_eq!(rt; EventFlags::all().bits(), 0x03ff);
-    assert_eq!(rt; EventFlags::try_from(0x03ff), Ok(EventFlags::all()));
+    assert!(rt;
+        all(&[
+            EventFlags::all().bits() == 0x03ff,
+            EventFlags::try_from(0x03ff) == Ok(EventFlags::all()),
+        ])
+    );
     for unknown in [0x0400, 0x0401, 0x8000, 0xffff] {
-        assert_eq!(rt;
-            EventFlags::try_from(unknown),
-            Err(UnknownEventFlags(unknown))
-        );
+        assert!(rt; EventFlags::try_from(unknown) == Err(UnknownEventFlags(unknown)));
     }
 }
 
@@ -373,32 +393,38 @@ fn flags_of_row_events(rt: HostRuntime) -> Result<(), Fail> {
         (0x0008, RowsEventFlags::COMPLETE_ROWS),
     ];
     for (bits, flag) in named {
-        assert_eq!(rt; flag.bits(), bits);
+        assert!(rt; flag.bits() == bits);
     }
     // The four lowest bits have names.
-    assert_eq!(rt; RowsEventFlags::all().bits(), 0x000f);
-    assert!(rt; RowsEventFlags::empty().is_empty());
-    for bits in 0..=0x000f {
-        assert_eq!(rt;
-            RowsEventFlags::try_from(bits),
-            Ok(RowsEventFlags::from_bits_retain(bits))
-        );
-    }
-    assert_eq!(rt;
-        RowsEventFlags::try_from(0x0011),
-        Err(UnknownRowsEventFlags(17))
+    assert!(rt;
+        all(&[
+            RowsEventFlags::all().bits() == 0x000f,
+            RowsEventFlags::empty().is_empty(),
+        ])
     );
-    assert_eq!(rt; RowsEventFlags::from_bits(0x0011), None);
-    assert_eq!(rt; RowsEventFlags::from_bits(0x0001), Some(ends));
-    assert_eq!(rt; RowsEventFlags::from_bits_truncate(0x0011), ends);
+    for bits in 0..=0x000f {
+        assert!(rt; RowsEventFlags::try_from(bits) == Ok(RowsEventFlags::from_bits_retain(bits)));
+    }
+    assert!(rt;
+        all(&[
+            RowsEventFlags::try_from(0x0011) == Err(UnknownRowsEventFlags(17)),
+            RowsEventFlags::from_bits(0x0011) == None,
+            RowsEventFlags::from_bits(0x0001) == Some(ends),
+            RowsEventFlags::from_bits_truncate(0x0011) == ends,
+        ])
+    );
     let kept = RowsEventFlags::from_bits_retain(0x0011);
-    assert_eq!(rt; kept.bits(), 0x0011);
-    assert!(rt; kept.contains(ends));
-    assert!(rt; !kept.contains(ends | RowsEventFlags::COMPLETE_ROWS));
-    assert!(rt; !ends.contains(kept));
-    assert_eq!(rt;
-        UnknownRowsEventFlags(17).to_string(rt.alloc())?.as_str(),
-        "0x11 has a bit that no flag of a row event has"
+    assert!(rt;
+        all(&[
+            kept.bits() == 0x0011,
+            kept.contains(ends),
+            !kept.contains(ends | RowsEventFlags::COMPLETE_ROWS),
+            !ends.contains(kept),
+        ])
+    );
+    assert!(rt;
+        UnknownRowsEventFlags(17).to_string(rt.alloc())?.as_str()
+            == "0x11 has a bit that no flag of a row event has"
     );
     Ok(())
 }
@@ -406,41 +432,48 @@ fn flags_of_row_events(rt: HostRuntime) -> Result<(), Fail> {
 #[test]
 fn flags_of_one_bit(rt: HostRuntime) {
     // Only the lowest bit has a name in each of the three types.
-    assert_eq!(rt; SemiSyncFlags::all().bits(), 1);
-    assert_eq!(rt; GtidFlags::all().bits(), 1);
-    assert_eq!(rt; UserVarFlags::all().bits(), 1);
+    assert!(rt;
+        all(&[
+            SemiSyncFlags::all().bits() == 1,
+            GtidFlags::all().bits() == 1,
+            UserVarFlags::all().bits() == 1,
+        ])
+    );
     for (bits, flag) in [
         (0u8, SemiSyncFlags::empty()),
         (1, SemiSyncFlags::SEMI_SYNC_ACK_REQ),
     ] {
-        assert_eq!(rt; SemiSyncFlags::try_from(bits), Ok(flag));
+        assert!(rt; SemiSyncFlags::try_from(bits) == Ok(flag));
     }
-    assert_eq!(rt; GtidFlags::try_from(0u8), Ok(GtidFlags::empty()));
-    assert_eq!(rt; GtidFlags::try_from(1u8), Ok(GtidFlags::MAY_HAVE_SBR));
-    assert_eq!(rt; UserVarFlags::try_from(0u8), Ok(UserVarFlags::empty()));
-    assert_eq!(rt; UserVarFlags::try_from(1u8), Ok(UserVarFlags::UNSIGNED));
+    assert!(rt;
+        all(&[
+            GtidFlags::try_from(0u8) == Ok(GtidFlags::empty()),
+            GtidFlags::try_from(1u8) == Ok(GtidFlags::MAY_HAVE_SBR),
+            UserVarFlags::try_from(0u8) == Ok(UserVarFlags::empty()),
+            UserVarFlags::try_from(1u8) == Ok(UserVarFlags::UNSIGNED),
+        ])
+    );
     for bits in 2..=255u8 {
-        assert_eq!(rt;
-            SemiSyncFlags::try_from(bits),
-            Err(UnknownSemiSyncFlags(bits))
-        );
-        assert_eq!(rt; GtidFlags::try_from(bits), Err(UnknownGtidFlags(bits)));
-        assert_eq!(rt;
-            UserVarFlags::try_from(bits),
-            Err(UnknownUserVarFlags(bits))
+        assert!(rt;
+            all(&[
+                SemiSyncFlags::try_from(bits) == Err(UnknownSemiSyncFlags(bits)),
+                GtidFlags::try_from(bits) == Err(UnknownGtidFlags(bits)),
+                UserVarFlags::try_from(bits) == Err(UnknownUserVarFlags(bits)),
+            ])
         );
     }
 }
 
 #[test]
 fn numbers_of_variants(rt: HostRuntime) {
-    assert_eq!(rt; u8::from(EventType::WRITE_ROWS_EVENT), 0x1e);
-    assert_eq!(rt; u8::from(EventType::ENUM_END_EVENT), 0x2b);
-    assert_eq!(rt; u8::from(BinlogChecksumAlg::BINLOG_CHECKSUM_ALG_CRC32), 1);
-    assert_eq!(rt; u8::from(StatusVarKey::DefaultTableEncryption), 20);
-    assert_eq!(rt;
-        u8::from(OptionalMetadataFieldType::VECTOR_DIMENSIONALITY),
-        13
+    assert!(rt;
+        all(&[
+            u8::from(EventType::WRITE_ROWS_EVENT) == 0x1e,
+            u8::from(EventType::ENUM_END_EVENT) == 0x2b,
+            u8::from(BinlogChecksumAlg::BINLOG_CHECKSUM_ALG_CRC32) == 1,
+            u8::from(StatusVarKey::DefaultTableEncryption) == 20,
+            u8::from(OptionalMetadataFieldType::VECTOR_DIMENSIONALITY) == 13,
+            u8::from(TransactionPayloadCompressionType::NONE) == 255,
+        ])
     );
-    assert_eq!(rt; u8::from(TransactionPayloadCompressionType::NONE), 255);
 }

@@ -1,5 +1,6 @@
 //! Tests of decimals: their text, their packed bytes, and their order.
 
+use super::all;
 use binlog_base::below::{Counted, Failed, ParseBuf, Sink, Source};
 use binlog_base::fault::Fault;
 use binlog_base::misc::LimitWrite;
@@ -64,23 +65,25 @@ fn dripped(alloc: Global, calls: u64) -> (Result<Decimal, Fault>, u64) {
     (answer, source.failures)
 }
 
-fn shows(rt: &HostRuntime, decimal: &Decimal, wanted: &str) -> Result<bool, Fail> {
-    let text = format!(in rt.alloc(); "{decimal}")?;
-    Ok(text.as_str() == wanted)
+fn shows(rt: &HostRuntime, decimal: &Decimal, wanted: &str) -> bool {
+    match format!(in rt.alloc(); "{decimal}") {
+        Ok(text) => text.as_str() == wanted,
+        Err(_) => false,
+    }
 }
 
-fn packs(rt: &HostRuntime, decimal: &Decimal, wanted: &[u8]) -> Result<bool, Fail> {
+fn packs(rt: &HostRuntime, decimal: &Decimal, wanted: &[u8]) -> bool {
     let mut bytes = Vec::new(rt.alloc());
     let mut sink = Counted::new(&mut bytes);
     let written = decimal.write_bin(&mut sink);
-    Ok(written == Ok(()) && bytes.as_slice() == wanted && decimal.bin_size() == wanted.len())
+    written == Ok(()) && bytes.as_slice() == wanted && decimal.bin_size() == wanted.len()
 }
 
 // Whether a text is read, and what is printed and packed of it.
-fn reads(rt: &HostRuntime, text: &str, printed: &str, packed: &[u8]) -> Result<bool, Fail> {
+fn reads(rt: &HostRuntime, text: &str, printed: &str, packed: &[u8]) -> bool {
     match Decimal::from_str(rt.alloc(), text) {
-        Ok(decimal) => Ok(shows(rt, &decimal, printed)? && packs(rt, &decimal, packed)?),
-        Err(_) => Ok(false),
+        Ok(decimal) => shows(rt, &decimal, printed) && packs(rt, &decimal, packed),
+        Err(_) => false,
     }
 }
 
@@ -111,16 +114,11 @@ fn unpacked(
     Ok((decimal, left.is_empty()))
 }
 
-fn unpacks(
-    rt: &HostRuntime,
-    bytes: &[u8],
-    counts: (usize, usize, bool),
-    wanted: &str,
-) -> Result<bool, Fail> {
+fn unpacks(rt: &HostRuntime, bytes: &[u8], counts: (usize, usize, bool), wanted: &str) -> bool {
     let (precision, scale, keep) = counts;
     match unpacked(rt.alloc(), bytes, precision, scale, keep) {
-        Ok((decimal, all)) => Ok(all && shows(rt, &decimal, wanted)?),
-        Err(_) => Ok(false),
+        Ok((decimal, all)) => all && shows(rt, &decimal, wanted),
+        Err(_) => false,
     }
 }
 
@@ -155,9 +153,13 @@ fn is_less(rt: &HostRuntime, one: &[u8], other: &[u8]) -> bool {
 
 #[test]
 fn decimals_are_packed(rt: HostRuntime) -> Result<(), Fail> {
-    assert!(rt; reads(&rt, "1234567890.1234", "1234567890.1234", &LONG)?);
-    assert!(rt; reads(&rt, "-1234567890.1234", "-1234567890.1234", &MINUS)?);
-    assert_eq!(rt; decimal_bin_size(14, 4), 7);
+    assert!(rt;
+        all(&[
+            reads(&rt, "1234567890.1234", "1234567890.1234", &LONG),
+            reads(&rt, "-1234567890.1234", "-1234567890.1234", &MINUS),
+            decimal_bin_size(14, 4) == 7,
+        ])
+    );
     Ok(())
 }
 
@@ -165,7 +167,7 @@ fn decimals_are_packed(rt: HostRuntime) -> Result<(), Fail> {
 fn packed_decimals_are_read(rt: HostRuntime) -> Result<(), Fail> {
     let mut left = COUNTED.as_slice();
     match Decimal::read_packed(rt.alloc(), &mut left, false) {
-        Ok(decimal) => assert!(rt; left.is_empty() && shows(&rt, &decimal, "1234567890.1234")?),
+        Ok(decimal) => assert!(rt; left.is_empty() && shows(&rt, &decimal, "1234567890.1234")),
         Err(_) => assert!(rt; false),
     }
     Ok(())
@@ -184,62 +186,86 @@ fn texts_of_packed_decimals(rt: HostRuntime) -> Result<(), Fail> {
 
 #[test]
 fn zeros_are_kept_or_trimmed(rt: HostRuntime) -> Result<(), Fail> {
-    assert!(rt; unpacks(&rt, &[0x7f, 0xff], (4, 2, false), "-0.00")?);
-    assert!(rt; unpacks(&rt, &[0x7f, 0xff], (4, 2, true), "-0.00")?);
-    assert!(rt; unpacks(&rt, &[0x7f], (2, 0, true), "-0")?);
-    assert!(rt; unpacks(&rt, &[0x7f], (2, 0, false), "0")?);
-    assert!(rt; unpacks(&rt, &[], (0, 0, false), "0")?);
+    assert!(rt;
+        all(&[
+            unpacks(&rt, &[0x7f, 0xff], (4, 2, false), "-0.00"),
+            unpacks(&rt, &[0x7f, 0xff], (4, 2, true), "-0.00"),
+            unpacks(&rt, &[0x7f], (2, 0, true), "-0"),
+            unpacks(&rt, &[0x7f], (2, 0, false), "0"),
+            unpacks(&rt, &[], (0, 0, false), "0"),
+        ])
+    );
     Ok(())
 }
 
 #[test]
 fn packed_decimals_are_refused(rt: HostRuntime) {
-    assert!(rt; refuses(&rt, &[0xe4, 0x00], 4, 2) == Some(Fault::DecimalGroup));
-    assert!(rt; refuses(&rt, &[0xe4, 0x00], 2, 4) == Some(Fault::DecimalScale));
-    assert!(rt; refuses(&rt, &[0xe4], 4, 2) == Some(Fault::UnexpectedEof));
+    assert!(rt;
+        all(&[
+            refuses(&rt, &[0xe4, 0x00], 4, 2) == Some(Fault::DecimalGroup),
+            refuses(&rt, &[0xe4, 0x00], 2, 4) == Some(Fault::DecimalScale),
+            refuses(&rt, &[0xe4], 4, 2) == Some(Fault::UnexpectedEof),
+        ])
+    );
 }
 
 #[test]
 fn texts_are_read(rt: HostRuntime) -> Result<(), Fail> {
-    assert!(rt; reads(&rt, "0005", "5", &[0x80 + 5])?);
-    assert!(rt; reads(&rt, ".5", "0.5", &[0x85])?);
-    assert!(rt; reads(&rt, "-0.0", "0.0", &[0x80, 0])?);
-    assert!(rt; reads(&rt, "-.5", "-0.5", &[0x7a])?);
-    assert!(rt; reads(&rt, "5.", "5", &[0x85])?);
+    assert!(rt;
+        all(&[
+            reads(&rt, "0005", "5", &[0x80 + 5]),
+            reads(&rt, ".5", "0.5", &[0x85]),
+            reads(&rt, "-0.0", "0.0", &[0x80, 0]),
+            reads(&rt, "-.5", "-0.5", &[0x7a]),
+            reads(&rt, "5.", "5", &[0x85]),
+        ])
+    );
     Ok(())
 }
 
 #[test]
 fn zeros_of_texts_are_kept(rt: HostRuntime) -> Result<(), Fail> {
-    assert!(rt; reads(&rt, "+007", "7", &[0x80, 7])?);
-    assert!(rt; reads(&rt, "0000000007", "7", &[0x87])?);
-    assert!(rt; reads(&rt, "+0000000007", "0000000007", &[0x80, 0, 0, 0, 7])?);
-    assert!(rt; reads(&rt, " 5", "5", &[0x85])?);
+    assert!(rt;
+        all(&[
+            reads(&rt, "+007", "7", &[0x80, 7]),
+            reads(&rt, "0000000007", "7", &[0x87]),
+            reads(&rt, "+0000000007", "0000000007", &[0x80, 0, 0, 0, 7]),
+            reads(&rt, " 5", "5", &[0x85]),
+        ])
+    );
     Ok(())
 }
 
 #[test]
 fn texts_are_refused(rt: HostRuntime) {
-    assert!(rt; is_refused(&rt, "."));
-    assert!(rt; is_refused(&rt, "1.2.3"));
-    assert!(rt; is_refused(&rt, "00-5"));
-    assert!(rt; is_refused_whole(&rt, b" 5"));
-    assert!(rt; !is_refused_whole(&rt, b"5"));
+    assert!(rt;
+        all(&[
+            is_refused(&rt, "."),
+            is_refused(&rt, "1.2.3"),
+            is_refused(&rt, "00-5"),
+            is_refused_whole(&rt, b" 5"),
+            !is_refused_whole(&rt, b"5"),
+        ])
+    );
 }
 
 #[test]
 fn parse_errors_are_told(rt: HostRuntime) -> Result<(), Fail> {
     let invalid = ParseDecimalError::Invalid.to_string(rt.alloc())?;
     let memory = ParseDecimalError::Memory.to_string(rt.alloc())?;
-    assert_eq!(rt; invalid.as_str(), "not a decimal");
-    assert_eq!(rt; memory.as_str(), "out of memory");
+    assert!(rt;
+        all(&[
+            invalid.as_str() == "not a decimal",
+            memory.as_str() == "out of memory",
+        ])
+    );
     Ok(())
 }
 
 #[test]
 fn bytes_are_texts(rt: HostRuntime) -> Result<(), Fail> {
     match Decimal::parse_bytes(rt.alloc(), b" 5") {
-        Ok(decimal) => assert!(rt; shows(&rt, &decimal, "5")?),
+        Ok(decimal) => assert!(rt; shows(&rt, &decimal, "5")),
         Err(_) => assert!(rt; false),
     }
     assert!(rt;
@@ -268,16 +294,19 @@ fn decimals_are_ordered(rt: HostRuntime) {
 #[test]
 fn minus_zero_is_below_zero(rt: HostRuntime) {
     // -0.01, -0 and 0.
-    assert!(rt; is_less(&rt, &[0x7f, 0xfe], &[0x7f, 0xff]));
-    assert!(rt; is_less(&rt, &[0x7f, 0xff], &[0x80, 0x00]));
+    assert!(rt;
+        all(&[
+            is_less(&rt, &[0x7f, 0xfe], &[0x7f, 0xff]),
+            is_less(&rt, &[0x7f, 0xff], &[0x80, 0x00]),
+        ])
+    );
 }
 
 #[test]
 fn default_is_zero(rt: HostRuntime) -> Result<(), Fail> {
     let zero = Decimal::default(rt.alloc())?;
     let again = zero.clone(rt.alloc())?;
-    assert!(rt; shows(&rt, &again, "0")?);
-    assert!(rt; packs(&rt, &again, &[0x80])?);
+    assert!(rt; all(&[shows(&rt, &again, "0"), packs(&rt, &again, &[0x80])]));
     Ok(())
 }
 
@@ -285,13 +314,21 @@ fn default_is_zero(rt: HostRuntime) -> Result<(), Fail> {
 fn failing_writers_are_told(rt: HostRuntime) -> Result<(), Fail> {
     let mut broken = Broken { failures: 0 };
     let zero = Decimal::default(rt.alloc())?;
-    assert!(rt; zero.write_bin(&mut broken) == Err(Fault::Reader));
-    assert!(rt; broken.failures == 1);
+    assert!(rt;
+        all(&[
+            zero.write_bin(&mut broken) == Err(Fault::Reader),
+            broken.failures == 1,
+        ])
+    );
     if let Ok(one) = Decimal::from_str(rt.alloc(), "1.0") {
         let mut bytes = Vec::<u8>::new(rt.alloc());
         let mut sink = Counted::new(bytes.limit(1));
-        assert!(rt; one.write_bin(&mut sink) == Err(Fault::Reader));
-        assert!(rt; sink.failures() == 1);
+        assert!(rt;
+            all(&[
+                one.write_bin(&mut sink) == Err(Fault::Reader),
+                sink.failures() == 1,
+            ])
+        );
     }
     Ok(())
 }
@@ -317,7 +354,7 @@ fn long_decimals_are_read(rt: HostRuntime) -> Result<(), Fail> {
         nines.push('9')?;
     }
     match Decimal::from_str(rt.alloc(), nines.as_str()) {
-        Ok(decimal) => assert!(rt; shows(&rt, &decimal, nines.as_str())?),
+        Ok(decimal) => assert!(rt; shows(&rt, &decimal, nines.as_str())),
         Err(_) => assert!(rt; false),
     }
     Ok(())
@@ -326,6 +363,10 @@ fn long_decimals_are_read(rt: HostRuntime) -> Result<(), Fail> {
 #[test]
 fn constants(rt: HostRuntime) {
     let most: Digit = 1_000_000_000;
-    assert!(rt; DIG_PER_DEC == 9 && DIG_BASE == 1_000_000_000);
-    assert!(rt; DIG_TO_BYTES[9] == 4 && POWERS_10[9] == most);
+    assert!(rt;
+        all(&[
+            DIG_PER_DEC == 9 && DIG_BASE == 1_000_000_000,
+            DIG_TO_BYTES[9] == 4 && POWERS_10[9] == most,
+        ])
+    );
 }

@@ -1,24 +1,24 @@
 //! Tests of images: the columns of rows, updates and deletes, and what is found out once.
 
 use super::{
-    decode, ends, inserted, is_faulty, is_number, is_text, read, row_of, two_columns, two_rows,
+    TWO_COLUMNS, TWO_ROWS, all, decode, ends, inserted, is_faulty, is_number, is_text, read, row_of,
 };
 use crate::row::{
     BinlogRow, BinlogRowToRowError, BinlogRowValueOptions, UnknownBinlogRowValueOptions,
 };
-use crate::rows_event::{Decoded, RowPair, RowsEvent};
+use crate::rows_event::{Decoded, RowPair, RowsEvent, RowsEventRows};
 use crate::value::BinlogValue;
 use binlog_base::below::{Column, ColumnType, ParseBuf, Value};
 use binlog_base::fault::Fault;
 use binlog_consts::consts::{BinlogVersion, EventType, Flags};
 use binlog_table::table_map::TableMapEvent;
-use std::alloc::AllocError;
+use std::alloc::{AllocError, Global};
 use std::rc::RcSlice;
 use std::test::Fail;
 
 /// The table d.t with this optional metadata.
 fn with_metadata(rt: &HostRuntime, optional_metadata: &[u8]) -> Result<Vec<u8>, Fail> {
-    let mut bytes = two_columns().to_vec(rt.alloc())?;
+    let mut bytes = TWO_COLUMNS.to_vec(rt.alloc())?;
     bytes.extend_from_slice(optional_metadata)?;
     Ok(bytes)
 }
@@ -26,7 +26,7 @@ fn with_metadata(rt: &HostRuntime, optional_metadata: &[u8]) -> Result<Vec<u8>, 
 /// A rows event of the table d.t without extra data, with these bytes from the count of the columns
 /// on.
 fn with_rows(rt: &HostRuntime, rows: &[u8]) -> Result<Vec<u8>, Fail> {
-    let mut bytes = two_rows()[..10].to_vec(rt.alloc())?;
+    let mut bytes = TWO_ROWS[..10].to_vec(rt.alloc())?;
     bytes.extend_from_slice(rows)?;
     Ok(bytes)
 }
@@ -52,12 +52,14 @@ fn is_update(decoded: &Decoded) -> bool {
     }
 }
 
+/// The update of column 0, which was 7, to column 1, which is NULL.
+pub(super) const UPDATED: &[u8] = b"\x01\0\0\0\0\0\x01\0\x02\0\x02\x01\x02\0\x07\0\0\0\x01";
+
 #[test]
 fn an_update_with_other_columns_in_each_image(rt: HostRuntime) -> Result<(), Fail> {
-    let rows = with_rows(&rt, &[2, 1, 2, 0, 7, 0, 0, 0, 1])?;
-    let event = read(&rows, EventType::UPDATE_ROWS_EVENT, 10)?;
-    assert_eq!(rt; event.len(BinlogVersion::Version4), 19);
-    let decoded = decode(&rt, &two_columns(), &rows, EventType::UPDATE_ROWS_EVENT, 10)?;
+    let event = read(UPDATED, EventType::UPDATE_ROWS_EVENT, 10)?;
+    assert!(rt; event.len(BinlogVersion::Version4) == 19);
+    let decoded = decode(&rt, TWO_COLUMNS, UPDATED, EventType::UPDATE_ROWS_EVENT, 10)?;
     assert!(rt; decoded.fault.is_none() && is_update(&decoded));
     Ok(())
 }
@@ -70,27 +72,23 @@ fn is_deleted(pair: &RowPair, number: i64) -> bool {
     }
 }
 
+/// Whether these are the two deleted rows.
+fn are_deleted(pairs: &[RowPair]) -> bool {
+    match pairs {
+        [first, second] => is_deleted(first, 42) && is_deleted(second, -1),
+        _ => false,
+    }
+}
+
 #[test]
 fn deleted_rows(rt: HostRuntime) -> Result<(), Fail> {
     for event_type in [
         EventType::DELETE_ROWS_EVENT,
         EventType::DELETE_ROWS_EVENT_V1,
     ] {
-        let decoded = decode(&rt, &two_columns(), &two_rows(), event_type, 10)?;
-        match decoded.pairs.as_slice() {
-            [first, second] => assert!(rt; is_deleted(first, 42) && is_deleted(second, -1)),
-            _ => assert!(rt; false),
-        }
+        let decoded = decode(&rt, TWO_COLUMNS, TWO_ROWS, event_type, 10)?;
+        assert!(rt; are_deleted(&decoded.pairs));
     }
-    Ok(())
-}
-
-#[test]
-fn partial_updates_are_not_supported(rt: HostRuntime) -> Result<(), Fail> {
-    let rows = with_rows(&rt, &[2, 0, 3, 0xfb])?;
-    let event_type = EventType::PARTIAL_UPDATE_ROWS_EVENT;
-    let decoded = decode(&rt, &two_columns(), &rows, event_type, 10);
-    assert!(rt; ends(&decoded, 0, Some(Fault::Unhandled)));
     Ok(())
 }
 
@@ -126,7 +124,7 @@ fn describes(
     number: i64,
 ) -> Result<bool, Fail> {
     let table = with_metadata(rt, optional_metadata)?;
-    let decoded = inserted(rt, &table, &two_rows())?;
+    let decoded = inserted(rt, &table, TWO_ROWS)?;
     match decoded.pairs.as_slice() {
         [one, other] => Ok(
             decoded.fault.is_none()
@@ -193,16 +191,21 @@ fn faults_in_their_order(rt: HostRuntime) -> Result<(), Fail> {
     Ok(())
 }
 
+/// The steps after a further call of `next`.
+fn next_steps(rows: &mut RowsEventRows<'_>) -> u128 {
+    let _pair = rows.next();
+    rows.metadata_steps()
+}
+
 /// The steps before the first call of `next`, after it, and after the fourth.
 fn steps(rt: &HostRuntime, event: &RowsEvent<'_>, table: &TableMapEvent<'_>) -> (u128, u128, u128) {
     let mut rows = event.rows(rt.alloc(), table);
     let before = rows.metadata_steps();
-    let _first = rows.next();
-    let after = rows.metadata_steps();
-    let _second = rows.next();
-    let _third = rows.next();
-    let _fourth = rows.next();
-    (before, after, rows.metadata_steps())
+    let after = next_steps(&mut rows);
+    for _ in 0..2 {
+        next_steps(&mut rows);
+    }
+    (before, after, next_steps(&mut rows))
 }
 
 /// The steps for the rows of an event over a table whose metadata has one field, two names and two
@@ -220,8 +223,7 @@ fn steps_of(
 
 #[test]
 fn steps_of_a_plan(rt: HostRuntime) -> Result<(), Fail> {
-    let inserted = two_rows();
-    assert!(rt; steps_of(&rt, &inserted, EventType::WRITE_ROWS_EVENT)? == (0, 5, 5));
+    assert!(rt; steps_of(&rt, TWO_ROWS, EventType::WRITE_ROWS_EVENT)? == (0, 5, 5));
     Ok(())
 }
 
@@ -235,8 +237,7 @@ fn steps_of_two_plans(rt: HostRuntime) -> Result<(), Fail> {
 
 #[test]
 fn steps_without_rows(rt: HostRuntime) -> Result<(), Fail> {
-    let inserted = two_rows();
-    assert!(rt; steps_of(&rt, &inserted[..12], EventType::WRITE_ROWS_EVENT)? == (0, 0, 0));
+    assert!(rt; steps_of(&rt, &TWO_ROWS[..12], EventType::WRITE_ROWS_EVENT)? == (0, 0, 0));
     Ok(())
 }
 
@@ -244,6 +245,7 @@ fn steps_without_rows(rt: HostRuntime) -> Result<(), Fail> {
 fn values_taken_out_of_a_row(rt: HostRuntime) -> Result<(), Fail> {
     let mut row = row_of(rt.alloc(), Some(Value::Int(7)))?;
     assert!(rt; row.take(1).is_none());
+    // That there was a value says that place 0 is in range, which `place` asks.
     assert!(rt; matches!(row.take(0), Some(BinlogValue::Value(Value::Int(7)))));
     assert!(rt; row.take(0).is_none());
     row.place(0, BinlogValue::Value(Value::Int(8)));
@@ -251,29 +253,37 @@ fn values_taken_out_of_a_row(rt: HostRuntime) -> Result<(), Fail> {
     Ok(())
 }
 
+/// The values of a row of one number.
+pub(super) fn unwrapped(alloc: Global, number: i64) -> Result<Vec<BinlogValue<'static>>, Fault> {
+    let column = Column::new(ColumnType::MYSQL_TYPE_LONG);
+    let columns = RcSlice::from_vec(vec![in alloc; column]?)?;
+    let values = vec![in alloc; Some(BinlogValue::Value(Value::Int(number)))]?;
+    Ok(BinlogRow::new(values, columns).unwrap(alloc)?)
+}
+
 #[test]
 fn all_values_of_a_row(rt: HostRuntime) -> Result<(), Fail> {
-    let column = Column::new(ColumnType::MYSQL_TYPE_LONG);
-    let columns = RcSlice::from_vec(vec![in rt.alloc(); column]?)?;
-    let number = BinlogValue::Value(Value::Int(8));
-    let row = BinlogRow::new(vec![in rt.alloc(); Some(number)]?, columns);
-    let values = row.unwrap(rt.alloc())?;
+    let values = unwrapped(rt.alloc(), 8)?;
     assert!(rt; matches!(values.as_slice(), [BinlogValue::Value(Value::Int(8))]));
     Ok(())
 }
 
+/// Whether the row is converted to a row of this number, or of no value.
+fn converts(rt: &HostRuntime, row: BinlogRow, number: Option<i64>) -> bool {
+    match row.into_row(rt.alloc()) {
+        Ok(row) => match row.as_ref(0) {
+            Some(Value::Int(found)) => row.len() == 1 && number == Some(*found),
+            Some(_) => false,
+            None => row.len() == 1 && number.is_none(),
+        },
+        Err(_) => false,
+    }
+}
+
 #[test]
 fn rows_of_plain_values(rt: HostRuntime) -> Result<(), Fail> {
-    let there = row_of(rt.alloc(), Some(Value::Int(7)))?.into_row(rt.alloc());
-    match there {
-        Ok(row) => assert!(rt; row.len() == 1 && matches!(row.as_ref(0), Some(Value::Int(7)))),
-        Err(_) => assert!(rt; false),
-    }
-    let taken = row_of(rt.alloc(), None)?.into_row(rt.alloc());
-    match taken {
-        Ok(row) => assert!(rt; row.len() == 1 && row.as_ref(0).is_none()),
-        Err(_) => assert!(rt; false),
-    }
+    assert!(rt; converts(&rt, row_of(rt.alloc(), Some(Value::Int(7)))?, Some(7)));
+    assert!(rt; converts(&rt, row_of(rt.alloc(), None)?, None));
     let error: BinlogRowToRowError = AllocError.into();
     assert!(rt; matches!(error, BinlogRowToRowError::Memory));
     Ok(())
@@ -285,7 +295,11 @@ fn options_of_row_values(rt: HostRuntime) {
     assert!(rt; BinlogRowValueOptions::try_from(1_u64) == Ok(partial));
     for number in [0_u64, 2] {
         let refused = UnknownBinlogRowValueOptions(number);
-        assert!(rt; BinlogRowValueOptions::try_from(number) == Err(refused));
-        assert_eq!(rt; u64::from(refused), number);
+        assert!(rt;
+            all(&[
+                BinlogRowValueOptions::try_from(number) == Err(refused),
+                u64::from(refused) == number,
+            ])
+        );
     }
 }

@@ -5,6 +5,7 @@ ghost use Rattle.binlog_base.specs.Format.{Parses, ParsesAs, map_value};
 ghost use Rattle.binlog_base.specs.Values.{plain_of};
 ghost use Rattle.binlog_base.specs.PackedTimes.{time2, datetime2, timestamp2, time_value, datetime_value};
 
+use super::all;
 use binlog_base::below::{Counted, Failed, ParseBuf, Sink, Source, Value, read_exact, write_all};
 use binlog_base::fault::Fault;
 use binlog_base::laws;
@@ -78,95 +79,100 @@ fn dripped(bytes: &[u8], calls: u64) -> (Result<i64, Fault>, u64) {
 
 #[test]
 fn times_of_bytes(rt: HostRuntime) {
-    assert_eq!(rt; time2(&[0x7f, 0xff, 0xff, 0xf6], 2), Ok(-100_000));
-    assert_eq!(rt; time2(&[0x7f, 0xff, 0xff, 0xff, 0x9c], 4), Ok(-10_000));
-    assert_eq!(rt; time2(&[0x80, 0, 0, 0, 0, 1], 6), Ok(1));
-    assert_eq!(rt; time2(&[0x81, 0x90, 0], 0), Ok(0x1_9000 << 24));
-    assert_eq!(rt; time2(&[0x81, 0x90], 0), Err(Fault::UnexpectedEof));
+    assert!(rt;
+        all(&[
+            time2(&[0x7f, 0xff, 0xff, 0xf6], 2) == Ok(-100_000),
+            time2(&[0x7f, 0xff, 0xff, 0xff, 0x9c], 4) == Ok(-10_000),
+            time2(&[0x80, 0, 0, 0, 0, 1], 6) == Ok(1),
+            time2(&[0x81, 0x90, 0], 0) == Ok(0x1_9000 << 24),
+            time2(&[0x81, 0x90], 0) == Err(Fault::UnexpectedEof),
+        ])
+    );
 }
 
 #[test]
 fn values_of_times(rt: HostRuntime) {
-    assert_eq!(rt;
-        time_from_packed(-100_000),
-        Value::Time(true, 0, 0, 0, 0, 100_000)
-    );
-    assert_eq!(rt;
-        time_from_packed(0x1_9000 << 24),
-        Value::Time(false, 1, 1, 0, 0, 0)
-    );
-    assert_eq!(rt;
-        time_from_packed(i64::MIN),
-        Value::Time(true, 0, 0, 0, 0, 0)
+    assert!(rt;
+        all(&[
+            time_from_packed(-100_000) == Value::Time(true, 0, 0, 0, 0, 100_000),
+            time_from_packed(0x1_9000 << 24) == Value::Time(false, 1, 1, 0, 0, 0),
+            time_from_packed(i64::MIN) == Value::Time(true, 0, 0, 0, 0, 0),
+        ])
     );
 }
 
 #[test]
 fn datetimes_of_bytes(rt: HostRuntime) {
     let packed = 110_137_624_448 << 24;
-    assert_eq!(rt; datetime2(&[0x99, 0xa4, 0xb6, 0xc7, 0x80], 0), Ok(packed));
-    assert_eq!(rt;
-        datetime_from_packed(packed),
-        Value::Date(2019, 11, 27, 12, 30, 0, 0)
+    assert!(rt;
+        all(&[
+            datetime2(&[0x99, 0xa4, 0xb6, 0xc7, 0x80], 0) == Ok(packed),
+            datetime_from_packed(packed) == Value::Date(2019, 11, 27, 12, 30, 0, 0),
+            datetime_from_packed(i64::MIN) == Value::Date(10082, 6, 0, 0, 0, 0, 0),
+            datetime2(&[0, 0, 0, 0, 0, 0xff], 2) == Err(Fault::TimeRange),
+        ])
     );
-    assert_eq!(rt;
-        datetime_from_packed(i64::MIN),
-        Value::Date(10082, 6, 0, 0, 0, 0, 0)
-    );
-    assert_eq!(rt; datetime2(&[0, 0, 0, 0, 0, 0xff], 2), Err(Fault::TimeRange));
 }
 
 #[test]
 fn timestamps_of_bytes(rt: HostRuntime) {
-    assert_eq!(rt; timestamp2(&[0xff; 5], 2), Ok((-1, -10_000)));
-    assert_eq!(rt; timestamp2(&[0, 0, 0, 1], 7), Ok((1, 0)));
-    assert_eq!(rt; timestamp2(&[0, 0, 0, 1], 1), Err(Fault::UnexpectedEof));
+    assert!(rt;
+        all(&[
+            timestamp2(&[0xff; 5], 2) == Ok((-1, -10_000)),
+            timestamp2(&[0, 0, 0, 1], 7) == Ok((1, 0)),
+            timestamp2(&[0, 0, 0, 1], 1) == Err(Fault::UnexpectedEof),
+        ])
+    );
 }
 
 #[test]
 fn parts_of_packed_times(rt: HostRuntime) {
-    assert_eq!(rt; my_packed_time_get_int_part(-1), -1);
-    assert_eq!(rt; my_packed_time_get_frac_part(-1), -1);
-    assert_eq!(rt; my_packed_time_make_int(1 << 40), 0);
-    assert_eq!(rt; my_packed_time_make(-1, 5), -0xff_fffb);
+    assert!(rt;
+        all(&[
+            my_packed_time_get_int_part(-1) == -1,
+            my_packed_time_get_frac_part(-1) == -1,
+            my_packed_time_make_int(1 << 40) == 0,
+            my_packed_time_make(-1, 5) == -0xff_fffb,
+        ])
+    );
 }
 
 #[test]
 fn one_byte_a_call(rt: HostRuntime) {
     let bytes = [0x7f, 0xff, 0xff, 0xf6];
-    assert_eq!(rt; dripped(&bytes, 4), (Ok(-100_000), 0));
-    assert_eq!(rt; dripped(&bytes, 3), (Err(Fault::Reader), 1));
-    assert_eq!(rt; dripped(&bytes, 0), (Err(Fault::Reader), 1));
-    assert_eq!(rt; dripped(&bytes[..3], 4), (Err(Fault::UnexpectedEof), 0));
+    assert!(rt;
+        all(&[
+            dripped(&bytes, 4) == (Ok(-100_000), 0),
+            dripped(&bytes, 3) == (Err(Fault::Reader), 1),
+            dripped(&bytes, 0) == (Err(Fault::Reader), 1),
+            dripped(&bytes[..3], 4) == (Err(Fault::UnexpectedEof), 0),
+        ])
+    );
 }
 
 #[test]
 fn counted_readers(rt: HostRuntime) {
     let bytes = [0x81u8, 0x90, 0];
     let mut source = Counted::new(&bytes[..]);
-    assert_eq!(rt;
-        my_time_packed_from_binary(&mut source, 0),
-        Ok(0x1_9000 << 24)
+    assert!(rt;
+        all(&[
+            my_time_packed_from_binary(&mut source, 0) == Ok(0x1_9000 << 24),
+            my_time_packed_from_binary(&mut source, 0) == Err(Fault::UnexpectedEof),
+            source.failures() == 0,
+        ])
     );
-    assert_eq!(rt;
-        my_time_packed_from_binary(&mut source, 0),
-        Err(Fault::UnexpectedEof)
-    );
-    assert_eq!(rt; source.failures(), 0);
 }
 
 #[test]
 fn an_interruption_is_a_failure(rt: HostRuntime) {
     let mut source = Counted::new(Interrupted);
-    assert_eq!(rt;
-        my_timestamp_from_binary(&mut source, 3),
-        Err(Fault::Reader)
+    assert!(rt;
+        all(&[
+            my_timestamp_from_binary(&mut source, 3) == Err(Fault::Reader),
+            my_datetime_packed_from_binary(&mut source, 3) == Err(Fault::Reader),
+            source.failures() == 2,
+        ])
     );
-    assert_eq!(rt;
-        my_datetime_packed_from_binary(&mut source, 3),
-        Err(Fault::Reader)
-    );
-    assert_eq!(rt; source.failures(), 2);
 }
 
 // Reads a cell as a rows event's reader does: its contract gives the whole format of the cell.
@@ -193,32 +199,40 @@ fn timestamp_cell(buf: &mut ParseBuf<'_>, decimals: u8) -> Result<(i32, i32), Fa
 fn cells_in_a_row(rt: HostRuntime) {
     let mut buf = ParseBuf(b"\x80\0\x01\x63\x99\xa4\xb6\xc7\x80\0\0\0\x02\x0a");
     let time = time_cell(&mut buf, 2);
-    assert_eq!(rt; time, Ok(Value::Time(false, 0, 0, 0, 1, 990_000)));
+    assert!(rt; time == Ok(Value::Time(false, 0, 0, 0, 1, 990_000)));
     let datetime = datetime_cell(&mut buf, 0);
-    assert_eq!(rt; datetime, Ok(Value::Date(2019, 11, 27, 12, 30, 0, 0)));
-    assert_eq!(rt; timestamp_cell(&mut buf, 1), Ok((2, 100_000)));
-    assert_eq!(rt; time_cell(&mut buf, 0), Err(Fault::UnexpectedEof));
+    assert!(rt;
+        all(&[
+            datetime == Ok(Value::Date(2019, 11, 27, 12, 30, 0, 0)),
+            timestamp_cell(&mut buf, 1) == Ok((2, 100_000)),
+            time_cell(&mut buf, 0) == Err(Fault::UnexpectedEof),
+        ])
+    );
 }
 
 #[test]
 fn formats_are_exact(rt: HostRuntime) {
     laws::packed_times_are_exact();
-    assert_eq!(rt; TIMEF_INT_OFS, 1 << 23);
-    assert_eq!(rt; DATETIMEF_INT_OFS, 1 << 39);
-    assert_eq!(rt; TIMEF_OFS, 1 << 47);
+    assert!(rt;
+        all(&[
+            TIMEF_INT_OFS == 1 << 23,
+            DATETIMEF_INT_OFS == 1 << 39,
+            TIMEF_OFS == 1 << 47,
+        ])
+    );
 }
 
 // Fails at first, then takes a few bytes a call.
 #[derive(Drop)]
 struct Halting {
-    failing: usize,
+    all: usize,
     most: usize,
 }
 
 impl Write for Halting {
     fn write(&mut self, buf: &[u8]) -> io::Result<usize> {
-        if self.failing > 0 {
-            self.failing -= 1;
+        if self.all > 0 {
+            self.all -= 1;
             return Err(io::Error::from(ErrorKind::BrokenPipe));
         }
         Ok(buf.len().min(self.most))
@@ -231,36 +245,34 @@ impl Write for Halting {
 
 #[test]
 fn bytes_are_written_whole(rt: HostRuntime) {
-    let mut halting = Counted::new(Halting {
-        failing: 1,
-        most: 1,
-    });
-    assert_eq!(rt; write_all(&mut halting, b"ab"), Err(Fault::Reader));
-    assert_eq!(rt; halting.failures(), 1);
-    assert_eq!(rt; write_all(&mut halting, b"ab"), Ok(()));
-    assert_eq!(rt; halting.failures(), 1);
-    assert_eq!(rt; halting.write_some(b""), Ok(0));
+    let mut halting = Counted::new(Halting { all: 1, most: 1 });
+    assert!(rt;
+        all(&[
+            write_all(&mut halting, b"ab") == Err(Fault::Reader),
+            halting.failures() == 1,
+            write_all(&mut halting, b"ab") == Ok(()),
+            halting.failures() == 1,
+            halting.write_some(b"") == Ok(0),
+        ])
+    );
 }
 
 #[test]
 fn a_write_of_none_fails(rt: HostRuntime) {
-    let mut full = Counted::new(Halting {
-        failing: 0,
-        most: 0,
-    });
-    assert_eq!(rt; full.write_some(b"ab"), Err(Failed));
-    assert_eq!(rt; full.failures(), 1);
+    let mut full = Counted::new(Halting { all: 0, most: 0 });
+    assert!(rt; all(&[full.write_some(b"ab") == Err(Failed), full.failures() == 1]));
 }
 
 #[test]
 fn bytes_are_read_whole(rt: HostRuntime) {
     let mut source: &[u8] = b"abc";
     let mut buf = [0u8; 2];
-    assert_eq!(rt; read_exact(&mut source, &mut buf), Ok(()));
-    assert_eq!(rt; buf, [97, 98]);
-    assert_eq!(rt;
-        read_exact(&mut source, &mut buf),
-        Err(Fault::UnexpectedEof)
+    assert!(rt;
+        all(&[
+            read_exact(&mut source, &mut buf) == Ok(()),
+            buf == [97, 98],
+            read_exact(&mut source, &mut buf) == Err(Fault::UnexpectedEof),
+        ])
     );
 }
 
@@ -273,11 +285,19 @@ fn take_two(write: &mut impl Write) -> io::Result<(usize, usize)> {
 #[test]
 fn writing_to_a_limit(rt: HostRuntime) -> Result<(), Fail> {
     let mut written: Vec<u8> = Vec::new(rt.alloc());
-    assert!(rt; matches!(take_two(&mut written), Ok((3, 0))));
-    assert_eq!(rt; written[..], b"abc"[..]);
+    assert!(rt;
+        all(&[
+            matches!(take_two(&mut written), Ok((3, 0))),
+            written[..] == b"abc"[..],
+        ])
+    );
     let mut limited = LimitedWrite::new(written, 1);
-    assert!(rt; limited.flush().is_ok());
-    assert!(rt; matches!(limited.write(b"de"), Ok(1)));
+    assert!(rt;
+        all(&[
+            limited.flush().is_ok(),
+            matches!(limited.write(b"de"), Ok(1)),
+        ])
+    );
     Ok(())
 }
 
@@ -291,14 +311,15 @@ fn is_error(answer: io::Result<usize>, kind: ErrorKind) -> bool {
 // An error keeps the limit of 3; then up to two bytes are taken a call, until the limit is reached.
 #[test]
 fn a_limited_writer_answers_the_inner_one(rt: HostRuntime) {
-    let mut halting = Halting {
-        failing: 1,
-        most: 2,
-    };
+    let mut halting = Halting { all: 1, most: 2 };
     let mut limited = halting.limit(3);
-    assert!(rt; is_error(limited.write(b"abcde"), ErrorKind::BrokenPipe));
-    assert!(rt; matches!(limited.write(b"abcde"), Ok(2)));
-    assert!(rt; matches!(limited.write(b"cde"), Ok(1)));
-    assert!(rt; matches!(limited.write(b"de"), Ok(0)));
-    assert!(rt; matches!(limited.flush(), Err(error) if error.kind() == ErrorKind::TimedOut));
+    assert!(rt;
+        all(&[
+            is_error(limited.write(b"abcde"), ErrorKind::BrokenPipe),
+            matches!(limited.write(b"abcde"), Ok(2)),
+            matches!(limited.write(b"cde"), Ok(1)),
+            matches!(limited.write(b"de"), Ok(0)),
+            matches!(limited.flush(), Err(error) if error.kind() == ErrorKind::TimedOut),
+        ])
+    );
 }

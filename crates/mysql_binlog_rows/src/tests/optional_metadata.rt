@@ -1,6 +1,6 @@
 //! Tests of optional metadata: its fields, the lists in them, and what is extracted for rows.
 
-use super::two_columns;
+use super::{TWO_COLUMNS, all};
 use binlog_base::below::{ColumnType, GeometryType, MyDeserialize, MySerialize, ParseBuf};
 use binlog_base::fault::Fault;
 use binlog_table::laws::columns_are_in_place;
@@ -54,27 +54,31 @@ fn are_fault_and_name(metadata: &[u8], fault: Fault) -> bool {
 
 #[test]
 fn faults_and_names(rt: HostRuntime) {
-    assert!(rt; are_fault_and_name(&[1, 2, 0x80, 0, 4, 2, 1, 0x61], Fault::BytesRemaining));
-    assert!(rt; are_fault_and_name(&[1, 0, 4, 2, 1, 0x61], Fault::UnexpectedEof));
-    assert!(rt; are_fault_and_name(&[0x0e, 0, 4, 2, 1, 0x61], Fault::UnknownOptionalField(14)));
+    assert!(rt;
+        all(&[
+            are_fault_and_name(&[1, 2, 0x80, 0, 4, 2, 1, 0x61], Fault::BytesRemaining),
+            are_fault_and_name(&[1, 0, 4, 2, 1, 0x61], Fault::UnexpectedEof),
+            are_fault_and_name(&[0x0e, 0, 4, 2, 1, 0x61], Fault::UnknownOptionalField(14)),
+        ])
+    );
 }
 
 #[test]
 fn cut_fields_and_lists(rt: HostRuntime) {
     let mut cut = items(&[4, 5, 0x61]);
-    assert!(rt; is_fault(&cut.next(), Fault::UnexpectedEof));
-    assert!(rt; cut.next().is_none());
     assert!(rt;
-        is_set(
-            &items(&[5, 5, 2, 1, 0x61, 1, 0x62]).next(),
-            &[2, 1, 0x61, 1, 0x62]
-        )
-    );
-    assert!(rt;
-        is_set(
-            &items(&[5, 3, 0xfc, 0xff, 0xff]).next(),
-            &[0xfc, 0xff, 0xff]
-        )
+        all(&[
+            is_fault(&cut.next(), Fault::UnexpectedEof),
+            cut.next().is_none(),
+            is_set(
+                &items(&[5, 5, 2, 1, 0x61, 1, 0x62]).next(),
+                &[2, 1, 0x61, 1, 0x62]
+            ),
+            is_set(
+                &items(&[5, 3, 0xfc, 0xff, 0xff]).next(),
+                &[0xfc, 0xff, 0xff]
+            ),
+        ])
     );
 }
 
@@ -96,8 +100,12 @@ fn is_visibility(item: &Item<'_>, expected: [bool; 2]) -> bool {
 
 #[test]
 fn bits_of_columns(rt: HostRuntime) {
-    assert!(rt; is_signs(&items(&[1, 1, 0x80]).next(), [true]));
-    assert!(rt; is_visibility(&items(&[0x0c, 1, 0x40]).next(), [false, true]));
+    assert!(rt;
+        all(&[
+            is_signs(&items(&[1, 1, 0x80]).next(), [true]),
+            is_visibility(&items(&[0x0c, 1, 0x40]).next(), [false, true]),
+        ])
+    );
 }
 
 /// Whether the first field of an event is the sign of its numeric column.
@@ -107,7 +115,7 @@ fn has_sign(table: &TableMapEvent<'_>) -> bool {
 
 #[test]
 fn fields_of_an_event(rt: HostRuntime) -> Result<(), Fail> {
-    let mut bytes = super::two_columns().to_vec(rt.alloc())?;
+    let mut bytes = super::TWO_COLUMNS.to_vec(rt.alloc())?;
     bytes.extend_from_slice(&[1, 1, 0x80])?;
     let table: TableMapEvent<'_> = ParseBuf(bytes.as_slice()).parse(8)?;
     assert!(rt; has_sign(&table));
@@ -142,10 +150,12 @@ fn lists_of_numbers(rt: HostRuntime) {
     let keys: PrimaryKeysWithPrefix<'_> = ListOf::new(&[2, 10, 3]);
     let prefixed = PrimaryKeyWithPrefix::new(2, 10);
     assert!(rt;
-        keys.iter_keys()
-            .eq([Ok(prefixed), Err(Fault::UnexpectedEof)])
+        all(&[
+            keys.iter_keys()
+                .eq([Ok(prefixed), Err(Fault::UnexpectedEof)]),
+            (prefixed.column_index(), prefixed.prefix_length()) == (2, 10),
+        ])
     );
-    assert!(rt; (prefixed.column_index(), prefixed.prefix_length()) == (2, 10));
 }
 
 /// Whether an item is the name `a`.
@@ -160,15 +170,19 @@ fn is_a(item: &Option<Result<ColumnName<'_>, Fault>>) -> bool {
 fn names_of_columns(rt: HostRuntime) {
     let list: ColumnNames<'_> = ListOf::new(&[1, 0x61, 2, 0x62]);
     let mut names = list.iter_names();
-    assert!(rt; is_a(&names.next()));
-    assert!(rt; matches!(names.next(), Some(Err(Fault::UnexpectedEof))));
-    assert_eq!(rt; names.taken(), 2);
+    assert!(rt;
+        all(&[
+            is_a(&names.next()),
+            matches!(names.next(), Some(Err(Fault::UnexpectedEof))),
+            names.taken() == 2,
+        ])
+    );
 }
 
 #[test]
 fn a_name(rt: HostRuntime) -> Result<(), Fail> {
     let name = ColumnName::new(CowSlice::Borrowed(b"a"));
-    assert_eq!(rt; name.name(rt.alloc())?.as_str(), "a");
+    assert!(rt; name.name(rt.alloc())?.as_str() == "a");
     assert!(rt; name.into_owned(rt.alloc())?.name_raw() == b"a".as_slice());
     Ok(())
 }
@@ -196,8 +210,12 @@ fn values_of_sets(rt: HostRuntime) -> Result<(), Fail> {
     let sets: SetsStrValues<'_> = ListOf::new(&[2, 1, 0x61, 1, 0x62, 0xfc, 0xff, 0xff]);
     let mut columns = sets.iter_values(rt.alloc());
     assert!(rt; are_a_and_b(&rt, &columns.next())?);
-    assert!(rt; matches!(columns.next(), Some(Err(Fault::UnexpectedEof))));
-    assert!(rt; columns.next().is_none());
+    assert!(rt;
+        all(&[
+            matches!(columns.next(), Some(Err(Fault::UnexpectedEof))),
+            columns.next().is_none(),
+        ])
+    );
     Ok(())
 }
 
@@ -237,10 +255,14 @@ fn faulty_and_listed_charsets(rt: HostRuntime) -> Result<(), Fail> {
 #[test]
 fn a_default_charset(rt: HostRuntime) {
     let default = DefaultCharset::new(45, ListOf::new(&[1, 0x21]));
-    assert_eq!(rt; default.default_charset(), 45);
+    assert!(rt; default.default_charset() == 45);
     let other = NonDefaultCharset::new(1, 33);
-    assert!(rt; default.iter_non_default().eq([Ok(other)]));
-    assert!(rt; (other.column_index(), other.charset()) == (1, 33));
+    assert!(rt;
+        all(&[
+            default.iter_non_default().eq([Ok(other)]),
+            (other.column_index(), other.charset()) == (1, 33),
+        ])
+    );
 }
 
 #[test]
@@ -254,19 +276,27 @@ fn keys_of_both_lists(rt: HostRuntime) -> Result<(), Fail> {
 fn keys_in_order(rt: HostRuntime) -> Result<(), Fail> {
     // Column 0 is in the list, but after column 2, so column 2 alone is a key column.
     let mut keys = extract(0, &[8, 2, 2, 0])?.iter_primary_key();
-    assert!(rt; keys.next_if_is(0).is_none());
-    assert!(rt; keys.next_if_is(1).is_none());
-    assert!(rt; keys.next_if_is(2) == Some(Ok(2)));
-    assert!(rt; keys.peek() == Some(&Ok(0)));
+    assert!(rt;
+        all(&[
+            keys.next_if_is(0).is_none(),
+            keys.next_if_is(1).is_none(),
+            keys.next_if_is(2) == Some(Ok(2)),
+            keys.peek() == Some(&Ok(0)),
+        ])
+    );
     Ok(())
 }
 
 #[test]
 fn signs_and_names(rt: HostRuntime) -> Result<(), Fail> {
     let extracted = extract(2, &[1, 1, 0x40, 4, 2, 1, 0x61])?;
-    assert!(rt; extracted.iter_signedness().eq([false, true]));
-    assert!(rt; is_a(&extracted.iter_column_name().next()));
-    assert!(rt; matches!(extract(2, &[1, 0]), Err(Fault::UnexpectedEof)));
+    assert!(rt;
+        all(&[
+            extracted.iter_signedness().eq([false, true]),
+            is_a(&extracted.iter_column_name().next()),
+            matches!(extract(2, &[1, 0]), Err(Fault::UnexpectedEof)),
+        ])
+    );
     Ok(())
 }
 
@@ -276,9 +306,13 @@ fn fields_are_counted(rt: HostRuntime) -> Result<(), Fail> {
     let bytes = &[4, 0, 14, 0, 4, 0];
     let mut fields = OptionalMetadataIter::new(0, 0, bytes);
     let refused = OptionalMetaExtractor::take_from(&mut fields).is_err();
-    assert!(rt; refused && fields.taken() == 2);
-    assert!(rt; OptionalMetaExtractor::take_from(&mut fields).is_ok());
-    assert_eq!(rt; fields.taken(), 3);
+    assert!(rt;
+        all(&[
+            refused && fields.taken() == 2,
+            OptionalMetaExtractor::take_from(&mut fields).is_ok(),
+            fields.taken() == 3,
+        ])
+    );
     Ok(())
 }
 
@@ -303,23 +337,25 @@ fn is_column(
 
 #[test]
 fn columns_in_one_walk(rt: HostRuntime) -> Result<(), Fail> {
-    let mut bytes = two_columns().to_vec(rt.alloc())?;
+    let mut bytes = TWO_COLUMNS.to_vec(rt.alloc())?;
     bytes.extend_from_slice(&[1, 1, 0x80, 4, 4, 1, 0x61, 1, 0x62])?;
     let table: TableMapEvent<'_> = ParseBuf(&bytes).parse(8)?;
     let mut columns = TableColumns::new(&table);
-    assert!(rt; columns.fault().is_none());
-    assert!(rt; is_column(&columns.next(), ColumnType::MYSQL_TYPE_LONG, true, b"a"));
     assert!(rt;
-        is_column(
-            &columns.take_column(),
-            ColumnType::MYSQL_TYPE_VARCHAR,
-            false,
-            b"b"
-        )
+        all(&[
+            columns.fault().is_none(),
+            is_column(&columns.next(), ColumnType::MYSQL_TYPE_LONG, true, b"a"),
+            is_column(
+                &columns.take_column(),
+                ColumnType::MYSQL_TYPE_VARCHAR,
+                false,
+                b"b"
+            ),
+            columns.next().is_none(),
+            // Two fields, two names and two columns.
+            columns.steps() == 6,
+        ])
     );
-    assert!(rt; columns.next().is_none());
-    // Two fields, two names and two columns.
-    assert!(rt; columns.steps() == 6);
     columns_are_in_place();
     Ok(())
 }

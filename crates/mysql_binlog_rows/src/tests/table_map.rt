@@ -1,15 +1,14 @@
 //! Tests of the table map event.
 
-use super::two_columns;
+use super::{TWO_COLUMNS, all};
 use binlog_base::below::{ColumnType, MySerialize, ParseBuf, UnknownColumnType};
 use binlog_base::fault::Fault;
 use binlog_table::table_map::{BadColumnType, TableId, TableMapEvent};
-use std::alloc::AllocError;
 use std::test::Fail;
 
 /// The table d.t, with these bytes from the count of the columns on.
 fn with_columns(rt: &HostRuntime, columns: &[u8]) -> Result<Vec<u8>, Fail> {
-    let mut bytes = two_columns()[..14].to_vec(rt.alloc())?;
+    let mut bytes = TWO_COLUMNS[..14].to_vec(rt.alloc())?;
     bytes.extend_from_slice(columns)?;
     Ok(bytes)
 }
@@ -71,26 +70,6 @@ fn is_read_as<'a>(bytes: &'a [u8], post_header_len: u8, table: &TableMapEvent<'a
     }
 }
 
-#[test]
-fn a_table_of_two_columns(rt: HostRuntime) -> Result<(), Fail> {
-    let bytes = two_columns();
-    let table = read(&bytes, 8)?;
-    assert!(rt;
-        is_table(&table, 1, b"d", b"t")
-            && has_counts(&table, 2, 0)
-            && has_null_bits(&table, &[false, true])
-    );
-    Ok(())
-}
-
-#[test]
-fn readings_are_alike(rt: HostRuntime) -> Result<(), Fail> {
-    let bytes = two_columns();
-    let table = read(&bytes, 8)?;
-    assert!(rt; is_read_as(&bytes, 10, &table));
-    Ok(())
-}
-
 /// Whether the raw types are LONG, and none past the last column.
 fn has_raw_types(table: &TableMapEvent<'_>) -> bool {
     table.get_raw_column_type(0) == Ok(Some(ColumnType::MYSQL_TYPE_LONG))
@@ -105,40 +84,57 @@ fn has_two_columns(table: &TableMapEvent<'_>) -> bool {
         && is_column(table, (2, Ok(None), None))
 }
 
-#[test]
-fn the_columns_of_a_table(rt: HostRuntime) -> Result<(), Fail> {
-    let bytes = two_columns();
-    let table = read(&bytes, 8)?;
-    assert!(rt; has_two_columns(&table) && has_raw_types(&table));
-    Ok(())
-}
-
 /// Whether these are the texts of the names.
-fn has_texts(
-    rt: &HostRuntime,
-    table: &TableMapEvent<'_>,
-    database: &str,
-    name: &str,
-) -> Result<bool, AllocError> {
-    Ok(
-        table.database_name(rt.alloc())?.as_str() == database
-            && table.table_name(rt.alloc())?.as_str() == name,
-    )
+fn has_texts(rt: &HostRuntime, table: &TableMapEvent<'_>, database: &str, name: &str) -> bool {
+    match (
+        table.database_name(rt.alloc()),
+        table.table_name(rt.alloc()),
+    ) {
+        (Ok(one), Ok(other)) => one.as_str() == database && other.as_str() == name,
+        _ => false,
+    }
+}
+
+/// Whether these bytes are written for a table.
+fn is_written(rt: &HostRuntime, table: &TableMapEvent<'_>, bytes: &[u8]) -> bool {
+    let mut buf = Vec::new(rt.alloc());
+    table.serialize(&mut buf).is_ok() && buf.as_slice() == bytes
+}
+
+/// Whether a copy of a table is equal to it.
+fn is_copied(rt: &HostRuntime, table: &TableMapEvent<'_>) -> bool {
+    match table.clone(rt.alloc()) {
+        Ok(copy) => copy == *table,
+        Err(_) => false,
+    }
 }
 
 #[test]
-fn names_of_a_table(rt: HostRuntime) -> Result<(), Fail> {
-    let bytes = two_columns();
-    let table = read(&bytes, 8)?;
-    assert!(rt; has_texts(&rt, &table, "d", "t")?);
+fn a_table_of_two_columns(rt: HostRuntime) -> Result<(), Fail> {
+    let table = read(TWO_COLUMNS, 8)?;
+    assert!(rt;
+        all(&[
+            is_table(&table, 1, b"d", b"t"),
+            has_counts(&table, 2, 0),
+            has_null_bits(&table, &[false, true]),
+            is_read_as(TWO_COLUMNS, 10, &table),
+            has_two_columns(&table),
+            has_raw_types(&table),
+            has_texts(&rt, &table, "d", "t"),
+            is_written(&rt, &table, TWO_COLUMNS),
+            is_copied(&rt, &table),
+        ])
+    );
     Ok(())
 }
 
 #[test]
 fn cut_events(rt: HostRuntime) {
-    let bytes = two_columns();
-    for len in 0..bytes.len() {
-        assert!(rt; is_refused(&bytes[..len], Fault::UnexpectedEof), "{len}");
+    for len in 0..TWO_COLUMNS.len() {
+        assert!(rt;
+            is_refused(&TWO_COLUMNS[..len], Fault::UnexpectedEof),
+            "{len}"
+        );
     }
 }
 
@@ -167,22 +163,20 @@ fn hostile_counts(rt: HostRuntime) -> Result<(), Fail> {
 #[test]
 fn table_ids(rt: HostRuntime) -> Result<(), Fail> {
     let old: TableId = ParseBuf(&[1, 2, 3, 4]).parse(6)?;
-    assert_eq!(rt; old.get(), 0x0403_0201);
     let new: TableId = ParseBuf(&[1, 2, 3, 4, 5, 6]).parse(8)?;
-    assert_eq!(rt; new.get(), 0x0605_0403_0201);
+    assert!(rt; (old.get(), new.get()) == (0x0403_0201, 0x0605_0403_0201));
     let mut buf = Vec::new(rt.alloc());
     old.serialize(&mut buf)?;
-    assert_eq!(rt; buf.as_slice(), [1, 2, 3, 4, 0, 0].as_slice());
+    assert!(rt; buf.as_slice() == [1, 2, 3, 4, 0, 0].as_slice());
     Ok(())
 }
 
 /// STRING four times, DATE, TYPED_ARRAY of VARCHAR, TYPED_ARRAY of LONG, an unknown type, LONG.
-fn nine_columns() -> [u8; 26] {
-    [
-        9, 254, 254, 254, 254, 10, 20, 20, 244, 3, 13, 0xf7, 1, 0xfe, 0x0a, 0xee, 4, 0x11, 0, 15,
-        1, 2, 3, 3, 0, 0,
-    ]
-}
+const NINE_COLUMNS: &[u8] =
+    b"\x01\0\0\0\0\0\x01\0\x01d\0\x01t\0\x09\xfe\xfe\xfe\xfe\x0a\x14\x14\xf4\x03\
+    \x0d\xf7\x01\xfe\x0a\xee\x04\x11\0\x0f\x01\x02\x03\x03\0\0";
+/// STRING twice. The first metadata byte is 0, and the second column has no chunk.
+const TWO_STRINGS: &[u8] = b"\x01\0\0\0\0\0\x01\0\x01d\0\x01t\0\x02\xfe\xfe\x02\0\x05\0";
 
 /// Whether the first five of the nine columns have their types.
 fn has_strings_and_date(table: &TableMapEvent<'_>) -> bool {
@@ -211,14 +205,6 @@ fn has_arrays_and_unknown(table: &TableMapEvent<'_>) -> bool {
 }
 
 #[test]
-fn types_of_columns(rt: HostRuntime) -> Result<(), Fail> {
-    let bytes = with_columns(&rt, &nine_columns())?;
-    let table = read(bytes.as_slice(), 8)?;
-    assert!(rt; has_strings_and_date(&table) && has_arrays_and_unknown(&table));
-    Ok(())
-}
-
-#[test]
 fn faults_of_types(rt: HostRuntime) {
     assert!(rt; Fault::from(BadColumnType::Unexpected(49)) == Fault::UnexpectedColumnType(49));
 }
@@ -238,14 +224,6 @@ fn walks_alike(table: &TableMapEvent<'_>, columns: usize) -> bool {
     chunks.next_chunk().is_none()
 }
 
-#[test]
-fn chunks_in_one_walk(rt: HostRuntime) -> Result<(), Fail> {
-    let bytes = with_columns(&rt, &nine_columns())?;
-    let table = read(bytes.as_slice(), 8)?;
-    assert!(rt; walks_alike(&table, 9));
-    Ok(())
-}
-
 /// Whether both columns are STRING, the second without a chunk.
 fn has_two_strings(table: &TableMapEvent<'_>) -> bool {
     let string = Ok(Some(ColumnType::MYSQL_TYPE_STRING));
@@ -253,46 +231,24 @@ fn has_two_strings(table: &TableMapEvent<'_>) -> bool {
 }
 
 #[test]
-fn strings_that_stay_strings(rt: HostRuntime) -> Result<(), Fail> {
-    // The first metadata byte is 0; the second column has no chunk.
-    let bytes = with_columns(&rt, &[2, 254, 254, 2, 0, 5, 0])?;
-    let table = read(bytes.as_slice(), 8)?;
-    assert!(rt; has_two_strings(&table));
-    Ok(())
-}
-
-/// The bytes that are written for a table.
-fn written(rt: &HostRuntime, table: &TableMapEvent<'_>) -> Result<Vec<u8>, AllocError> {
-    let mut buf = Vec::new(rt.alloc());
-    table.serialize(&mut buf)?;
-    Ok(buf)
-}
-
-#[test]
-fn a_table_is_written(rt: HostRuntime) -> Result<(), Fail> {
-    let bytes = two_columns();
-    let table = read(&bytes, 8)?;
-    assert!(rt; written(&rt, &table)?.as_slice() == bytes.as_slice());
-    Ok(())
-}
-
-/// Whether a copy of a table is equal to it.
-fn is_copied(rt: &HostRuntime, table: &TableMapEvent<'_>) -> Result<bool, AllocError> {
-    Ok(table.clone(rt.alloc())? == *table)
-}
-
-#[test]
-fn a_copy_of_a_table(rt: HostRuntime) -> Result<(), Fail> {
-    let bytes = two_columns();
-    let table = read(&bytes, 8)?;
-    assert!(rt; is_copied(&rt, &table)?);
+fn types_of_columns(rt: HostRuntime) -> Result<(), Fail> {
+    let nine = read(NINE_COLUMNS, 8)?;
+    let two = read(TWO_STRINGS, 8)?;
+    assert!(rt;
+        all(&[
+            has_strings_and_date(&nine),
+            has_arrays_and_unknown(&nine),
+            walks_alike(&nine, 9),
+            has_two_strings(&two),
+            walks_alike(&two, 2),
+        ])
+    );
     Ok(())
 }
 
 #[test]
 fn an_owned_table(rt: HostRuntime) -> Result<(), Fail> {
-    let bytes = two_columns();
-    let owned = read(&bytes, 8)?.into_owned(rt.alloc())?;
+    let owned = read(TWO_COLUMNS, 8)?.into_owned(rt.alloc())?;
     assert!(rt; is_table(&owned, 1, b"d", b"t"));
     Ok(())
 }

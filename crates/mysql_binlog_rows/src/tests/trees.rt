@@ -23,7 +23,7 @@ fn is_tree(alloc: Global, bytes: &[u8], text: &str, count: u64) -> Result<bool, 
 
 /// Whether the bytes are a scalar with this text.
 fn is_scalar(alloc: Global, bytes: &[u8], text: &str) -> Result<bool, Fail> {
-    match json(bytes)?.parse(alloc)? {
+    match tree(alloc, bytes)? {
         JsonDom::Scalar(scalar) => {
             let shown = format!(in alloc; "{scalar:?}")?;
             Ok(shown.as_str() == text)
@@ -46,15 +46,16 @@ const SHARED: [u8; 25] = [
     2, 2, 0, 0x18, 0, 2, 0x0a, 0, 2, 0x0a, 0, 2, 0, 0x0e, 0, 2, 0x0a, 0, 2, 0x0a, 0, 0, 0, 4, 0,
 ];
 
+/// An array whose string begins inside its entries, and the literal true.
+pub(super) const OVERLAPPING: &[u8] = &[2, 2, 0, 12, 0, 12, 7, 0, 4, 1, 0, 0x78, 0x79];
+
 #[test]
 fn trees_of_arrays(rt: HostRuntime) -> Result<(), Fail> {
     let alloc = rt.alloc();
     let numbers = "Container(Array([Scalar(Number(Int(1))), Scalar(Number(Int(2)))]))";
     assert!(rt; is_tree(alloc, &[2, 2, 0, 10, 0, 5, 1, 0, 5, 2, 0], numbers, 2)?);
-    // The string begins inside the array's entries.
     let overlap = "Container(Array([Scalar(String(\"\\u{1}\\0xy\")), Scalar(Boolean(true))]))";
-    let bytes = &[2, 2, 0, 12, 0, 12, 7, 0, 4, 1, 0, 0x78, 0x79];
-    assert!(rt; is_tree(alloc, bytes, overlap, 2)?);
+    assert!(rt; is_tree(alloc, OVERLAPPING, overlap, 2)?);
     let shared = "Container(Array([\
         Container(Array([Container(Array([])), Container(Array([]))])), \
         Container(Array([Container(Array([])), Container(Array([]))]))]))";
@@ -116,10 +117,9 @@ fn trees_of_scalars(rt: HostRuntime) -> Result<(), Fail> {
 }
 
 /// The text of a decimal, or of a date or time without a fraction, or of an opaque value.
-fn text_of(alloc: Global, bytes: &[u8]) -> Result<String, Fail> {
-    let dom = json(bytes)?.parse(alloc)?;
+fn scalar_text(alloc: Global, dom: &JsonDom) -> Result<String, Fail> {
     let mut text = String::new(alloc);
-    match &dom {
+    match dom {
         JsonDom::Scalar(JsonScalar::Number(JsonNumber::Decimal(decimal))) => {
             write!(text, "{decimal}")?;
         }
@@ -130,10 +130,14 @@ fn text_of(alloc: Global, bytes: &[u8]) -> Result<String, Fail> {
     Ok(text)
 }
 
+/// The tree of a document.
+fn tree(alloc: Global, bytes: &[u8]) -> Result<JsonDom, Fault> {
+    json(bytes)?.parse(alloc)
+}
+
 /// The text that `Display` writes for an opaque value.
 fn shown_opaque(alloc: Global, bytes: &[u8]) -> Result<String, Fail> {
-    let dom = json(bytes)?.parse(alloc)?;
-    match &dom {
+    match &tree(alloc, bytes)? {
         JsonDom::Scalar(JsonScalar::Opaque(value)) => Ok(format!(in alloc; "{value}")?),
         _ => Ok(String::new(alloc)),
     }
@@ -162,7 +166,7 @@ fn opaque_values_in_trees(rt: HostRuntime) -> Result<(), Fail> {
         (&[15, 252, 1, 0x61], "base64:type252:YQ=="),
     ];
     for (bytes, text) in cases {
-        assert!(rt; text_of(alloc, bytes)?.as_str() == text);
+        assert!(rt; scalar_text(alloc, &tree(alloc, bytes)?)?.as_str() == text);
     }
     let shown = shown_opaque(alloc, &[15, 252, 1, 0x61])?;
     assert!(rt; shown.as_str() == "base64:type252:YQ==");
@@ -174,7 +178,7 @@ fn opaque_values_in_trees(rt: HostRuntime) -> Result<(), Fail> {
 
 /// Nested small arrays, so many, of this many entries that all point at the next one; the innermost
 /// is empty.
-fn nested(alloc: Global, depth: u16, entries: u8) -> Result<Vec<u8>, AllocError>
+pub(super) fn nested(alloc: Global, depth: u16, entries: u8) -> Result<Vec<u8>, AllocError>
     requires some { 1 ≤ depth }
     requires depth { depth ≤ 200 }
     requires entries { entries ≤ 2 }
@@ -197,11 +201,9 @@ fn nested(alloc: Global, depth: u16, entries: u8) -> Result<Vec<u8>, AllocError>
 fn nested_arrays(rt: HostRuntime) -> Result<(), Fail> {
     let alloc = rt.alloc();
     let deepest = nested(alloc, 100, 1)?;
-    assert!(rt; deepest.len() == 698);
-    let (dom, read) = json(&deepest)?.parse_counted(alloc);
-    assert!(rt; dom.is_ok() && read == 99);
     let deeper = nested(alloc, 101, 1)?;
-    assert!(rt; deeper.len() == 705);
+    assert!(rt; (deepest.len(), deeper.len()) == (698, 705));
+    assert!(rt; is_tree_of(alloc, &deepest, 99)?);
     assert!(rt; is_fault(alloc, &deeper, Fault::NestingTooDeep, 100)?);
     Ok(())
 }
@@ -210,8 +212,7 @@ fn nested_arrays(rt: HostRuntime) -> Result<(), Fail> {
 fn shared_arrays(rt: HostRuntime) -> Result<(), Fail> {
     let alloc = rt.alloc();
     for (depth, count) in [(2, 2), (3, 6)] {
-        let (dom, read) = json(&nested(alloc, depth, 2)?)?.parse_counted(alloc);
-        assert!(rt; dom.is_ok() && read == count);
+        assert!(rt; is_tree_of(alloc, &nested(alloc, depth, 2)?, count)?);
     }
     for (depth, count) in [(4, 12), (100, 332)] {
         assert!(rt;
@@ -336,15 +337,19 @@ fn ten_thousand_keys_by_a_thousand(rt: HostRuntime) -> Result<(), Fail> {
     Ok(())
 }
 
+/// Whether a copy of a tree is equal to it.
+fn is_copied(alloc: Global, dom: &JsonDom) -> bool {
+    match dom.clone(alloc) {
+        Ok(copy) => copy == *dom,
+        Err(_) => false,
+    }
+}
+
 #[test]
 fn copies_of_trees(rt: HostRuntime) -> Result<(), Fail> {
     let alloc = rt.alloc();
-    let dom = json(&SHARED)?.parse(alloc)?;
-    let copy = dom.clone(alloc)?;
-    assert!(rt; copy == dom);
-    assert!(rt; dom != json(&[4, 0])?.parse(alloc)?);
-    let object = json(&[0, 1, 0, 12, 0, 11, 0, 1, 0, 4, 0, 0, 0x61])?.parse(alloc)?;
-    let copy = object.clone(alloc)?;
-    assert!(rt; copy == object);
+    let array = tree(alloc, &SHARED)?;
+    let object = tree(alloc, &[0, 1, 0, 12, 0, 11, 0, 1, 0, 4, 0, 0, 0x61])?;
+    assert!(rt; is_copied(alloc, &array) && is_copied(alloc, &object) && array != object);
     Ok(())
 }

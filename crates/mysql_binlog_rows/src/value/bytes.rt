@@ -2,9 +2,9 @@
 
 ghost use Rattle.std.specs.Prelude.{◌≡◌, true, false, IfOk};
 ghost use Rattle.binlog_base.specs.Format.{ParsesAs, OrMemory};
-ghost use Rattle.mysql_binlog_rows.specs.Cells.{cell_of, bytes_cell, fixed_bytes, text, text_cell, bytes_in};
+ghost use Rattle.binlog_base.specs.Values.{plain_of, Bytes};
+ghost use Rattle.mysql_binlog_rows.specs.Cells.{fixed_bytes, text, text_cell, bytes_in};
 
-use super::BinlogValue;
 use super::form::Width;
 use binlog_base::below::{ParseBuf, Value, read_number};
 use binlog_base::fault::Fault;
@@ -12,20 +12,16 @@ use byteorder::LittleEndian;
 use std::alloc::{AllocError, Global};
 
 // Copies the bytes into a value.
-fn bytes_of(alloc: Global, bytes: &[u8]) -> Result<BinlogValue, AllocError>
-    ensures { IfOk result (λ value. cell_of value ≡ bytes_cell bytes.now) }
+fn bytes_of(alloc: Global, bytes: &[u8]) -> Result<Value, AllocError>
+    ensures { IfOk result (λ value. plain_of value ≡ Bytes bytes.now) }
 {
-    Ok(BinlogValue::Value(Value::Bytes(Vec::from_slice(alloc, bytes)?)))
+    Ok(Value::Bytes(Vec::from_slice(alloc, bytes)?))
 }
 
 // Reads `len` bytes.
 #[tactic(auto, unfolding(crate::specs::Cells::fixed_bytes))]
-pub(super) fn read_fixed(
-    alloc: Global,
-    len: usize,
-    buf: &mut ParseBuf<'_>,
-) -> Result<BinlogValue, Fault>
-    ensures { OrMemory result (ParsesAs cell_of (fixed_bytes len) result buf.old.0.now buf.new.0.now) }
+pub(super) fn read_fixed(alloc: Global, len: usize, buf: &mut ParseBuf<'_>) -> Result<Value, Fault>
+    ensures { OrMemory result (ParsesAs plain_of (fixed_bytes len) result buf.old.0.now buf.new.0.now) }
 {
     let bytes = buf.eat(len)?;
     Ok(bytes_of(alloc, bytes)?)
@@ -42,12 +38,8 @@ fn read_slice<'a>(width: Width, buf: &mut ParseBuf<'a>) -> Result<&'a [u8], Faul
 
 // Reads a little-endian length of `width` bytes, and copies as many bytes as it says into a value.
 #[tactic(auto, unfolding(crate::specs::Cells::text_cell))]
-pub(super) fn read_text(
-    alloc: Global,
-    width: Width,
-    buf: &mut ParseBuf<'_>,
-) -> Result<BinlogValue, Fault>
-    ensures { OrMemory result (ParsesAs cell_of (text_cell (bytes_in width)) result buf.old.0.now
+pub(super) fn read_text(alloc: Global, width: Width, buf: &mut ParseBuf<'_>) -> Result<Value, Fault>
+    ensures { OrMemory result (ParsesAs plain_of (text_cell (bytes_in width)) result buf.old.0.now
         buf.new.0.now) }
 {
     let bytes = read_slice(width, buf)?;

@@ -1,9 +1,9 @@
 //! Reads the cells of decimals.
 
 ghost use Rattle.binlog_base.specs.Format.{ParsesAs, OrMemory};
-ghost use Rattle.mysql_binlog_rows.specs.Cells.{cell_of, decimal_cell};
+ghost use Rattle.binlog_base.specs.Values.{plain_of};
+ghost use Rattle.mysql_binlog_rows.specs.Cells.{decimal_cell};
 
-use super::BinlogValue;
 use binlog_base::below::{ParseBuf, Value};
 use binlog_base::fault::Fault;
 use binlog_values::decimal::Decimal;
@@ -16,10 +16,10 @@ pub(super) fn read_decimal(
     precision: u8,
     scale: u8,
     buf: &mut ParseBuf<'_>,
-) -> Result<BinlogValue, Fault>
-    ensures { OrMemory result (ParsesAs cell_of (decimal_cell precision scale) result buf.old.0.now
+) -> Result<Value, Fault>
+    ensures { OrMemory result (ParsesAs plain_of (decimal_cell precision scale) result buf.old.0.now
         buf.new.0.now) }
 {
     let text = Decimal::read_text(alloc, buf, precision, scale)?;
-    Ok(BinlogValue::Value(Value::Bytes(text)))
+    Ok(Value::Bytes(text))
 }

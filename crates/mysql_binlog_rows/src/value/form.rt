@@ -1,7 +1,7 @@
 //! Finds out how the cells of a column are read, from the column's type and metadata.
 
 ghost use Rattle.std.specs.Prelude.{◌≡◌, ◌≤◌};
-ghost use Rattle.mysql_binlog_rows.specs.Cells.{bytes_in, first_byte, first_two, length_width, varchar_length, string_length, bit_bytes, blob_form, variant_form, two_form, element_form, array_form, form_of};
+ghost use Rattle.mysql_binlog_rows.specs.Cells.{bytes_in, first_byte, first_two, length_width, varchar_length, string_length, bit_bytes, blob_form, variant_form, two_form, plain_form, element_form, array_form, form_of};
 
 use binlog_base::below::{ColumnType, Constant};
 use binlog_base::fault::Fault;
@@ -31,9 +31,9 @@ impl Width {
     }
 }
 
-/// How a cell is read, with all that the reading takes from the column's metadata.
+/// How a cell of a plain value is read, with all that the reading takes from the column's metadata.
 #[derive(Clone, Copy)]
-pub(crate) enum Form {
+pub(crate) enum PlainForm {
     /// A little-endian integer of that many bytes, and whether it is unsigned.
     Integer(Width, bool),
     /// A little-endian integer of eight bytes, and whether it is unsigned.
@@ -57,6 +57,14 @@ pub(crate) enum Form {
     Text(Width),
     /// The number of an ENUM value, written in that many bytes.
     Variant(Width),
+}
+
+/// How a cell is read.
+#[derive(Clone, Copy)]
+pub(crate) enum Form {
+    Plain(PlainForm),
+    /// A length in four bytes, and in as many bytes a value of binary JSON, or diffs.
+    Json,
 }
 
 // Returns the first byte of the metadata. `MissingMetadata` if there is none.
@@ -116,86 +124,96 @@ fn bit_bytes(m0: u8, m1: u8) -> usize
 
 // Returns how BLOB, GEOMETRY and VECTOR cells are read, whose length is written in `width` bytes.
 // `UnknownBlob` if `width` isn't 1 to 4.
-fn blob_form(width: u8) -> Result<Form, Fault>
+fn blob_form(width: u8) -> Result<PlainForm, Fault>
     ensures { result ≡ blob_form width }
 {
     match width {
-        1 => Ok(Form::Text(Width::One)),
-        2 => Ok(Form::Text(Width::Two)),
-        3 => Ok(Form::Text(Width::Three)),
-        4 => Ok(Form::Text(Width::Four)),
+        1 => Ok(PlainForm::Text(Width::One)),
+        2 => Ok(PlainForm::Text(Width::Two)),
+        3 => Ok(PlainForm::Text(Width::Three)),
+        4 => Ok(PlainForm::Text(Width::Four)),
         _ => Err(Fault::UnknownBlob),
     }
 }
 
 // Returns how ENUM cells are read, whose number is written in `width` bytes. `UnknownEnum` if
 // `width` isn't 1 or 2.
-fn variant_form(width: u8) -> Result<Form, Fault>
+fn variant_form(width: u8) -> Result<PlainForm, Fault>
     ensures { result ≡ variant_form width }
 {
     match width {
-        1 => Ok(Form::Variant(Width::One)),
-        2 => Ok(Form::Variant(Width::Two)),
+        1 => Ok(PlainForm::Variant(Width::One)),
+        2 => Ok(PlainForm::Variant(Width::Two)),
         _ => Err(Fault::UnknownEnum),
     }
 }
 
-// Returns how the cells of a column are read, if it isn't an array.
-#[tactic(auto, unfolding(crate::specs::Cells::element_form))]
-fn element_form(column_type: ColumnType, metadata: &[u8], unsigned: bool) -> Result<Form, Fault>
-    ensures { result ≡ element_form column_type metadata.now unsigned }
+// Returns how the cells of a column are read, if it is neither an array nor JSON.
+#[tactic(auto, unfolding(crate::specs::Cells::plain_form))]
+fn plain_form(column_type: ColumnType, metadata: &[u8], unsigned: bool) -> Result<PlainForm, Fault>
+    ensures { result ≡ plain_form column_type metadata.now unsigned }
 {
     match column_type {
-        ColumnType::MYSQL_TYPE_TINY => Ok(Form::Integer(Width::One, unsigned)),
-        ColumnType::MYSQL_TYPE_SHORT => Ok(Form::Integer(Width::Two, unsigned)),
-        ColumnType::MYSQL_TYPE_INT24 => Ok(Form::Integer(Width::Three, unsigned)),
-        ColumnType::MYSQL_TYPE_LONG => Ok(Form::Integer(Width::Four, unsigned)),
-        ColumnType::MYSQL_TYPE_LONGLONG => Ok(Form::LongInteger(unsigned)),
-        ColumnType::MYSQL_TYPE_FLOAT => Ok(Form::Float),
-        ColumnType::MYSQL_TYPE_DOUBLE => Ok(Form::Double),
-        ColumnType::MYSQL_TYPE_TIMESTAMP => Ok(Form::Timestamp),
-        ColumnType::MYSQL_TYPE_TIME => Ok(Form::Time),
-        ColumnType::MYSQL_TYPE_DATETIME => Ok(Form::Datetime),
-        ColumnType::MYSQL_TYPE_YEAR => Ok(Form::Year),
-        ColumnType::MYSQL_TYPE_NEWDATE => Ok(Form::Date),
+        ColumnType::MYSQL_TYPE_TINY => Ok(PlainForm::Integer(Width::One, unsigned)),
+        ColumnType::MYSQL_TYPE_SHORT => Ok(PlainForm::Integer(Width::Two, unsigned)),
+        ColumnType::MYSQL_TYPE_INT24 => Ok(PlainForm::Integer(Width::Three, unsigned)),
+        ColumnType::MYSQL_TYPE_LONG => Ok(PlainForm::Integer(Width::Four, unsigned)),
+        ColumnType::MYSQL_TYPE_LONGLONG => Ok(PlainForm::LongInteger(unsigned)),
+        ColumnType::MYSQL_TYPE_FLOAT => Ok(PlainForm::Float),
+        ColumnType::MYSQL_TYPE_DOUBLE => Ok(PlainForm::Double),
+        ColumnType::MYSQL_TYPE_TIMESTAMP => Ok(PlainForm::Timestamp),
+        ColumnType::MYSQL_TYPE_TIME => Ok(PlainForm::Time),
+        ColumnType::MYSQL_TYPE_DATETIME => Ok(PlainForm::Datetime),
+        ColumnType::MYSQL_TYPE_YEAR => Ok(PlainForm::Year),
+        ColumnType::MYSQL_TYPE_NEWDATE => Ok(PlainForm::Date),
         ColumnType::MYSQL_TYPE_TINY_BLOB
         | ColumnType::MYSQL_TYPE_MEDIUM_BLOB
         | ColumnType::MYSQL_TYPE_LONG_BLOB
         | ColumnType::MYSQL_TYPE_BLOB
         | ColumnType::MYSQL_TYPE_GEOMETRY
         | ColumnType::MYSQL_TYPE_VECTOR => blob_form(first_byte(metadata)?),
-        ColumnType::MYSQL_TYPE_TIMESTAMP2 => Ok(Form::Timestamp2(first_byte(metadata)?)),
-        ColumnType::MYSQL_TYPE_DATETIME2 => Ok(Form::Datetime2(first_byte(metadata)?)),
-        ColumnType::MYSQL_TYPE_TIME2 => Ok(Form::Time2(first_byte(metadata)?)),
+        ColumnType::MYSQL_TYPE_TIMESTAMP2 => Ok(PlainForm::Timestamp2(first_byte(metadata)?)),
+        ColumnType::MYSQL_TYPE_DATETIME2 => Ok(PlainForm::Datetime2(first_byte(metadata)?)),
+        ColumnType::MYSQL_TYPE_TIME2 => Ok(PlainForm::Time2(first_byte(metadata)?)),
         _ => two_form(column_type, metadata),
     }
 }
 
 // Returns how cells are read if their type needs two bytes of metadata. All other types are
 // `Unhandled`.
-fn two_form(column_type: ColumnType, metadata: &[u8]) -> Result<Form, Fault>
+fn two_form(column_type: ColumnType, metadata: &[u8]) -> Result<PlainForm, Fault>
     ensures { result ≡ two_form column_type metadata.now }
 {
     match column_type {
         ColumnType::MYSQL_TYPE_BIT => {
             let (m0, m1) = first_two(metadata)?;
-            Ok(Form::Fixed(bit_bytes(m0, m1)))
+            Ok(PlainForm::Fixed(bit_bytes(m0, m1)))
         }
-        ColumnType::MYSQL_TYPE_SET => Ok(Form::Fixed(usize::from(first_two(metadata)?.1))),
+        ColumnType::MYSQL_TYPE_SET => Ok(PlainForm::Fixed(usize::from(first_two(metadata)?.1))),
         ColumnType::MYSQL_TYPE_ENUM => variant_form(first_two(metadata)?.1),
         ColumnType::MYSQL_TYPE_VARCHAR | ColumnType::MYSQL_TYPE_VAR_STRING => {
             let (m0, m1) = first_two(metadata)?;
-            Ok(Form::Text(length_width(varchar_length(m0, m1))))
+            Ok(PlainForm::Text(length_width(varchar_length(m0, m1))))
         }
         ColumnType::MYSQL_TYPE_STRING => {
             let (m0, m1) = first_two(metadata)?;
-            Ok(Form::Text(length_width(string_length(m0, m1))))
+            Ok(PlainForm::Text(length_width(string_length(m0, m1))))
         }
         ColumnType::MYSQL_TYPE_NEWDECIMAL => {
             let (precision, scale) = first_two(metadata)?;
-            Ok(Form::Decimal(precision, scale))
+            Ok(PlainForm::Decimal(precision, scale))
         }
         _ => Err(Fault::Unhandled),
+    }
+}
+
+// Returns how the cells of a column are read, if it isn't an array.
+fn element_form(column_type: ColumnType, metadata: &[u8], unsigned: bool) -> Result<Form, Fault>
+    ensures { result ≡ element_form column_type metadata.now unsigned }
+{
+    match column_type {
+        ColumnType::MYSQL_TYPE_JSON => Ok(Form::Json),
+        _ => Ok(Form::Plain(plain_form(column_type, metadata, unsigned)?)),
     }
 }
 

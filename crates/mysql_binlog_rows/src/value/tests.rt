@@ -2,6 +2,7 @@
 
 use super::{BinlogValue, BinlogValueToValueError, signed_old_time};
 use crate::laws::old_times_have_signs;
+use crate::tests::all;
 use binlog_base::below::{ColumnType, ParseBuf, Value};
 use binlog_base::fault::Fault;
 use std::test::Fail;
@@ -16,12 +17,13 @@ fn cell(
 ) -> Result<Value, Fault> {
     let mut buf = ParseBuf(bytes);
     let ctx = (rt.alloc(), column_type, metadata, unsigned, false);
-    let cell: BinlogValue = buf.parse(ctx)?;
+    let cell: BinlogValue<'_> = buf.parse(ctx)?;
     if !buf.is_empty() {
         return Err(Fault::BytesRemaining);
     }
     match cell {
         BinlogValue::Value(value) => Ok(value),
+        _ => Err(Fault::Unhandled),
     }
 }
 
@@ -89,9 +91,13 @@ fn numbers(rt: HostRuntime) {
         );
     }
     let long = ColumnType::MYSQL_TYPE_LONGLONG;
-    assert!(rt; is_value(&rt, long, &[], false, &ff, Value::Int(-1)));
-    assert!(rt; is_value(&rt, long, &[], true, &ff, Value::UInt(18446744073709551615)));
-    assert!(rt; is_refused(&rt, long, &[], &ff[..7], Fault::UnexpectedEof));
+    assert!(rt;
+        all(&[
+            is_value(&rt, long, &[], false, &ff, Value::Int(-1)),
+            is_value(&rt, long, &[], true, &ff, Value::UInt(18446744073709551615)),
+            is_refused(&rt, long, &[], &ff[..7], Fault::UnexpectedEof),
+        ])
+    );
 }
 
 #[test]
@@ -134,8 +140,12 @@ fn negative_old_times(rt: HostRuntime) {
     let value = Value::Time(false, 69, 21, 72, 15, 0);
     assert!(rt; signed_old_time(ColumnType::MYSQL_TYPE_TIME2, &value).is_none());
     let value = Value::Time(true, 69, 21, 72, 15, 0);
-    assert!(rt; signed_old_time(time, &value).is_none());
-    assert!(rt; signed_old_time(time, &Value::Int(0xff_ffff)).is_none());
+    assert!(rt;
+        all(&[
+            signed_old_time(time, &value).is_none(),
+            signed_old_time(time, &Value::Int(0xff_ffff)).is_none(),
+        ])
+    );
 }
 
 #[test]
@@ -177,9 +187,13 @@ fn old_times(rt: HostRuntime) {
     );
     let timestamp = ColumnType::MYSQL_TYPE_TIMESTAMP;
     let bytes = &[0xff, 0xff, 0xff, 0xff];
-    assert!(rt; is_value(&rt, timestamp, &[], false, bytes, Value::Int(4294967295)));
-    assert!(rt; is_bytes(&rt, ColumnType::MYSQL_TYPE_YEAR, &[], &[0x77], b"2019"));
-    assert!(rt; is_bytes(&rt, ColumnType::MYSQL_TYPE_YEAR, &[], &[0], b"1900"));
+    assert!(rt;
+        all(&[
+            is_value(&rt, timestamp, &[], false, bytes, Value::Int(4294967295)),
+            is_bytes(&rt, ColumnType::MYSQL_TYPE_YEAR, &[], &[0x77], b"2019"),
+            is_bytes(&rt, ColumnType::MYSQL_TYPE_YEAR, &[], &[0], b"1900"),
+        ])
+    );
 }
 
 #[test]
@@ -189,8 +203,12 @@ fn old_datetimes(rt: HostRuntime) {
     let value = Value::Date(2019, 11, 27, 12, 30, 45, 0);
     assert!(rt; is_value(&rt, datetime, &[], false, &bytes, value));
     let bytes = 655360101000000u64.to_le_bytes();
-    assert!(rt; is_refused(&rt, datetime, &[], &bytes, Fault::YearRange));
-    assert!(rt; is_refused(&rt, datetime, &[], &bytes[..7], Fault::UnexpectedEof));
+    assert!(rt;
+        all(&[
+            is_refused(&rt, datetime, &[], &bytes, Fault::YearRange),
+            is_refused(&rt, datetime, &[], &bytes[..7], Fault::UnexpectedEof),
+        ])
+    );
 }
 
 #[test]
@@ -207,19 +225,27 @@ fn times_with_fractions(rt: HostRuntime) {
     assert!(rt; is_refused(&rt, datetime, &[2], low, Fault::TimeRange));
     let timestamp = ColumnType::MYSQL_TYPE_TIMESTAMP2;
     let ff = [0xff; 5];
-    assert!(rt; is_bytes(&rt, timestamp, &[2], &ff, b"-1.-10000"));
-    assert!(rt; is_bytes(&rt, timestamp, &[0], &[0, 0, 0, 7], b"7"));
-    assert!(rt; is_bytes(&rt, timestamp, &[6], &[0, 0, 0, 7, 0, 0, 5], b"7.000005"));
+    assert!(rt;
+        all(&[
+            is_bytes(&rt, timestamp, &[2], &ff, b"-1.-10000"),
+            is_bytes(&rt, timestamp, &[0], &[0, 0, 0, 7], b"7"),
+            is_bytes(&rt, timestamp, &[6], &[0, 0, 0, 7, 0, 0, 5], b"7.000005"),
+        ])
+    );
 }
 
 #[test]
 fn decimals(rt: HostRuntime) {
     let decimal = ColumnType::MYSQL_TYPE_NEWDECIMAL;
-    assert!(rt; is_bytes(&rt, decimal, &[4, 2], &[0x7f, 0xff], b"-0.00"));
-    assert!(rt; is_bytes(&rt, decimal, &[12, 0], &[0x80, 0, 0, 0, 0, 7], b"7"));
-    assert!(rt; is_refused(&rt, decimal, &[4, 2], &[0xe4, 0], Fault::DecimalGroup));
-    assert!(rt; is_refused(&rt, decimal, &[4, 2], &[0xe4], Fault::UnexpectedEof));
-    assert!(rt; is_refused(&rt, decimal, &[2, 4], &[], Fault::DecimalScale));
+    assert!(rt;
+        all(&[
+            is_bytes(&rt, decimal, &[4, 2], &[0x7f, 0xff], b"-0.00"),
+            is_bytes(&rt, decimal, &[12, 0], &[0x80, 0, 0, 0, 0, 7], b"7"),
+            is_refused(&rt, decimal, &[4, 2], &[0xe4, 0], Fault::DecimalGroup),
+            is_refused(&rt, decimal, &[4, 2], &[0xe4], Fault::UnexpectedEof),
+            is_refused(&rt, decimal, &[2, 4], &[], Fault::DecimalScale),
+        ])
+    );
 }
 
 #[test]
@@ -251,9 +277,13 @@ fn bytes_by_their_metadata(rt: HostRuntime) {
     let set = ColumnType::MYSQL_TYPE_SET;
     assert!(rt; is_bytes(&rt, set, &[0xf8, 2], &[3, 0], &[3, 0]));
     let variant = ColumnType::MYSQL_TYPE_ENUM;
-    assert!(rt; is_value(&rt, variant, &[0xf7, 1], false, &[2], Value::Int(2)));
-    assert!(rt; is_value(&rt, variant, &[0xf7, 2], false, &[2, 1], Value::Int(258)));
-    assert!(rt; is_refused(&rt, variant, &[0xf7, 3], &[2, 1, 0], Fault::UnknownEnum));
+    assert!(rt;
+        all(&[
+            is_value(&rt, variant, &[0xf7, 1], false, &[2], Value::Int(2)),
+            is_value(&rt, variant, &[0xf7, 2], false, &[2, 1], Value::Int(258)),
+            is_refused(&rt, variant, &[0xf7, 3], &[2, 1, 0], Fault::UnknownEnum),
+        ])
+    );
 }
 
 #[test]
@@ -268,21 +298,29 @@ fn texts_by_their_metadata(rt: HostRuntime) {
         assert!(rt; is_bytes(&rt, text, &[0, 1], long, b"ab"), "{text:?}");
     }
     let text = ColumnType::MYSQL_TYPE_STRING;
-    assert!(rt; is_bytes(&rt, text, &[0xfe, 10], &short, b"ab"));
-    assert!(rt; is_bytes(&rt, text, &[0xee, 4], long, b"ab"));
-    assert!(rt; is_bytes(&rt, text, &[0, 1], long, b"ab"));
-    assert!(rt; is_bytes(&rt, text, &[0, 0], &short, b"ab"));
-    assert!(rt; is_refused(&rt, text, &[0xfe, 10], &short[..2], Fault::UnexpectedEof));
+    assert!(rt;
+        all(&[
+            is_bytes(&rt, text, &[0xfe, 10], &short, b"ab"),
+            is_bytes(&rt, text, &[0xee, 4], long, b"ab"),
+            is_bytes(&rt, text, &[0, 1], long, b"ab"),
+            is_bytes(&rt, text, &[0, 0], &short, b"ab"),
+            is_refused(&rt, text, &[0xfe, 10], &short[..2], Fault::UnexpectedEof),
+        ])
+    );
 }
 
 #[test]
 fn arrays(rt: HostRuntime) {
     let array = ColumnType::MYSQL_TYPE_TYPED_ARRAY;
     let bytes = &[0x2a, 0, 0, 0];
-    assert!(rt; is_value(&rt, array, &[3], false, bytes, Value::Int(42)));
-    assert!(rt; is_bytes(&rt, array, &[0x0f, 0x0a, 0, 0], &[2, 0, 0x61, 0x62], b"ab"));
-    assert!(rt; is_refused(&rt, array, &[0x14], bytes, Fault::Unhandled));
-    assert!(rt; is_refused(&rt, array, &[244], bytes, Fault::Unhandled));
+    assert!(rt;
+        all(&[
+            is_value(&rt, array, &[3], false, bytes, Value::Int(42)),
+            is_bytes(&rt, array, &[0x0f, 0x0a, 0, 0], &[2, 0, 0x61, 0x62], b"ab"),
+            is_refused(&rt, array, &[0x14], bytes, Fault::Unhandled),
+            is_refused(&rt, array, &[244], bytes, Fault::Unhandled),
+        ])
+    );
 }
 
 #[test]
@@ -332,7 +370,6 @@ fn unhandled_types(rt: HostRuntime) {
         ColumnType::MYSQL_TYPE_DECIMAL,
         ColumnType::MYSQL_TYPE_NULL,
         ColumnType::MYSQL_TYPE_DATE,
-        ColumnType::MYSQL_TYPE_JSON,
         ColumnType::MYSQL_TYPE_UNKNOWN,
     ];
     for column_type in types {
@@ -347,7 +384,11 @@ fn unhandled_types(rt: HostRuntime) {
 fn texts_of_errors(rt: HostRuntime) -> Result<(), Fail> {
     let json = BinlogValueToValueError::ToJson.to_string(rt.alloc())?;
     let diffs = BinlogValueToValueError::JsonDiff.to_string(rt.alloc())?;
-    assert_eq!(rt; json.as_str(), "binary JSON is not a plain value");
-    assert_eq!(rt; diffs.as_str(), "JSON diffs are not a plain value");
+    assert!(rt;
+        all(&[
+            json.as_str() == "binary JSON is not a plain value",
+            diffs.as_str() == "JSON diffs are not a plain value",
+        ])
+    );
     Ok(())
 }

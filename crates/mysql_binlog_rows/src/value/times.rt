@@ -3,11 +3,10 @@
 ghost use Rattle.std.specs.Prelude.{◌≡◌, ◌<◌, ◌*◌, ◌/◌, ◌%◌, ◌^◌, true, false, IfOk, Some};
 ghost use Rattle.std.specs.Option.{option_map};
 ghost use Rattle.binlog_base.specs.Format.{ParsesAs, OrMemory};
-ghost use Rattle.binlog_base.specs.Values.{plain_of};
+ghost use Rattle.binlog_base.specs.Values.{plain_of, Bytes};
 ghost use Rattle.mysql_binlog_rows.specs.OldTimes.{digits_of_time, signed_old_time};
-ghost use Rattle.mysql_binlog_rows.specs.Cells.{Cell, cell_of, timestamp_cell, time_of_digits, time_cell, date_of_digits, datetime_cell, year_text, year_cell, date_of_bits, date_cell, bytes_cell, six_places, timestamp_text, timestamp2_cell, datetime2_cell, time2_cell};
+ghost use Rattle.mysql_binlog_rows.specs.Cells.{timestamp_cell, time_of_digits, time_cell, date_of_digits, datetime_cell, year_text, year_cell, date_of_bits, date_cell, six_places, timestamp_text, timestamp2_cell, datetime2_cell, time2_cell};
 
-use super::BinlogValue;
 use binlog_base::below::{ColumnType, IntRepr, LeU24, LeU32, LeU64, ParseBuf, U8, Value};
 use binlog_base::fault::Fault;
 use binlog_base::misc::{
@@ -20,11 +19,11 @@ use std::fmt;
 // Reads a TIMESTAMP of the format before fractional seconds: the seconds since 1970, as a
 // little-endian number of four bytes.
 #[tactic(auto, unfolding(crate::specs::Cells::timestamp_cell))]
-pub(super) fn read_timestamp(buf: &mut ParseBuf<'_>) -> Result<BinlogValue, Fault>
-    ensures { ParsesAs cell_of timestamp_cell result buf.old.0.now buf.new.0.now }
+pub(super) fn read_timestamp(buf: &mut ParseBuf<'_>) -> Result<Value, Fault>
+    ensures { ParsesAs plain_of timestamp_cell result buf.old.0.now buf.new.0.now }
 {
     let seconds = LeU32::deserialize(buf)?;
-    Ok(BinlogValue::Value(Value::Int(i64::from(seconds))))
+    Ok(Value::Int(i64::from(seconds)))
 }
 
 // Returns the time whose decimal digits HHMMSS form the number. Each 24 hours are one day.
@@ -47,11 +46,11 @@ fn time_of_digits(is_negative: bool, number: u32) -> Value
 // Reads a TIME of the format before fractional seconds: the decimal digits HHMMSS, as a
 // little-endian number of three bytes. It is read without a sign (see `signed_old_time`).
 #[tactic(auto, unfolding(crate::specs::Cells::time_cell))]
-pub(super) fn read_time(buf: &mut ParseBuf<'_>) -> Result<BinlogValue, Fault>
-    ensures { ParsesAs cell_of time_cell result buf.old.0.now buf.new.0.now }
+pub(super) fn read_time(buf: &mut ParseBuf<'_>) -> Result<Value, Fault>
+    ensures { ParsesAs plain_of time_cell result buf.old.0.now buf.new.0.now }
 {
     let number = LeU24::deserialize(buf)?;
-    Ok(BinlogValue::Value(time_of_digits(false, number)))
+    Ok(time_of_digits(false, number))
 }
 
 // Returns the number that the decimal digits HHMMSS of a time form.
@@ -97,22 +96,22 @@ fn two_digits(number: u64, unit: u64) -> u8
 
 // Returns the date and time in this year whose decimal digits MMDDHHMMSS are the last ten of the
 // number.
-fn date_of_digits(year: u16, number: u64) -> BinlogValue
-    ensures { cell_of result ≡ date_of_digits year number }
+fn date_of_digits(year: u16, number: u64) -> Value
+    ensures { plain_of result ≡ date_of_digits year number }
 {
     let month = two_digits(number, 100_000_000);
     let day = two_digits(number, 1_000_000);
     let hour = two_digits(number, 10_000);
     let minute = two_digits(number, 100);
     let second = (number % 100) as u8;
-    BinlogValue::Value(Value::Date(year, month, day, hour, minute, second, 0))
+    Value::Date(year, month, day, hour, minute, second, 0)
 }
 
 // Reads a DATETIME of the format before fractional seconds: the decimal digits YYYYMMDDHHMMSS, as a
 // little-endian number of eight bytes. `YearRange` if the year is above 65535.
 #[tactic(auto, unfolding(crate::specs::Cells::datetime_cell))]
-pub(super) fn read_datetime(buf: &mut ParseBuf<'_>) -> Result<BinlogValue, Fault>
-    ensures { ParsesAs cell_of datetime_cell result buf.old.0.now buf.new.0.now }
+pub(super) fn read_datetime(buf: &mut ParseBuf<'_>) -> Result<Value, Fault>
+    ensures { ParsesAs plain_of datetime_cell result buf.old.0.now buf.new.0.now }
 {
     let number = LeU64::deserialize(buf)?;
     match u16::try_from(number / 10_000_000_000) {
@@ -122,38 +121,38 @@ pub(super) fn read_datetime(buf: &mut ParseBuf<'_>) -> Result<BinlogValue, Fault
 }
 
 // Returns a year as text, given the years since 1900.
-fn year_of(alloc: Global, years: u8) -> Result<BinlogValue, AllocError>
-    ensures { IfOk result (λ value. cell_of value ≡ year_text years) }
+fn year_of(alloc: Global, years: u8) -> Result<Value, AllocError>
+    ensures { IfOk result (λ value. plain_of value ≡ year_text years) }
 {
     let year = 1900 + u16::from(years);
     let text = format!(in alloc; "{year}")?;
-    Ok(BinlogValue::Value(Value::Bytes(text.into_bytes())))
+    Ok(Value::Bytes(text.into_bytes()))
 }
 
 // Reads a YEAR: one byte, the years since 1900.
 #[tactic(auto, unfolding(crate::specs::Cells::year_cell))]
-pub(super) fn read_year(alloc: Global, buf: &mut ParseBuf<'_>) -> Result<BinlogValue, Fault>
-    ensures { OrMemory result (ParsesAs cell_of year_cell result buf.old.0.now buf.new.0.now) }
+pub(super) fn read_year(alloc: Global, buf: &mut ParseBuf<'_>) -> Result<Value, Fault>
+    ensures { OrMemory result (ParsesAs plain_of year_cell result buf.old.0.now buf.new.0.now) }
 {
     let years = U8::deserialize(buf)?;
     Ok(year_of(alloc, years)?)
 }
 
 // Returns the date in a number's bits: five bits for the day, four for the month, and the year.
-fn date_of_bits(number: u32) -> BinlogValue
+fn date_of_bits(number: u32) -> Value
     requires { number < 256 ^ 3 }
-    ensures { cell_of result ≡ date_of_bits number }
+    ensures { plain_of result ≡ date_of_bits number }
 {
     let year = (number / 512) as u16;
     let month = (number / 32 % 16) as u8;
     let day = (number % 32) as u8;
-    BinlogValue::Value(Value::Date(year, month, day, 0, 0, 0, 0))
+    Value::Date(year, month, day, 0, 0, 0, 0)
 }
 
 // Reads a NEWDATE: the bits of a date, as a little-endian number of three bytes.
 #[tactic(auto, unfolding(crate::specs::Cells::date_cell))]
-pub(super) fn read_date(buf: &mut ParseBuf<'_>) -> Result<BinlogValue, Fault>
-    ensures { ParsesAs cell_of date_cell result buf.old.0.now buf.new.0.now }
+pub(super) fn read_date(buf: &mut ParseBuf<'_>) -> Result<Value, Fault>
+    ensures { ParsesAs plain_of date_cell result buf.old.0.now buf.new.0.now }
 {
     let number = LeU24::deserialize(buf)?;
     Ok(date_of_bits(number))
@@ -194,15 +193,15 @@ impl fmt::Display for TimestampText {
     }
 }
 
-fn timestamp_of(alloc: Global, seconds: i32, microseconds: i32) -> Result<BinlogValue, AllocError>
-    ensures { IfOk result (λ value. cell_of value ≡ bytes_cell (timestamp_text (seconds, microseconds))) }
+fn timestamp_of(alloc: Global, seconds: i32, microseconds: i32) -> Result<Value, AllocError>
+    ensures { IfOk result (λ value. plain_of value ≡ Bytes (timestamp_text (seconds, microseconds))) }
 {
     let text = TimestampText {
         seconds,
         microseconds,
     };
     let text = format!(in alloc; "{text}")?;
-    Ok(BinlogValue::Value(Value::Bytes(text.into_bytes())))
+    Ok(Value::Bytes(text.into_bytes()))
 }
 
 // Reads a TIMESTAMP with `decimals` digits of fractional seconds, as text.
@@ -211,8 +210,8 @@ pub(super) fn read_timestamp2(
     alloc: Global,
     decimals: u8,
     buf: &mut ParseBuf<'_>,
-) -> Result<BinlogValue, Fault>
-    ensures { OrMemory result (ParsesAs cell_of (timestamp2_cell decimals) result buf.old.0.now
+) -> Result<Value, Fault>
+    ensures { OrMemory result (ParsesAs plain_of (timestamp2_cell decimals) result buf.old.0.now
         buf.new.0.now) }
 {
     let (seconds, microseconds) = my_timestamp_from_binary(buf, decimals)?;
@@ -221,18 +220,18 @@ pub(super) fn read_timestamp2(
 
 // Reads a DATETIME with `decimals` digits of fractional seconds, in the packed DATETIME format.
 #[tactic(auto, unfolding(crate::specs::Cells::datetime2_cell))]
-pub(super) fn read_datetime2(decimals: u8, buf: &mut ParseBuf<'_>) -> Result<BinlogValue, Fault>
-    ensures { ParsesAs cell_of (datetime2_cell decimals) result buf.old.0.now buf.new.0.now }
+pub(super) fn read_datetime2(decimals: u8, buf: &mut ParseBuf<'_>) -> Result<Value, Fault>
+    ensures { ParsesAs plain_of (datetime2_cell decimals) result buf.old.0.now buf.new.0.now }
 {
     let packed = my_datetime_packed_from_binary(buf, u32::from(decimals))?;
-    Ok(BinlogValue::Value(datetime_from_packed(packed)))
+    Ok(datetime_from_packed(packed))
 }
 
 // Reads a TIME with `decimals` digits of fractional seconds, in the packed TIME format.
 #[tactic(auto, unfolding(crate::specs::Cells::time2_cell))]
-pub(super) fn read_time2(decimals: u8, buf: &mut ParseBuf<'_>) -> Result<BinlogValue, Fault>
-    ensures { ParsesAs cell_of (time2_cell decimals) result buf.old.0.now buf.new.0.now }
+pub(super) fn read_time2(decimals: u8, buf: &mut ParseBuf<'_>) -> Result<Value, Fault>
+    ensures { ParsesAs plain_of (time2_cell decimals) result buf.old.0.now buf.new.0.now }
 {
     let packed = my_time_packed_from_binary(buf, u32::from(decimals))?;
-    Ok(BinlogValue::Value(time_from_packed(packed)))
+    Ok(time_from_packed(packed))
 }

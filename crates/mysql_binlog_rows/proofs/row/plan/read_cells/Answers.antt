@@ -8,10 +8,10 @@ use Rattle.mysql_binlog_rows.proofs.row.plan.read_cells.Goals as goal
 use Rattle.mysql_binlog_rows.proofs.row.plan.read_cells.Goals.{then-slot+in_ok-value+in_ok-push, else-slot}
 
 pub returns-in-None : goal.returns-in-None
-returns-in-None c = all_well _ _ _ _ _ _ _ c.loop-slot-test.false c.in-None.is c.loop-slot.invariant.so_far
+returns-in-None c = all_well _ _ _ _ _ _ _ _ c.loop-slot-test.false c.in-None.is c.loop-slot.invariant.so_far
 
-pub returns-in-Some : goal.returns-in-Some
-returns-in-Some c = λ other. all_ill _ _ _ _ _ _ _ _ c.loop-slot-test.false c.in-Some.is c.loop-slot.invariant.so_far
+pub returns : goal.returns
+returns c = λ other. all_ill _ _ _ _ _ _ _ _ _ c.loop-slot-test.false c.in-Some.is c.loop-slot.invariant.so_far
 
 pub loop-slot-preserved : goal.loop-slot-preserved
 loop-slot-preserved c =
@@ -20,10 +20,10 @@ loop-slot-preserved c =
         place = omega arith;
         so_far =
             let present : c.slot-item.result.present ≡ true = ap (λ (s : Slot). s.present) (sym c.slot.view_is) ∙ w.if-slot.true in
-            let read : (slot_cell (get_or c.args.nulls.now c.loop-slot.place false) c.slot-item.result).parse c.loop-slot.buf.0.now ≡ Ok (cell_of w.in_ok-value.value, w.read_nullable_cell.new.buf.0.now) =
-            ap (λ (b : Bool). (slot_cell b c.slot-item.result).parse c.loop-slot.buf.0.now) (sym w.is_set.ensures) ∙ w.in_ok-value.ensures in
+            let read : (slot_cell (get_or c.args.nulls.now c.loop-slot.place false) c.args.partials.now c.slot-item.result).parse c.loop-slot.buf.0.now ≡ Ok (cell_of w.in_ok-value.value, w.read_nullable_cell.new.buf.0.now) =
+            ap (λ (b : Bool). (slot_cell b c.args.partials.now c.slot-item.result).parse c.loop-slot.buf.0.now) (sym w.is_set.ensures) ∙ w.in_ok-value.ensures in
             rw (w.values-is, w.buf-is, w.place-is, w.in_ok-push.ensures.items, map-append)
-            (goes_on _ c.args.slots.now c.args.end c.args.nulls.now c.loop-slot.slot-index c.loop-slot.place c.loop-slot.buf.0.now w.read_nullable_cell.new.buf.0.now c.slot-item.result (cell_of w.in_ok-value.value) _
+            (goes_on c.args.partials.now _ c.args.slots.now c.args.end c.args.nulls.now c.loop-slot.slot-index c.loop-slot.place c.loop-slot.buf.0.now w.read_nullable_cell.new.buf.0.now c.slot-item.result (cell_of w.in_ok-value.value) _
             c.loop-slot-test.true c.slot-item.is present read c.loop-slot.invariant.so_far);
       }
       | else-slot w ↦ record {
@@ -31,7 +31,7 @@ loop-slot-preserved c =
         so_far =
             let absent : c.slot-item.result.present ≡ false = ap (λ (s : Slot). s.present) (sym c.slot.view_is) ∙ w.if-slot.false in
             rw (w.values-is, w.buf-is, w.place-is)
-            (goes_absent _ c.args.slots.now c.args.end c.args.nulls.now c.loop-slot.slot-index c.loop-slot.place c.loop-slot.buf.0.now c.slot-item.result _
+            (goes_absent c.args.partials.now _ c.args.slots.now c.args.end c.args.nulls.now c.loop-slot.slot-index c.loop-slot.place c.loop-slot.buf.0.now c.slot-item.result _
             c.loop-slot-test.true c.slot-item.is absent c.loop-slot.invariant.so_far);
       }
     ]
@@ -41,7 +41,7 @@ returns-in_err-value c =
     let p = err_from_is_err_and c.from_residual-in_err-value.result c.from_residual-in_err-value.ensures.1 in
     let present : c.slot-item.result.present ≡ true = ap (λ (s : Slot). s.present) (sym c.slot.view_is) ∙ c.if-slot.true in
     rw (p.1, p.2) (λ other.
-    stops _ c.args.slots.now c.args.end c.args.nulls.now c.loop-slot.slot-index c.loop-slot.place c.loop-slot.buf.0.now c.slot-item.result _ _
+    stops c.args.partials.now _ c.args.slots.now c.args.end c.args.nulls.now c.loop-slot.slot-index c.loop-slot.place c.loop-slot.buf.0.now c.slot-item.result _ _
     c.loop-slot-test.true c.slot-item.is present
-    (ap (λ (b : Bool). (slot_cell b c.slot-item.result).parse c.loop-slot.buf.0.now) (sym c.is_set.ensures) ∙ c.in_err-value.ensures other)
+    (ap (λ (b : Bool). (slot_cell b c.args.partials.now c.slot-item.result).parse c.loop-slot.buf.0.now) (sym c.is_set.ensures) ∙ c.in_err-value.ensures other)
     c.loop-slot.invariant.so_far)

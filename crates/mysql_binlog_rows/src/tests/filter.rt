@@ -1,0 +1,85 @@
+//! Walks an event without a list of its pairs, as the example in README.md does.
+
+use crate::row::BinlogRow;
+use crate::rows_event::{RowsEvent, RowsEventCtx, RowsEventRows};
+use crate::value::BinlogValue;
+use binlog_base::below::{ColumnFlags, ParseBuf};
+use binlog_base::fault::Fault;
+use binlog_consts::consts::EventType;
+use binlog_table::table_map::TableMapEvent;
+use binlog_values::jsonb::{JsonContainer, JsonDom, JsonScalar};
+use bitflags::Flags;
+use std::alloc::Global;
+use std::test::Fail;
+
+/// The table t, of an INT `id`, its primary key, and a JSON `doc`.
+const TABLE: &[u8] = b"\x01\0\0\0\0\0\x01\0\x01d\0\x01t\0\x02\x03\xf5\x01\x04\x02\
+    \x04\x07\x02id\x03doc\x08\x01\0";
+/// The same table with the name u.
+const OTHER: &[u8] = b"\x01\0\0\0\0\0\x01\0\x01d\0\x01u\0\x02\x03\xf5\x01\x04\x02\
+    \x04\x07\x02id\x03doc\x08\x01\0";
+/// The row 42, {"name": "ab"}, and the row 43, 7.
+const ROWS: &[u8] = b"\x01\0\0\0\0\0\x01\0\x02\0\x02\x03\0\x2a\0\0\0\
+    \x13\0\0\0\0\x01\0\x12\0\x0b\0\x04\0\x0c\x0f\0name\x02ab\
+    \0\x2b\0\0\0\x03\0\0\0\x05\x07\0";
+
+/// Adds the string under `name` of a tree, on a line of its own.
+fn add_name(alloc: Global, lines: &mut String, tree: &JsonDom) -> Result<(), Fault> {
+    if let JsonDom::Container(JsonContainer::Object(object)) = tree
+        && let Some(JsonDom::Scalar(JsonScalar::String(name))) = object.get("name")
+    {
+        lines.push_str(&format!(in alloc; "{name}\n")?)?;
+    }
+    Ok(())
+}
+
+/// Adds the key columns of a row, and the string under `name` in its JSON, one a line.
+fn add(alloc: Global, lines: &mut String, row: &BinlogRow) -> Result<(), Fault> {
+    for (index, column) in row.columns_ref().iter().enumerate() {
+        let is_key = column.flags().contains(ColumnFlags::PRI_KEY_FLAG);
+        match row.as_ref(index) {
+            Some(BinlogValue::Value(value)) if is_key => {
+                lines.push_str(&format!(in alloc; "{value:?}\n")?)?;
+            }
+            Some(BinlogValue::Jsonb(document)) => {
+                add_name(alloc, lines, &document.clone(alloc)?.parse(alloc)?)?;
+            }
+            _ => {}
+        }
+    }
+    Ok(())
+}
+
+/// The lines of the rows after the changes.
+fn lines_of(alloc: Global, rows: RowsEventRows<'_>) -> Result<String, Fault> {
+    let mut lines = String::new(alloc);
+    for pair in rows {
+        let (_, after) = pair?;
+        if let Some(row) = after {
+            add(alloc, &mut lines, &row)?;
+        }
+    }
+    Ok(lines)
+}
+
+/// The lines of the rows that were inserted into the table `t`; none for another table.
+fn filter(alloc: Global, table: &[u8], rows: &[u8]) -> Result<String, Fault> {
+    let table: TableMapEvent<'_> = ParseBuf(table).parse(8)?;
+    if table.table_name_raw() != b"t".as_slice() {
+        return Ok(String::new(alloc));
+    }
+    let event: RowsEvent<'_> = ParseBuf(rows).parse(RowsEventCtx {
+        event_type: EventType::WRITE_ROWS_EVENT,
+        post_header_len: 10,
+        write_rows_post_header_len: 10,
+    })?;
+    lines_of(alloc, event.rows(alloc, &table))
+}
+
+#[test]
+fn keys_and_names(rt: HostRuntime) -> Result<(), Fail> {
+    assert!(rt; filter(rt.alloc(), TABLE, ROWS)?.as_str() == "Int(42)\nab\nInt(43)\n");
+    assert!(rt; filter(rt.alloc(), OTHER, ROWS)?.is_empty());
+    assert!(rt; filter(rt.alloc(), TABLE, &ROWS[..20]).is_err());
+    Ok(())
+}

@@ -1,0 +1,512 @@
+//! What calls answer where memory is refused.
+//!
+//! scripts/memory.sh refuses each request for memory of these tests in turn. A test ends with the
+//! error of the call that was refused memory; where none was, it asserts the answer. The tests whose
+//! names begin with `nothing` ask for no more memory than the test program itself does.
+
+use super::jsonb::{has_element, has_key_a};
+use super::{TWO_COLUMNS, TWO_ROWS, all, decode, images, partial, read, trees};
+use crate::row::BinlogRow;
+use crate::rows_event::{RowPair, RowsEvent, RowsEventRows};
+use crate::value::BinlogValue;
+use binlog_base::below::{Column, ColumnType, EofBytes, MySerialize, ParseBuf, RawBytes, Value};
+use binlog_base::fault::Fault;
+use binlog_base::misc::my_time_packed_from_binary;
+use binlog_consts::consts::EventType;
+use binlog_table::table_map::TableMapEvent;
+use binlog_table::table_map::optional::{ColumnName, SetStrValue};
+use binlog_values::decimal::Decimal;
+use binlog_values::jsonb::{
+    JsonDom, JsonScalar, JsonbString, ObjectKey, OpaqueValue, Value as Json,
+};
+use binlog_values::jsondiff::JsonDiff;
+use std::alloc::{AllocError, Global};
+use std::borrow::{CowSlice, CowStr};
+use std::cmp::Ordering;
+use std::fmt::{InlineText, Write};
+use std::rc::RcSlice;
+use std::test::Fail;
+
+#[test]
+fn nothing(_rt: HostRuntime) {}
+
+#[test]
+fn nothing_for_events(rt: HostRuntime) -> Result<(), Fail> {
+    let table: TableMapEvent<'_> = ParseBuf(TWO_COLUMNS).parse(8)?;
+    let event = read(TWO_ROWS, EventType::WRITE_ROWS_EVENT, 10)?;
+    let after = event.columns_after_image();
+    let rows = event.rows(rt.alloc(), &table);
+    assert!(rt;
+        all(&[
+            rows.metadata_steps() == 0,
+            table.null_bitmask().count_ones() == 1,
+            after.map(|bits| bits.count_ones()) == Some(2),
+        ])
+    );
+    Ok(())
+}
+
+/// Whether the bytes are a JSON value that is parsed as a scalar.
+fn is_scalar(alloc: Global, bytes: &[u8]) -> Result<bool, Fault> {
+    let value: Json<'_> = ParseBuf(bytes).parse(())?;
+    match value.parse(alloc)? {
+        JsonDom::Scalar(_) => Ok(true),
+        JsonDom::Container(_) => Ok(false),
+    }
+}
+
+#[test]
+fn nothing_for_json(rt: HostRuntime) -> Result<(), Fail> {
+    assert!(rt; has_element(&[2, 2, 0, 10, 0, 5, 1, 0, 5, 2, 0], 1, &Json::I16(2)));
+    assert!(rt; has_element(trees::OVERLAPPING, 1, &Json::Bool(true)));
+    assert!(rt; has_key_a(b"\0\x01\0\x0c\0\x0b\0\x01\0\x04\0\0a"));
+    assert!(rt; is_scalar(rt.alloc(), &[4, 1])? && is_scalar(rt.alloc(), &[5, 7, 0])?);
+    Ok(())
+}
+
+#[test]
+fn nothing_for_diffs(rt: HostRuntime) -> Result<(), Fail> {
+    let found: JsonDiff<'_> = ParseBuf(partial::REPLACED).parse(())?;
+    assert!(rt; found.path() == b"$.a".as_slice() && found.value().is_some());
+    Ok(())
+}
+
+#[test]
+fn nothing_for_times(rt: HostRuntime) {
+    let mut bytes: &[u8] = &[0x81, 0x90, 0];
+    assert!(rt; my_time_packed_from_binary(&mut bytes, 0) == Ok(0x1_9000 << 24));
+}
+
+/// The number of these bytes, of four digits, two of them after the point.
+fn decimal(alloc: Global, mut bytes: &[u8]) -> Result<Decimal, Fault> {
+    Decimal::read_bin(alloc, &mut bytes, 4, 2, true)
+}
+
+#[test]
+fn two_decimals(rt: HostRuntime) -> Result<(), Fail> {
+    let one = decimal(rt.alloc(), &[0x7f, 0xfe])?;
+    let other = decimal(rt.alloc(), &[0x7f, 0xff])?;
+    assert!(rt; one.bin_size() == other.bin_size());
+    Ok(())
+}
+
+/// As `two_decimals`: comparing them asks for no more memory.
+#[test]
+fn two_decimals_compared(rt: HostRuntime) -> Result<(), Fail> {
+    let one = decimal(rt.alloc(), &[0x7f, 0xfe])?;
+    let other = decimal(rt.alloc(), &[0x7f, 0xff])?;
+    assert!(rt; one.cmp(&other) == Ordering::Less);
+    Ok(())
+}
+
+/// Whether a run has so many pairs, and no fault.
+fn decodes(
+    rt: &HostRuntime,
+    table: &[u8],
+    rows: &[u8],
+    event_type: EventType,
+    pairs: usize,
+) -> Result<bool, Fault> {
+    let decoded = decode(rt, table, rows, event_type, 10)?;
+    Ok(decoded.fault.is_none() && decoded.pairs.len() == pairs)
+}
+
+#[test]
+fn runs(rt: HostRuntime) -> Result<(), Fail> {
+    let write = EventType::WRITE_ROWS_EVENT;
+    assert!(rt; decodes(&rt, TWO_COLUMNS, TWO_ROWS, write, 2)?);
+    let update = EventType::UPDATE_ROWS_EVENT;
+    assert!(rt; decodes(&rt, TWO_COLUMNS, images::UPDATED, update, 1)?);
+    let partial = EventType::PARTIAL_UPDATE_ROWS_EVENT;
+    assert!(rt; decodes(&rt, partial::TABLE, partial::DIFF, partial, 1)?);
+    Ok(())
+}
+
+/// Whether the next item is this pair.
+fn next_is(items: &mut RowsEventRows<'_>, pair: &RowPair) -> Result<bool, Fault> {
+    match items.next() {
+        Some(item) => Ok(item? == *pair),
+        None => Ok(false),
+    }
+}
+
+/// Whether two further items are none.
+fn is_at_end(items: &mut RowsEventRows<'_>) -> bool {
+    items.next().is_none() && items.next().is_none()
+}
+
+/// Whether the items are these pairs. A refusal is the end of the items.
+fn are_items(items: &mut RowsEventRows<'_>, pairs: &[RowPair]) -> Result<bool, Fault> {
+    for pair in pairs {
+        match next_is(items, pair) {
+            Ok(true) => {}
+            Ok(false) => return Ok(false),
+            Err(fault) if is_at_end(items) => return Err(fault),
+            Err(_) => return Ok(false),
+        }
+    }
+    Ok(is_at_end(items))
+}
+
+/// Whether the items of an event are these pairs, or a beginning of them before a refusal.
+fn walks(
+    alloc: Global,
+    table: &[u8],
+    rows: &[u8],
+    event_type: EventType,
+    pairs: &[RowPair],
+) -> Result<bool, Fault> {
+    let table: TableMapEvent<'_> = ParseBuf(table).parse(8)?;
+    let event = read(rows, event_type, 10)?;
+    are_items(&mut event.rows(alloc, &table), pairs)
+}
+
+/// Whether the items of an event are the pairs that `decode_pairs` gives.
+fn walks_alike(
+    rt: &HostRuntime,
+    table: &[u8],
+    rows: &[u8],
+    event_type: EventType,
+) -> Result<bool, Fault> {
+    let decoded = decode(rt, table, rows, event_type, 10)?;
+    walks(rt.alloc(), table, rows, event_type, &decoded.pairs)
+}
+
+#[test]
+fn pairs_one_by_one(rt: HostRuntime) -> Result<(), Fail> {
+    let write = EventType::WRITE_ROWS_EVENT;
+    assert!(rt; walks_alike(&rt, TWO_COLUMNS, TWO_ROWS, write)?);
+    let update = EventType::UPDATE_ROWS_EVENT;
+    assert!(rt; walks_alike(&rt, TWO_COLUMNS, images::UPDATED, update)?);
+    let partial = EventType::PARTIAL_UPDATE_ROWS_EVENT;
+    assert!(rt; walks_alike(&rt, partial::TABLE, partial::DIFF, partial)?);
+    Ok(())
+}
+
+/// Whether the bytes are refused as a tree with this fault.
+fn has_no_tree(alloc: Global, bytes: &[u8], fault: Fault) -> Result<bool, Fault> {
+    let value: Json<'_> = ParseBuf(bytes).parse(())?;
+    match value.parse(alloc) {
+        Ok(_) => Ok(false),
+        Err(Fault::Memory) => Err(Fault::Memory),
+        Err(other) => Ok(other == fault),
+    }
+}
+
+/// Whether the bytes are a tree of so many values.
+fn has_tree(alloc: Global, bytes: &[u8], count: u64) -> Result<bool, Fault> {
+    let value: Json<'_> = ParseBuf(bytes).parse(())?;
+    let (dom, read) = value.parse_counted(alloc);
+    let dom = dom?;
+    Ok(matches!(dom, JsonDom::Container(_)) && read == count)
+}
+
+#[test]
+fn trees_of_documents(rt: HostRuntime) -> Result<(), Fail> {
+    let alloc = rt.alloc();
+    assert!(rt; has_tree(alloc, trees::OVERLAPPING, 2)?);
+    assert!(rt; has_tree(alloc, &trees::nested(alloc, 3, 2)?, 6)?);
+    assert!(rt; has_no_tree(alloc, &trees::nested(alloc, 4, 2)?, Fault::TooManyValues)?);
+    Ok(())
+}
+
+#[test]
+fn deep_trees(rt: HostRuntime) -> Result<(), Fail> {
+    let alloc = rt.alloc();
+    assert!(rt; has_tree(alloc, &trees::nested(alloc, 100, 1)?, 99)?);
+    assert!(rt; has_no_tree(alloc, &trees::nested(alloc, 101, 1)?, Fault::NestingTooDeep)?);
+    Ok(())
+}
+
+/// Whether a buffer that held `old` holds it still, followed by a beginning of the bytes.
+fn is_prefix(buf: &[u8], bytes: &[u8]) -> bool {
+    buf.starts_with(b"old") && bytes.starts_with(&buf[3..])
+}
+
+/// Whether the value is appended to `old` as these bytes. A refusal leaves a prefix of that.
+fn is_appended(alloc: Global, value: &impl MySerialize, bytes: &[u8]) -> Result<bool, AllocError> {
+    let mut buf = b"old".to_vec(alloc)?;
+    let answer = value.serialize(&mut buf);
+    if !is_prefix(&buf, bytes) {
+        return Ok(false);
+    }
+    answer?;
+    Ok(buf.len() == 3 + bytes.len())
+}
+
+#[test]
+fn written_events(rt: HostRuntime) -> Result<(), Fail> {
+    let table: TableMapEvent<'_> = ParseBuf(TWO_COLUMNS).parse(8)?;
+    assert!(rt; is_appended(rt.alloc(), &table, TWO_COLUMNS)?);
+    let event = read(TWO_ROWS, EventType::WRITE_ROWS_EVENT, 10)?;
+    assert!(rt; is_appended(rt.alloc(), &event, TWO_ROWS)?);
+    Ok(())
+}
+
+#[test]
+fn written_strings(rt: HostRuntime) -> Result<(), Fail> {
+    let alloc = rt.alloc();
+    let raw: RawBytes<'_, EofBytes> = RawBytes::new(CowSlice::Borrowed(b"ab"));
+    assert!(rt; is_appended(alloc, &raw, b"ab")?);
+    let name = ColumnName::new(CowSlice::Borrowed(b"ab"));
+    assert!(rt; is_appended(alloc, &name, b"\x02ab")?);
+    let value = SetStrValue::new(CowSlice::Borrowed(b"ab"));
+    assert!(rt; is_appended(alloc, &value, b"\x02ab")?);
+    let string = JsonbString::new(CowSlice::Borrowed(b"ab"));
+    assert!(rt; is_appended(alloc, &string, b"\x02ab")?);
+    Ok(())
+}
+
+/// The same text for a scalar of a tree: of a time, or of an opaque value.
+fn write_scalar(dom: &JsonDom, text: &mut String) -> Result<(), AllocError> {
+    match dom {
+        JsonDom::Scalar(JsonScalar::DateTime(time)) => time.write_text(0, text),
+        JsonDom::Scalar(JsonScalar::Opaque(value)) => value.write_text(text),
+        _ => Ok(()),
+    }
+}
+
+/// Whether the text of a time or of an opaque value is appended to `old`. A refusal leaves a prefix
+/// of that.
+fn is_text(alloc: Global, bytes: &[u8], expected: &str) -> Result<bool, Fault> {
+    let value: Json<'_> = ParseBuf(bytes).parse(())?;
+    let dom = value.parse(alloc)?;
+    let mut text = String::new(alloc);
+    text.push_str("old")?;
+    let answer = write_scalar(&dom, &mut text);
+    if !is_prefix(text.as_bytes(), expected.as_bytes()) {
+        return Ok(false);
+    }
+    answer?;
+    Ok(text.len() == 3 + expected.len())
+}
+
+#[test]
+fn written_texts(rt: HostRuntime) -> Result<(), Fail> {
+    let time = &[15, 12, 8, 0, 0, 0, 0x80, 0xc7, 0xb6, 0xa4, 0x19];
+    assert!(rt; is_text(rt.alloc(), time, "2019-11-27 12:30:00")?);
+    let opaque = &[15, 252, 1, 0x61];
+    assert!(rt; is_text(rt.alloc(), opaque, "base64:type252:YQ==")?);
+    Ok(())
+}
+
+/// Whether an event has an equal copy.
+fn has_copy(alloc: Global, event: &RowsEvent<'_>) -> Result<bool, AllocError> {
+    Ok(event.clone(alloc)? == *event)
+}
+
+/// Whether a table map event has an equal copy.
+fn has_table_copy(alloc: Global, table: &TableMapEvent<'_>) -> Result<bool, AllocError> {
+    Ok(table.clone(alloc)? == *table)
+}
+
+#[test]
+fn copies_of_events(rt: HostRuntime) -> Result<(), Fail> {
+    assert!(rt;
+        has_copy(
+            rt.alloc(),
+            &read(TWO_ROWS, EventType::WRITE_ROWS_EVENT, 10)?
+        )?
+    );
+    Ok(())
+}
+
+#[test]
+fn copies_of_tables(rt: HostRuntime) -> Result<(), Fail> {
+    let table: TableMapEvent<'_> = ParseBuf(TWO_COLUMNS).parse(8)?;
+    assert!(rt; has_table_copy(rt.alloc(), &table)?);
+    Ok(())
+}
+
+#[test]
+fn owned_events(rt: HostRuntime) -> Result<(), Fail> {
+    let event = read(TWO_ROWS, EventType::WRITE_ROWS_EVENT, 10)?.into_owned(rt.alloc())?;
+    assert!(rt; event.table_id() == 1);
+    Ok(())
+}
+
+#[test]
+fn an_owned_table(rt: HostRuntime) -> Result<(), Fail> {
+    let table: TableMapEvent<'_> = ParseBuf(TWO_COLUMNS).parse(8)?;
+    let owned = table.into_owned(rt.alloc())?;
+    assert!(rt; owned.table_id() == 1);
+    Ok(())
+}
+
+/// Whether the text stands for a byte that isn't UTF-8.
+fn is_lossy(text: Result<CowStr<'_>, AllocError>) -> Result<bool, AllocError> {
+    Ok(text?.as_str() == "\u{fffd}")
+}
+
+/// A table whose database and name are a byte that isn't UTF-8, without columns.
+const LOSSY: &[u8] = b"\x01\0\0\0\0\0\x01\0\x01\xff\0\x01\xff\0\0\0";
+
+/// Whether the names of a table are lossy.
+fn has_lossy_names(alloc: Global, table: &TableMapEvent<'_>) -> Result<bool, AllocError> {
+    Ok(is_lossy(table.database_name(alloc))? && is_lossy(table.table_name(alloc))?)
+}
+
+#[test]
+fn lossy_names(rt: HostRuntime) -> Result<(), Fail> {
+    let table: TableMapEvent<'_> = ParseBuf(LOSSY).parse(8)?;
+    assert!(rt; has_lossy_names(rt.alloc(), &table)?);
+    Ok(())
+}
+
+/// Whether each kind of text is lossy where its byte isn't UTF-8.
+fn name_is_lossy(alloc: Global) -> Result<bool, AllocError> {
+    is_lossy(ColumnName::new(CowSlice::Borrowed(b"\xff")).name(alloc))
+}
+
+fn value_is_lossy(alloc: Global) -> Result<bool, AllocError> {
+    is_lossy(SetStrValue::new(CowSlice::Borrowed(b"\xff")).value(alloc))
+}
+
+fn bytes_are_lossy(alloc: Global) -> Result<bool, AllocError> {
+    is_lossy(RawBytes::<'_, EofBytes>::new(CowSlice::Borrowed(b"\xff")).as_str(alloc))
+}
+
+fn string_is_lossy(alloc: Global) -> Result<bool, AllocError> {
+    is_lossy(JsonbString::new(CowSlice::Borrowed(b"\xff")).str(alloc))
+}
+
+fn key_is_lossy(alloc: Global) -> Result<bool, AllocError> {
+    is_lossy(ObjectKey::new(CowSlice::Borrowed(b"\xff")).value(alloc))
+}
+
+fn opaque_is_lossy(alloc: Global) -> Result<bool, AllocError> {
+    let bytes = CowSlice::Borrowed(b"\xff");
+    is_lossy(OpaqueValue::new(ColumnType::MYSQL_TYPE_BLOB, bytes).data(alloc))
+}
+
+#[test]
+fn lossy_texts(rt: HostRuntime) -> Result<(), Fail> {
+    let alloc = rt.alloc();
+    assert!(rt; name_is_lossy(alloc)? && value_is_lossy(alloc)? && bytes_are_lossy(alloc)?);
+    assert!(rt; string_is_lossy(alloc)? && key_is_lossy(alloc)? && opaque_is_lossy(alloc)?);
+    Ok(())
+}
+
+/// Whether a decimal has this text, which is written without memory.
+fn shows(decimal: &Decimal, text: &str) -> bool {
+    let mut room = InlineText::<16>::new();
+    write!(room, "{decimal}").is_ok() && room.as_str() == text
+}
+
+#[test]
+fn decimals(rt: HostRuntime) -> Result<(), Fail> {
+    let alloc = rt.alloc();
+    assert!(rt; shows(&Decimal::from_str(alloc, "-1.5")?, "-1.5"));
+    assert!(rt; shows(&Decimal::parse_bytes(alloc, b"1.5")?, "1.5"));
+    assert!(rt; shows(&Decimal::default(alloc)?, "0"));
+    assert!(rt; shows(&decimal(alloc, &[0x7f, 0xfe])?, "-0.01"));
+    let mut bytes: &[u8] = &[4, 2, 0x7f, 0xfe];
+    assert!(rt;
+        shows(
+            &Decimal::read_packed(alloc, &mut bytes, true)?.clone(alloc)?,
+            "-0.01"
+        )
+    );
+    Ok(())
+}
+
+/// A copy of the cell that owns its bytes.
+fn own_copy(alloc: Global, cell: &BinlogValue<'_>) -> Result<BinlogValue<'static>, AllocError> {
+    cell.clone(alloc)?.into_owned(alloc)
+}
+
+/// The value of a cell of text.
+fn text_cell(alloc: Global) -> Result<BinlogValue<'static>, Fault> {
+    let metadata: &[u8] = &[10, 0];
+    let ctx = (
+        alloc,
+        ColumnType::MYSQL_TYPE_VARCHAR,
+        metadata,
+        false,
+        false,
+    );
+    let cell: BinlogValue<'_> = ParseBuf(b"\x02ab").parse(ctx)?;
+    Ok(own_copy(alloc, &cell)?)
+}
+
+/// Whether the value is this text.
+fn is_bytes(value: &BinlogValue<'_>, text: &[u8]) -> bool {
+    match value {
+        BinlogValue::Value(Value::Bytes(found)) => found.as_slice() == text,
+        _ => false,
+    }
+}
+
+#[test]
+fn cells(rt: HostRuntime) -> Result<(), Fail> {
+    assert!(rt; is_bytes(&text_cell(rt.alloc())?, b"ab"));
+    Ok(())
+}
+
+/// A row of one column named `name`, and a cell of text in it.
+fn text_row(alloc: Global) -> Result<BinlogRow, Fault> {
+    let column = Column::new(ColumnType::MYSQL_TYPE_VARCHAR)
+        .with_schema(alloc, b"schema")?
+        .with_table(alloc, b"table")?
+        .with_org_table(alloc, b"table")?
+        .with_name(alloc, b"name")?;
+    let columns = RcSlice::from_vec(vec![in alloc; column]?)?;
+    Ok(BinlogRow::new(vec![in alloc; Some(text_cell(alloc)?)]?, columns))
+}
+
+#[test]
+fn copies_of_rows(rt: HostRuntime) -> Result<(), Fail> {
+    let row = text_row(rt.alloc())?;
+    assert!(rt; row.columns(rt.alloc())?.len() == 1);
+    assert!(rt; row.clone(rt.alloc())? == row);
+    Ok(())
+}
+
+#[test]
+fn values_of_rows(rt: HostRuntime) -> Result<(), Fail> {
+    assert!(rt; images::unwrapped(rt.alloc(), 8)?.len() == 1);
+    assert!(rt; text_row(rt.alloc())?.into_row(rt.alloc())?.len() == 1);
+    Ok(())
+}
+
+/// Whether a JSON value has an equal copy.
+fn has_json_copy(alloc: Global, value: &Json<'_>) -> Result<bool, AllocError> {
+    Ok(value.clone(alloc)? == *value)
+}
+
+/// Whether a JSON value that owns its bytes has an equal copy.
+fn is_owned(alloc: Global, bytes: &[u8]) -> Result<bool, Fault> {
+    let value: Json<'_> = ParseBuf(bytes).parse(())?;
+    Ok(has_json_copy(alloc, &value.into_owned(alloc)?)?)
+}
+
+#[test]
+fn copies_of_json(rt: HostRuntime) -> Result<(), Fail> {
+    assert!(rt; is_owned(rt.alloc(), trees::OVERLAPPING)? && is_owned(rt.alloc(), &[12, 1, 0x61])?);
+    assert!(rt; is_owned(rt.alloc(), &[15, 252, 1, 0x61])?);
+    Ok(())
+}
+
+/// Whether a tree has an equal copy.
+fn has_tree_copy(alloc: Global, dom: &JsonDom) -> Result<bool, AllocError> {
+    Ok(dom.clone(alloc)? == *dom)
+}
+
+#[test]
+fn copies_of_trees(rt: HostRuntime) -> Result<(), Fail> {
+    let value: Json<'_> = ParseBuf(trees::OVERLAPPING).parse(())?;
+    assert!(rt; has_tree_copy(rt.alloc(), &value.parse(rt.alloc())?)?);
+    Ok(())
+}
+
+/// Whether a diff has an equal copy.
+fn has_diff_copy(alloc: Global, diff: &JsonDiff<'_>) -> Result<bool, AllocError> {
+    Ok(diff.clone(alloc)? == *diff)
+}
+
+#[test]
+fn copies_of_diffs(rt: HostRuntime) -> Result<(), Fail> {
+    let diff: JsonDiff<'_> = ParseBuf(partial::REPLACED).parse(())?;
+    assert!(rt; has_diff_copy(rt.alloc(), &diff.into_owned(rt.alloc())?)?);
+    Ok(())
+}

@@ -8,14 +8,14 @@
 # COLUMNS are the letters of scripts/make_rows.py; without them the table has ten columns. With `full` it has optional metadata. FEW, MANY and
 # MORE are files of the program's six words, one a line, of the same table with 30, 330 and 630 rows. The instructions of a row are the
 # difference of two runs, divided by 300: of the whole program, and of the call of `decode_pairs` alone. Build the program with `rt run` in
-# crates/rows. With `trees` it counts the call of `jsonb::Value::parse` in tests of mysql_binlog_rows, which make a tree of 10,000 numbers and two
-# of 10,000 keys and values; run `rt test` in crates/mysql_binlog_rows first.
+# crates/rows. With `trees` it counts the call of `jsonb::Value::parse` in tests, which make a tree of 10,000 numbers and two
+# of 10,000 keys and values; run `rt test` there first.
 set -eu
 here=$(cd "$(dirname "$0")/.." && pwd)
 if [ "${1:-}" = trees ]; then
-    tests=$here/crates/mysql_binlog_rows/out/mysql_binlog_rows_tests
+    tests=$here/crates/rows/out/rows_tests
     if [ ! -x "$tests" ]; then
-        echo "$tests is not built: run 'rt test' in crates/mysql_binlog_rows first" >&2
+        echo "$tests is not built: run 'rt test' in crates/rows first" >&2
         exit 2
     fi
     for test in ten_thousand_numbers ten_thousand_keys_by_ten ten_thousand_keys_by_a_thousand; do

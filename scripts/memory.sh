@@ -1,17 +1,17 @@
 #!/usr/bin/env bash
-# Refuses each request for memory in turn: of the tests of the module `memory` of mysql_binlog_rows, and of the program.
+# Refuses each request for memory in turn: of the tests of the module `memory`, and of the program.
 #
 # usage: scripts/memory.sh
 #
 # It preloads scripts/refuse.c, which it builds with `cc`, into the test program and the program that `rt ci` leaves in the folders `out`
-# (`rt test` in crates/mysql_binlog_rows and `rt run` in crates/rows build them too). A test runs with its request 1, 2, .. refused, until a run
+# (`rt test` and `rt run` in crates/rows build them too). A test runs with its request 1, 2, .. refused, until a run
 # makes fewer requests; that run must pass. In each run before it the call that was refused memory must say so: the test ends with its error.
 # The requests that the program makes before it decodes are refused as `fault Memory` too. So no run ends with an answer in place of a refusal.
 # The tests whose names begin with `nothing` make no more requests than the test `nothing`, which is empty.
 # The status is 0 if all of this holds, 1 if it doesn't, and 2 if a program or `cc` isn't there.
 set -eu
 here=$(cd "$(dirname "$0")/.." && pwd)
-tests=$here/crates/mysql_binlog_rows/out/mysql_binlog_rows_tests
+tests=$here/crates/rows/out/rows_tests
 program=$here/crates/rows/out/rows
 for file in "$tests" "$program"; do
     if [ ! -x "$file" ]; then

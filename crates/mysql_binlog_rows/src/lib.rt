@@ -4,6 +4,4 @@
 pub mod laws;
 pub mod row;
 pub mod rows_event;
-#[cfg(test)]
-mod tests;
 pub mod value;

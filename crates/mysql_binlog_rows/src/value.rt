@@ -6,8 +6,6 @@ mod decimals;
 mod form;
 mod json;
 mod numbers;
-#[cfg(test)]
-mod tests;
 mod times;
 
 ghost use Rattle.std.specs.Prelude.{◌≡◌, true, IfOk};

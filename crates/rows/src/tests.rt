@@ -1,574 +1,576 @@
-//! Tests of the program's output and exit status.
+//! Tests of rows events and their pairs of rows. The modules test the other parts of the libraries,
+//! and the program.
 
-use crate::run::{fail, run};
-use crate::words::WordsError;
-use binlog_base::below::Value;
+mod below;
+mod cells;
+mod consts;
+mod decimals;
+mod filter;
+mod images;
+mod jsonb;
+mod memory;
+mod misc;
+mod optional_metadata;
+mod partial;
+mod program;
+mod readers;
+mod table_map;
+mod times;
+mod trees;
+
+use binlog_base::below::{Column, ColumnType, MySerialize, ParseBuf, Value};
 use binlog_base::fault::Fault;
-use binlog_consts::consts::EventType;
-use mysql_binlog_rows::rows_event::{RowsEventCtx, decode_pairs};
+use binlog_consts::consts::{BinlogVersion, EventType, RowsEventFlags};
+use binlog_table::table_map::TableMapEvent;
+use mysql_binlog_rows::laws::pairs_are_unambiguous;
+use mysql_binlog_rows::row::BinlogRow;
+use mysql_binlog_rows::rows_event::{Decoded, RowPair, RowsEvent, RowsEventCtx, decode_pairs};
 use mysql_binlog_rows::value::BinlogValue;
 use std::alloc::{AllocError, Global};
-use std::io::Write;
+use std::rc::RcSlice;
 use std::test::Fail;
-use std::{io, str};
 
-const USAGE: &str = "usage: rows MLEN TYPE PLEN WLEN MAPHEX ROWSHEX\n";
-
-/// The table d.t of an INT and a VARCHAR column.
-const TABLE: &str = "010000000000010001640001740002030F020A0002";
-
-/// Whether the program, on these words, ends with the status and writes these texts.
-fn prints(
-    alloc: Global,
-    all: &[&str],
-    status: u8,
-    text: &str,
-    usage: &str,
-) -> Result<bool, AllocError> {
-    let mut words = Vec::new(alloc);
-    for word in all {
-        words.push(String::from_str(alloc, word)?)?;
-    }
-    let mut out = Vec::new(alloc);
-    let mut err = Vec::new(alloc);
-    let answer = run(alloc, &words, &mut out, &mut err);
-    Ok(answer == status && out.as_slice() == text.as_bytes() && err.as_slice() == usage.as_bytes())
+/// Whether all of the checks hold. One call costs less to prove than an assertion for each.
+pub(crate) fn all(checks: &[bool]) -> bool {
+    checks.iter().all(|check| *check)
 }
 
-/// Returns whether the program, on a WRITE_ROWS_EVENT over the table d.t, ends with the status and
-/// writes the text.
-fn prints_rows(alloc: Global, rows: &str, status: u8, text: &str) -> Result<bool, AllocError> {
-    prints(
-        alloc,
-        &["8", "1E", "10", "10", TABLE, rows],
-        status,
-        text,
-        "",
+/// Reads an event of this type, whose post-header has this length. The post-header length of
+/// `WRITE_ROWS_EVENT` is 10.
+fn read(bytes: &[u8], event_type: EventType, post_header_len: u8) -> Result<RowsEvent<'_>, Fault> {
+    ParseBuf(bytes).parse(RowsEventCtx {
+        event_type,
+        post_header_len,
+        write_rows_post_header_len: 10,
+    })
+}
+
+/// Two rows of two columns.
+const TWO_ROWS: &[u8] = b"\x01\0\0\0\0\0\x01\0\x02\0\x02\x03\0\x2a\0\0\0\x02ab\x02\xff\xff\xff\xff";
+
+/// Whether the event has this table, this many columns, and these rows.
+fn has_parts(event: &RowsEvent<'_>, table_id: u64, columns: u64, rows: &[u8]) -> bool {
+    event.table_id() == table_id && event.num_columns() == columns && event.rows_data() == rows
+}
+
+/// Returns how many columns the images before and after the change have; none for an image that
+/// isn't there.
+fn image_counts(event: &RowsEvent<'_>) -> (Option<usize>, Option<usize>) {
+    let before = event.columns_before_image();
+    let after = event.columns_after_image();
+    (
+        before.map(|bits| bits.count_ones()),
+        after.map(|bits| bits.count_ones()),
     )
 }
 
 #[test]
-fn rows_of_a_table(rt: HostRuntime) -> Result<(), Fail> {
-    let cases = [
-        (
-            "010000000000010002000203002A00000002616202FFFFFFFF",
-            0,
-            "- -> {@0=42, @1=x6162}\n- -> {@0=-1, @1=NULL}\n",
-        ),
-        // Digits in either case, and a text of no bytes.
-        (
-            "010000000000010002000203002a0000000002FfffffFF",
-            0,
-            "- -> {@0=42, @1=x}\n- -> {@0=-1, @1=NULL}\n",
-        ),
-        ("010000000000010002000203", 0, ""),
-        // Only the second column is in the image.
-        ("01000000000001000200020200026162", 0, "- -> {@1=x6162}\n"),
-        // The last byte is cut.
-        (
-            "010000000000010002000203002A00000002616202FFFFFF",
-            1,
-            "- -> {@0=42, @1=x6162}\nfault UnexpectedEof\n",
-        ),
-        ("0100000000000100020000", 0, ""),
-        ("010000000000010002000005", 1, "fault EmptyPair\n"),
-        ("0100000000000100020003070700", 1, "fault NoColumnType\n"),
-        ("01000000000001000200FB", 1, "fault BadLenEnc\n"),
-        ("", 1, "fault UnexpectedEof\n"),
-    ];
-    for (rows, status, text) in cases {
-        assert!(rt; prints_rows(rt.alloc(), rows, status, text)?, "{rows}");
-    }
-    Ok(())
-}
-
-/// The digits of two inserted rows.
-const INSERTED: &[u8] = b"010000000000010002000203002A00000002616202FFFFFFFF";
-
-/// The status for the first `len` bytes of `INSERTED`, and what is printed.
-fn printed(len: usize) -> (u8, &'static str) {
-    match len {
-        12 => (0, ""),
-        0..=19 => (1, "fault UnexpectedEof\n"),
-        20 => (0, "- -> {@0=42, @1=x6162}\n"),
-        21..=24 => (1, "- -> {@0=42, @1=x6162}\nfault UnexpectedEof\n"),
-        _ => (0, "- -> {@0=42, @1=x6162}\n- -> {@0=-1, @1=NULL}\n"),
-    }
-}
-
-#[test]
-fn cut_events(rt: HostRuntime) -> Result<(), Fail> {
-    for len in 0..=25 {
-        let (status, text) = printed(len);
-        let rows = str::from_utf8(&INSERTED[..2 * len])?;
-        assert!(rt; prints_rows(rt.alloc(), rows, status, text)?, "{len}");
-    }
-    Ok(())
-}
-
-#[test]
-fn described_columns(rt: HostRuntime) -> Result<(), Fail> {
-    // A sign bit, two names, a key column, and a default character set.
-    let table = "010000000000010001640001740002030F020A0002010180040401610162080100020121";
-    let inserted = "010000000000010002000203002A00000002616202FFFFFFFF";
-    let text = "- -> {a=42, b=x6162}\n- -> {a=4294967295, b=NULL}\n";
-    let words = ["8", "1E", "10", "10", table, inserted];
-    assert!(rt; prints(rt.alloc(), &words, 0, text, "")?);
-    // An update of column a to column b.
-    let updated = "01000000000001000200020102000700000001";
-    let words = ["8", "1F", "10", "10", table, updated];
-    assert!(rt; prints(rt.alloc(), &words, 0, "{a=7} -> {b=NULL}\n", "")?);
-    Ok(())
-}
-
-#[test]
-fn other_tables(rt: HostRuntime) -> Result<(), Fail> {
-    let rows = "010000000000010002000203002A0000000261620200000000";
-    let cases = [
-        // Two deleted rows.
-        (
-            "20",
-            TABLE,
-            0,
-            "{@0=42, @1=x6162} -> -\n{@0=0, @1=NULL} -> -\n",
-        ),
-        // VARCHAR without metadata, an unknown type, and a STRING column whose metadata names
-        // another type.
-        (
-            "1E",
-            "010000000000010001640001740002030F0002",
-            1,
-            "fault MissingMetadata\n",
-        ),
-        (
-            "1E",
-            "01000000000001000164000174000203F40002",
-            1,
-            "fault UnknownColumnType(244)\n",
-        ),
-        (
-            "1E",
-            "01000000000001000164000174000203FE02110002",
-            1,
-            "fault UnexpectedColumnType(49)\n",
-        ),
-        ("1E", "", 1, "fault UnexpectedEof\n"),
-    ];
-    for (event, table, status, text) in cases {
-        let words = ["8", event, "10", "10", table, rows];
-        assert!(rt; prints(rt.alloc(), &words, status, text, "")?, "{table}");
-    }
-    // The first version of the event, in lower case, with post-header lengths of 6.
-    let words = [
-        "6",
-        "17",
-        "6",
-        "010",
-        "0100000001000164000174000103 0001",
-        "01000000010001010002000000",
-    ];
-    assert!(rt; prints(rt.alloc(), &words, 2, "", USAGE)?);
-    let words = [
-        "6",
-        "17",
-        "6",
-        "010",
-        "01000000010001640001740001030001",
-        "0100000001000101000200 0000",
-    ];
-    assert!(rt; prints(rt.alloc(), &words, 2, "", USAGE)?);
-    let words = [
-        "6",
-        "17",
-        "6",
-        "010",
-        "01000000010001640001740001030001",
-        "01000000010001010002000000",
-    ];
-    assert!(rt; prints(rt.alloc(), &words, 0, "- -> {@0=2}\n", "")?);
-    Ok(())
-}
-
-/// Inserts that a MariaDB 10.11 server wrote, and the rows that its tables held afterwards.
-#[test]
-fn real_inserts(rt: HostRuntime) -> Result<(), Fail> {
-    let cases = [
-        (
-            "e6000000000001000464625f42000278360001030001",
-            "e6000000000001000101fe01000000",
-            "- -> {@0=1}\n",
-        ),
-        (
-            "e7000000000001000464625f42000278370001030001",
-            "e7000000000001000101fe01000000",
-            "- -> {@0=1}\n",
-        ),
-        (
-            "07010000000001000464625f42000378333900010f02500001",
-            "07010000000001000101fe0161",
-            "- -> {@0=x61}\n",
-        ),
-        (
-            "08010000000001000464625f42000378343000010f02ff0001",
-            "08010000000001000101fe0161",
-            "- -> {@0=x61}\n",
-        ),
-        (
-            "0a010000000001000464625f42000378343200010f02fc0001",
-            "0a010000000001000101fe0161",
-            "- -> {@0=x61}\n",
-        ),
-        (
-            "0c010000000001000464625f42000378343400010f02e80301",
-            "0c010000000001000101fe010061",
-            "- -> {@0=x61}\n",
-        ),
-        (
-            "10010000000001000464625f42000378343800010f02100001",
-            "10010000000001000101fe0161",
-            "- -> {@0=x61}\n",
-        ),
-        (
-            "11010000000001000464625f42000378343900010f02ff0001",
-            "11010000000001000101fe0161",
-            "- -> {@0=x61}\n",
-        ),
-        (
-            "12010000000001000464625f42000378353000010f02000101",
-            "12010000000001000101fe010061",
-            "- -> {@0=x61}\n",
-        ),
-        (
-            "e8020000000001000464625f460007706b5f6175746f0002030f02280002",
-            "e8020000000001000203fc020000000162",
-            "- -> {@0=2, @1=x62}\n",
-        ),
-        (
-            "ec020000000001000464625f460007756b5f6f6e6c790003030f0302280003",
-            "ec020000000001000307f802000000016206000000",
-            "- -> {@0=2, @1=x62, @2=6}\n",
-        ),
-        (
-            "f1020000000001000464625f46000367656e000503030f03030228000f",
-            "f102000000000100051fe8020000000400000002763200000000e70700000001000000",
-            "- -> {@0=2, @1=4, @2=x7632, @3=NULL, @4=0}\n- -> {@0=NULL, @1=NULL, @2=NULL, @3=7, @4=1}\n",
-        ),
-        (
-            "f6020000000001000464625f4600036d5f630002030f02280002",
-            "f6020000000001000203fc0b00000002736afc0c00000002736afc0d000000027363",
-            "- -> {@0=11, @1=x736a}\n- -> {@0=12, @1=x736a}\n- -> {@0=13, @1=x7363}\n",
-        ),
-    ];
-    for (table, rows, text) in cases {
-        let words = ["8", "17", "8", "10", table, rows];
-        assert!(rt; prints(rt.alloc(), &words, 0, text, "")?, "{rows}");
-    }
-    Ok(())
-}
-
-/// Inserts of other types, all but one written by the same server.
-#[test]
-fn real_inserts_of_other_types(rt: HostRuntime) -> Result<(), Fail> {
-    let cases = [
-        (
-            "ea000000000001000464625f4200037831300001010001",
-            "ea000000000001000101fe01",
-            "- -> {@0=1}\n",
-        ),
-        (
-            "ef000000000001000464625f420003783135000104010401",
-            "ef000000000001000101fe0000803f",
-            "- -> {@0=f32:3f800000}\n",
-        ),
-        (
-            "ee000000000001000464625f420003783134000105010801",
-            "ee000000000001000101fe000000000000f03f",
-            "- -> {@0=f64:3ff0000000000000}\n",
-        ),
-        (
-            "96030000000001000564625f6f4200046f6c64320001070001",
-            "96030000000001000101fe4058e065",
-            "- -> {@0=1709201472}\n",
-        ),
-        (
-            "e8000000000001000464625f42000278380001080001",
-            "e8000000000001000101fe0100000000000000",
-            "- -> {@0=1}\n",
-        ),
-        (
-            "e4000000000001000464625f42000278340001090001",
-            "e4000000000001000101fe010000",
-            "- -> {@0=1}\n",
-        ),
-        (
-            "01020000000001000464625f43000378393200010a0001",
-            "01020000000001000101fe5dd00f",
-            "- -> {@0=date(2024,2,29,0,0,0,0)}\n",
-        ),
-        (
-            "94030000000001000564625f6f4200046f6c643000010b0001",
-            "94030000000001000101fef88a01",
-            "- -> {@0=time(false,0,10,11,12,0)}\n",
-        ),
-        (
-            "94030000000001000564625f6f4200046f6c643000010b0001",
-            "94030000000001000101fe000000fefffffffea7f57ffe590a80feb79903fe80a903fe8056fcfe000000fe000000fec01dfefe41420fff",
-            "- -> {@0=time(false,0,0,0,0,0)}\n\
-             - -> {@0=time(false,69,21,72,15,0)}\n\
-             - -> {@0=time(false,34,22,59,59,0)}\n\
-             - -> {@0=time(false,34,23,12,57,0)}\n\
-             - -> {@0=time(false,0,23,59,59,0)}\n\
-             - -> {@0=time(false,1,0,0,0,0)}\n\
-             - -> {@0=time(false,68,21,72,16,0)}\n\
-             - -> {@0=time(false,0,0,0,0,0)}\n\
-             - -> {@0=time(false,0,0,0,0,0)}\n\
-             - -> {@0=time(false,69,9,37,60,0)}\n\
-             - -> {@0=time(false,4,4,0,1,0)}\n\
-             - -> {@0=NULL}\n",
-        ),
-        // The least number of three bytes in two's complement, on the same table.
-        (
-            "94030000000001000564625f6f4200046f6c643000010b0001",
-            "94030000000001000101fe000080",
-            "- -> {@0=time(false,34,22,86,8,0)}\n",
-        ),
-        (
-            "95030000000001000564625f6f4200046f6c643100010c0001",
-            "95030000000001000101fe386eaa8b68120000",
-            "- -> {@0=date(2024,2,29,10,11,12,0)}\n",
-        ),
-        (
-            "63010000000001000464625f420010796561725f7468656e5f7369676e656400030d03010007",
-            "63010000000001000307f87e0100000001",
-            "- -> {@0=x32303236, @1=1, @2=1}\n",
-        ),
-        (
-            "2e010000000001000464625f42000378373800011002050001",
-            "2e010000000001000101fe01",
-            "- -> {@0=x01}\n",
-        ),
-        (
-            "4b010000000001000464625f42000478313037000111010001",
-            "4b010000000001000101fe65e05840",
-            "- -> {@0=x31373039323031343732}\n",
-        ),
-        (
-            "45010000000001000464625f42000478313031000112010101",
-            "45010000000001000101fe99b2baa2cc0a",
-            "- -> {@0=date(2024,2,29,10,11,12,100000)}\n",
-        ),
-        (
-            "3e010000000001000464625f420003783934000113010101",
-            "3e010000000001000101fe80a2cc0a",
-            "- -> {@0=time(false,0,10,11,12,100000)}\n",
-        ),
-        (
-            "f7000000000001000464625f4200037832330001f602050001",
-            "f7000000000001000101fe800001",
-            "- -> {@0=x31}\n",
-        ),
-        (
-            "18010000000001000464625f4200037835360001fc010101",
-            "18010000000001000101fe0161",
-            "- -> {@0=x61}\n",
-        ),
-        (
-            "1c010000000001000464625f4200037836300001fe02f70101",
-            "1c010000000001000101fe01",
-            "- -> {@0=1}\n",
-        ),
-    ];
-    for (table, rows, text) in cases {
-        let words = ["8", "17", "8", "10", table, rows];
-        assert!(rt; prints(rt.alloc(), &words, 0, text, "")?, "{rows}");
-    }
-    Ok(())
-}
-
-/// A cell of each form of text: the bits of floats, a date, a time; of the types FLOAT, DOUBLE, DATE and TIME2.
-#[test]
-fn forms_of_cells(rt: HostRuntime) -> Result<(), Fail> {
-    let table = "01000000000001000164000174000404050A13030408020F";
-    let rows = "01000000000001000200040F000000803F000000000000F03F7BC70F7FFFFFF6";
-    let text =
-        "- -> {@0=f32:3f800000, @1=f64:3ff0000000000000, @2=date(2019,11,27,0,0,0,0), @3=time(true,0,0,0,0,100000)}\n";
-    let words = ["8", "1E", "10", "10", table, rows];
-    assert!(rt; prints(rt.alloc(), &words, 0, text, "")?);
-    Ok(())
-}
-
-/// A text of 70 bytes, which are converted to digits in three parts.
-#[test]
-fn long_bytes(rt: HostRuntime) -> Result<(), Fail> {
-    let mut rows = String::from_str(rt.alloc(), "010000000000010002000202FE46")?;
-    let mut text = String::from_str(rt.alloc(), "- -> {@1=x")?;
-    for byte in 0..70u8 {
-        write!(rows, "{byte:02X}")?;
-        write!(text, "{byte:02x}")?;
-    }
-    text.push_str("}\n")?;
-    let table = "010000000000010001640001740002030F020A0002";
+fn inserted_rows(rt: HostRuntime) -> Result<(), Fail> {
+    let event = read(TWO_ROWS, EventType::WRITE_ROWS_EVENT, 10)?;
     assert!(rt;
-        prints(
-            rt.alloc(),
-            &["8", "1E", "10", "10", table, &rows],
-            0,
-            &text,
-            ""
-        )?
+        all(&[
+            event.event_type() == EventType::WRITE_ROWS_EVENT,
+            has_parts(&event, 1, 2, &TWO_ROWS[12..]),
+            image_counts(&event) == (None, Some(2)),
+            event.flags_raw() == 1,
+            event.flags() == RowsEventFlags::STMT_END,
+            event.len(BinlogVersion::Version4) == 25,
+        ])
     );
     Ok(())
 }
 
 #[test]
-fn texts_of_errors(rt: HostRuntime) -> Result<(), Fail> {
-    let usage = WordsError::Usage;
-    let memory = WordsError::Memory;
-    let text = format!(in rt.alloc(); "{usage}\n{memory}")?;
-    assert!(rt; text.as_str() == "usage: rows MLEN TYPE PLEN WLEN MAPHEX ROWSHEX\nout of memory");
-    Ok(())
-}
-
-#[test]
-fn lines_of_faults(rt: HostRuntime) {
-    let mut out = Vec::new(rt.alloc());
-    assert!(rt; fail(&mut out, Fault::Memory) == 1);
-    assert!(rt; out.as_slice() == b"fault Memory\n".as_slice());
-}
-
-#[test]
-fn usage(rt: HostRuntime) -> Result<(), Fail> {
-    let good = ["8", "1E", "10", "10", TABLE, "00"];
-    assert!(rt; prints(rt.alloc(), &[], 2, "", USAGE)?);
-    assert!(rt; prints(rt.alloc(), &good[..5], 2, "", USAGE)?);
-    let seven = ["8", "1E", "10", "10", TABLE, "00", "00"];
-    assert!(rt; prints(rt.alloc(), &seven, 2, "", USAGE)?);
-    // Each argument in turn isn't in its form.
-    let bad = [
-        (0, "256"),
-        (0, ""),
-        (0, "+8"),
-        (0, "-8"),
-        (1, "29"),
-        (1, "2B"),
-        (1, "1"),
-        (1, "01E"),
-        (1, ""),
-        (2, "1000"),
-        (2, "0010"),
-        (3, "1e1"),
-        (4, "010"),
-        (5, "0g"),
-        (5, "0 "),
+fn images_by_type(rt: HostRuntime) -> Result<(), Fail> {
+    // Table id, flags, no extra data, one column, and two bitmaps or one and rows data.
+    let bytes = &[1, 0, 0, 0, 0, 0, 0, 0, 2, 0, 1, 1, 0];
+    let rows = [
+        (EventType::WRITE_ROWS_EVENT, None, Some(1)),
+        (EventType::UPDATE_ROWS_EVENT, Some(1), Some(0)),
+        (EventType::UPDATE_ROWS_EVENT_V1, Some(1), Some(0)),
+        (EventType::PARTIAL_UPDATE_ROWS_EVENT, Some(1), Some(0)),
+        (EventType::DELETE_ROWS_EVENT, Some(1), None),
+        (EventType::DELETE_ROWS_EVENT_V1, Some(1), None),
+        (EventType::QUERY_EVENT, None, Some(1)),
     ];
-    for (place, word) in bad {
-        let mut words = good;
-        words[place] = word;
-        assert!(rt; prints(rt.alloc(), &words, 2, "", USAGE)?, "{word}");
-    }
-    Ok(())
-}
-
-/// An output that takes no byte.
-#[derive(Drop)]
-struct Closed;
-
-impl Write for Closed {
-    fn write(&mut self, _buf: &[u8]) -> io::Result<usize> {
-        Err(io::Error::from(io::ErrorKind::BrokenPipe))
-    }
-
-    fn flush(&mut self) -> io::Result<()> {
-        Ok(())
-    }
-}
-
-/// The status where the output fails.
-fn status_of_closed(alloc: Global) -> Result<u8, AllocError> {
-    let rows = "010000000000010002000203002A00000002616202FFFFFFFF";
-    let mut words = Vec::new(alloc);
-    for word in ["8", "1E", "10", "10", TABLE, rows] {
-        words.push(String::from_str(alloc, word)?)?;
-    }
-    Ok(run(alloc, &words, &mut Closed, &mut Closed))
-}
-
-/// A table of two JSON columns.
-const DOCUMENTS: &str = "010000000000010001640001740002F5F502040403";
-
-#[test]
-fn partial_updates(rt: HostRuntime) -> Result<(), Fail> {
-    let cases = [
-        (
-            DOCUMENTS,
-            "01000000000001000200020002010200050000000203242E61",
-            "{} -> {@1=diffs(1)}\n",
-        ),
-        (
-            DOCUMENTS,
-            "01000000000001000200020002000003000000052A00",
-            "{} -> {@1=scalar}\n",
-        ),
-        (
-            DOCUMENTS,
-            "010000000000010002000200020000050000000000000400",
-            "{} -> {@1=object(0)}\n",
-        ),
-        (
-            TABLE,
-            "010000000000010002000200000000",
-            "{} -> {}\n{} -> {}\n",
-        ),
-    ];
-    for (table, rows, text) in cases {
-        let words = ["8", "27", "10", "10", table, rows];
-        assert!(rt; prints(rt.alloc(), &words, 0, text, "")?, "{rows}");
+    for (event_type, before, after) in rows {
+        let event = read(bytes, event_type, 10)?;
+        assert!(rt; image_counts(&event) == (before, after), "{event_type:?}");
     }
     Ok(())
 }
 
 #[test]
-fn closed_output(rt: HostRuntime) -> Result<(), Fail> {
-    assert!(rt; status_of_closed(rt.alloc())? == 1);
+fn first_version(rt: HostRuntime) -> Result<(), Fail> {
+    // The event's own post-header has 6 bytes: the table id has 4, and there is no extra data.
+    let bytes = &[1, 0, 0, 0, 1, 0, 2, 3, 3];
+    let event = read(bytes, EventType::WRITE_ROWS_EVENT_V1, 6)?;
+    assert!(rt;
+        all(&[
+            has_parts(&event, 1, 2, &[3]),
+            image_counts(&event) == (None, Some(2)),
+            event.len(BinlogVersion::Version4) == 13,
+        ])
+    );
     Ok(())
 }
 
-/// The numbers in the first column of the rows that a WRITE_ROWS_EVENT inserts; none for a value that is no number.
-fn first_numbers(alloc: Global, table: &[u8], rows: &[u8]) -> Result<Vec<Option<i64>>, Fault> {
+/// The bytes that are written for an event.
+fn written(rt: &HostRuntime, event: &RowsEvent<'_>) -> Result<Vec<u8>, AllocError> {
+    let mut buf = Vec::new(rt.alloc());
+    event.serialize(&mut buf)?;
+    Ok(buf)
+}
+
+/// Whether an event that is read from these bytes is written as these other bytes.
+fn is_written(
+    rt: &HostRuntime,
+    bytes: &[u8],
+    event_type: EventType,
+    post_header_len: u8,
+    expected: &[u8],
+) -> Result<bool, Fail> {
+    let event = read(bytes, event_type, post_header_len)?;
+    Ok(written(rt, &event)?.as_slice() == expected)
+}
+
+#[test]
+fn an_event_of_the_first_version_is_written(rt: HostRuntime) -> Result<(), Fail> {
+    // The table id is written in six bytes.
+    let bytes = &[1, 0, 0, 0, 1, 0, 2, 3, 3];
+    let expected = &[1, 0, 0, 0, 0, 0, 1, 0, 2, 3, 3];
+    assert!(rt; is_written(&rt, bytes, EventType::WRITE_ROWS_EVENT_V1, 6, expected)?);
+    Ok(())
+}
+
+#[test]
+fn extra_data_is_written(rt: HostRuntime) -> Result<(), Fail> {
+    assert!(rt; is_written(&rt, TWO_ROWS, EventType::WRITE_ROWS_EVENT, 10, TWO_ROWS)?);
+    // A length of extra data below two is read as no extra data, and written as two.
+    let expected = &[1, 0, 0, 0, 0, 0, 1, 0, 2, 0, 1, 1];
+    for len in 0..2 {
+        let bytes = [1, 0, 0, 0, 0, 0, 1, 0, len, 0, 1, 1];
+        assert!(rt; is_written(&rt, &bytes, EventType::WRITE_ROWS_EVENT, 10, expected)?);
+    }
+    Ok(())
+}
+
+/// Whether a copy of an event is equal to it.
+fn is_copied(rt: &HostRuntime, event: &RowsEvent<'_>) -> Result<bool, AllocError> {
+    Ok(event.clone(rt.alloc())? == *event)
+}
+
+#[test]
+fn a_copy_of_an_event(rt: HostRuntime) -> Result<(), Fail> {
+    let event = read(TWO_ROWS, EventType::WRITE_ROWS_EVENT, 10)?;
+    assert!(rt; is_copied(&rt, &event)?);
+    Ok(())
+}
+
+#[test]
+fn an_owned_event(rt: HostRuntime) -> Result<(), Fail> {
+    let owned = read(TWO_ROWS, EventType::WRITE_ROWS_EVENT, 10)?.into_owned(rt.alloc())?;
+    assert!(rt; has_parts(&owned, 1, 2, &TWO_ROWS[12..]));
+    Ok(())
+}
+
+/// Whether a WRITE_ROWS_EVENT of these bytes is refused by this fault.
+fn is_refused(bytes: &[u8], fault: Fault) -> bool {
+    match read(bytes, EventType::WRITE_ROWS_EVENT, 10) {
+        Ok(_) => false,
+        Err(other) => other == fault,
+    }
+}
+
+#[test]
+fn refused_events(rt: HostRuntime) {
+    for len in 0..12 {
+        assert!(rt; is_refused(&TWO_ROWS[..len], Fault::UnexpectedEof), "{len}");
+    }
+    assert!(rt;
+        all(&[
+            is_refused(&[1, 0, 0, 0, 0, 0, 1, 0, 2, 0, 0xfb], Fault::BadLenEnc),
+            is_refused(
+                &[
+                    1, 0, 0, 0, 0, 0, 1, 0, 2, 0, 0xfe, 0xff, 0xff, 0xff, 0xff, 0xff, 0xff, 0xff,
+                    0xff
+                ],
+                Fault::UnexpectedEof
+            ),
+            is_refused(&[1, 0, 0, 0, 0, 0, 1, 0, 5, 0, 1, 1], Fault::UnexpectedEof),
+        ])
+    );
+}
+
+/// The number of a LONG cell.
+fn long_cell(rt: &HostRuntime, unsigned: bool, bytes: &[u8]) -> Result<i64, Fault> {
+    let metadata: &[u8] = &[];
+    let cell: BinlogValue<'_> = ParseBuf(bytes).parse((
+        rt.alloc(),
+        ColumnType::MYSQL_TYPE_LONG,
+        metadata,
+        unsigned,
+        false,
+    ))?;
+    match cell {
+        BinlogValue::Value(Value::Int(number)) => Ok(number),
+        _ => Err(Fault::Unhandled),
+    }
+}
+
+#[test]
+fn cells_of_numbers(rt: HostRuntime) {
+    assert!(rt;
+        all(&[
+            long_cell(&rt, false, &[0xff, 0xff, 0xff, 0xff]) == Ok(-1),
+            long_cell(&rt, true, &[0xff, 0xff, 0xff, 0xff]) == Ok(4294967295),
+            long_cell(&rt, false, &[0xff, 0xff, 0xff]) == Err(Fault::UnexpectedEof),
+        ])
+    );
+}
+
+/// The bytes of a cell of text, with this metadata.
+fn text_cell(rt: &HostRuntime, metadata: &[u8], bytes: &[u8]) -> Result<Vec<u8>, Fault> {
+    let cell: BinlogValue<'_> = ParseBuf(bytes).parse((
+        rt.alloc(),
+        ColumnType::MYSQL_TYPE_VARCHAR,
+        metadata,
+        false,
+        false,
+    ))?;
+    match cell {
+        BinlogValue::Value(Value::Bytes(text)) => Ok(text),
+        _ => Err(Fault::Unhandled),
+    }
+}
+
+#[test]
+fn cells_of_text(rt: HostRuntime) -> Result<(), Fail> {
+    let short = text_cell(&rt, &[10, 0], &[2, 0x61, 0x62, 0x63])?;
+    assert!(rt; short.as_slice() == b"ab".as_slice());
+    let long = text_cell(&rt, &[0, 1], &[2, 0, 0x61, 0x62])?;
+    assert!(rt;
+        all(&[
+            long.as_slice() == b"ab".as_slice(),
+            matches!(text_cell(&rt, &[10], &[]), Err(Fault::MissingMetadata)),
+            matches!(
+                text_cell(&rt, &[10, 0], &[2, 0x61]),
+                Err(Fault::UnexpectedEof)
+            ),
+        ])
+    );
+    Ok(())
+}
+
+/// The table d.t of two columns, LONG and VARCHAR.
+const TWO_COLUMNS: &[u8] = b"\x01\0\0\0\0\0\x01\0\x01d\0\x01t\0\x02\x03\x0f\x02\x0a\0\x02";
+
+/// The pairs of a rows event of this type, whose post-header has this length.
+fn decode(
+    rt: &HostRuntime,
+    table: &[u8],
+    rows: &[u8],
+    event_type: EventType,
+    post_header_len: u8,
+) -> Result<Decoded, Fault> {
     let ctx = RowsEventCtx {
-        event_type: EventType::WRITE_ROWS_EVENT,
-        post_header_len: 10,
+        event_type,
+        post_header_len,
         write_rows_post_header_len: 10,
     };
-    let decoded = decode_pairs(alloc, table, 8, rows, ctx)?;
-    if let Some(fault) = decoded.fault {
-        return Err(fault);
-    }
-    let mut numbers = Vec::new(alloc);
-    for (_, after) in &decoded.pairs {
-        let value = match after {
-            Some(row) => row.as_ref(0),
-            None => None,
-        };
-        numbers.push(match value {
-            Some(BinlogValue::Value(Value::Int(number))) => Some(*number),
-            _ => None,
-        })?;
-    }
-    Ok(numbers)
+    decode_pairs(rt.alloc(), table, 8, rows, ctx)
 }
 
-/// The rows of the README's first example, by the library.
+/// The pairs of a WRITE_ROWS_EVENT.
+fn inserted(rt: &HostRuntime, table: &[u8], rows: &[u8]) -> Result<Decoded, Fault> {
+    decode(rt, table, rows, EventType::WRITE_ROWS_EVENT, 10)
+}
+
+/// Returns whether the value at an index is this number, or NULL if `number` is none.
+fn is_number(row: &BinlogRow, index: usize, number: Option<i64>) -> bool {
+    match row.as_ref(index) {
+        Some(BinlogValue::Value(Value::Int(other))) => number == Some(*other),
+        Some(BinlogValue::Value(Value::NULL)) => number.is_none(),
+        _ => false,
+    }
+}
+
+/// Returns whether the value at an index is this text, or NULL if `text` is none.
+fn is_text(row: &BinlogRow, index: usize, text: Option<&[u8]>) -> bool {
+    match row.as_ref(index) {
+        Some(BinlogValue::Value(Value::Bytes(other))) => text == Some(other.as_slice()),
+        Some(BinlogValue::Value(Value::NULL)) => text.is_none(),
+        _ => false,
+    }
+}
+
+/// Whether the pair is an inserted row of this number and this text.
+fn is_inserted(pair: &RowPair, number: Option<i64>, text: Option<&[u8]>) -> bool {
+    match pair {
+        (None, Some(row)) => row.len() == 2 && is_number(row, 0, number) && is_text(row, 1, text),
+        _ => false,
+    }
+}
+
+/// Whether there are this many pairs, and this fault after them.
+fn ends(decoded: &Result<Decoded, Fault>, pairs: usize, fault: Option<Fault>) -> bool {
+    match decoded {
+        Ok(decoded) => decoded.pairs.len() == pairs && decoded.fault == fault,
+        Err(_) => false,
+    }
+}
+
+/// Whether the run is refused by this fault.
+fn refuses(decoded: &Result<Decoded, Fault>, fault: Fault) -> bool {
+    match decoded {
+        Ok(_) => false,
+        Err(other) => *other == fault,
+    }
+}
+
+/// Whether a column has this type and this name, of the table d.t.
+fn is_column(column: &Column, column_type: ColumnType, name: &[u8]) -> bool {
+    column.column_type() == column_type
+        && column.schema_ref() == b"d".as_slice()
+        && column.table_ref() == b"t".as_slice()
+        && column.org_table_ref() == b"t".as_slice()
+        && column.name_ref() == name
+}
+
+/// Whether the columns are those of d.t.
+fn are_columns(columns: &[Column]) -> bool {
+    match columns {
+        [first, second] => {
+            is_column(first, ColumnType::MYSQL_TYPE_LONG, b"@0")
+                && is_column(second, ColumnType::MYSQL_TYPE_VARCHAR, b"@1")
+        }
+        _ => false,
+    }
+}
+
 #[test]
-fn example(rt: HostRuntime) -> Result<(), Fail> {
-    let table = [
-        1, 0, 0, 0, 0, 0, 1, 0, 1, 0x64, 0, 1, 0x74, 0, 2, 3, 0x0f, 2, 0x0a, 0, 2,
-    ];
-    let rows = [
-        1, 0, 0, 0, 0, 0, 1, 0, 2, 0, 2, 3, 0, 0x2a, 0, 0, 0, 2, 0x61, 0x62, 2, 0xff, 0xff, 0xff,
-        0xff,
-    ];
-    let numbers = first_numbers(rt.alloc(), &table, &rows)?;
-    assert!(rt; numbers.as_slice() == [Some(42), Some(-1)].as_slice());
+fn two_inserted_rows(rt: HostRuntime) -> Result<(), Fail> {
+    let decoded = inserted(&rt, TWO_COLUMNS, TWO_ROWS)?;
+    assert!(rt; decoded.fault.is_none());
+    match decoded.pairs.as_slice() {
+        [first, second] => {
+            assert!(rt;
+                all(&[
+                    is_inserted(first, Some(42), Some(b"ab")),
+                    is_inserted(second, Some(-1), None),
+                ])
+            );
+        }
+        _ => assert!(rt; false),
+    }
     Ok(())
+}
+
+/// Whether the columns of an inserted row are those of d.t, also where they are shared.
+fn has_columns(alloc: Global, pair: &RowPair) -> Result<bool, Fault> {
+    match pair {
+        (None, Some(row)) => {
+            let shared = row.columns(alloc)?;
+            Ok(!row.is_empty() && are_columns(row.columns_ref()) && are_columns(shared.as_slice()))
+        }
+        _ => Ok(false),
+    }
+}
+
+/// Whether the rows after an insert are equal.
+fn are_equal(pair: &RowPair, other: &RowPair) -> bool {
+    match (pair, other) {
+        ((None, Some(row)), (None, Some(other))) => row == other,
+        _ => false,
+    }
+}
+
+#[test]
+fn equal_rows(rt: HostRuntime) -> Result<(), Fail> {
+    let decoded = inserted(&rt, TWO_COLUMNS, TWO_ROWS)?;
+    let again = inserted(&rt, TWO_COLUMNS, TWO_ROWS)?;
+    match (decoded.pairs.as_slice(), again.pairs.as_slice()) {
+        ([first, second], [other, _]) => {
+            assert!(rt; all(&[are_equal(first, other), !are_equal(second, other)]));
+        }
+        _ => assert!(rt; false),
+    }
+    Ok(())
+}
+
+#[test]
+fn columns_of_rows(rt: HostRuntime) -> Result<(), Fail> {
+    let decoded = inserted(&rt, TWO_COLUMNS, TWO_ROWS)?;
+    for pair in &decoded.pairs {
+        assert!(rt; has_columns(rt.alloc(), pair)?);
+    }
+    let none: RcSlice<Column> = RcSlice::from_vec(Vec::new(rt.alloc()))?;
+    assert!(rt; BinlogRow::new(Vec::new(rt.alloc()), none).is_empty());
+    pairs_are_unambiguous();
+    Ok(())
+}
+
+/// How many pairs the first `len` bytes of `TWO_ROWS` have, and the fault after them. There are at
+/// least the 12 bytes of the event before its rows data.
+fn pairs_of_prefix(len: usize) -> (usize, Option<Fault>) {
+    match len {
+        12 => (0, None),
+        13..=19 => (0, Some(Fault::UnexpectedEof)),
+        20 => (1, None),
+        21..=24 => (1, Some(Fault::UnexpectedEof)),
+        _ => (2, None),
+    }
+}
+
+#[test]
+fn cut_runs(rt: HostRuntime) {
+    for len in 0..=25 {
+        let decoded = inserted(&rt, TWO_COLUMNS, &TWO_ROWS[..len]);
+        if len < 12 {
+            assert!(rt; refuses(&decoded, Fault::UnexpectedEof), "{len}");
+        } else {
+            let (pairs, fault) = pairs_of_prefix(len);
+            assert!(rt; ends(&decoded, pairs, fault), "{len}");
+        }
+    }
+}
+
+#[test]
+fn four_thousand_pairs(rt: HostRuntime) -> Result<(), Fail> {
+    let mut rows = TWO_ROWS[..12].to_vec(rt.alloc())?;
+    for _ in 0..2000 {
+        rows.extend_from_slice(&TWO_ROWS[12..])?;
+    }
+    assert!(rt; ends(&inserted(&rt, TWO_COLUMNS, &rows), 4000, None));
+    Ok(())
+}
+
+/// A row of one column with this value.
+fn row_of(alloc: Global, value: Option<Value>) -> Result<BinlogRow, Fault> {
+    let column = Column::new(ColumnType::MYSQL_TYPE_LONG);
+    let columns = RcSlice::from_vec(vec![in alloc; column]?)?;
+    let value = match value {
+        Some(value) => Some(BinlogValue::Value(value)),
+        None => None,
+    };
+    let values = vec![in alloc; value]?;
+    Ok(BinlogRow::new(values, columns))
+}
+
+#[test]
+fn nulls_are_values(rt: HostRuntime) -> Result<(), Fail> {
+    let null = row_of(rt.alloc(), Some(Value::NULL))?;
+    let taken = row_of(rt.alloc(), None)?;
+    assert!(rt;
+        all(&[
+            matches!(null.as_ref(0), Some(BinlogValue::Value(Value::NULL))),
+            taken.as_ref(0).is_none(),
+            null.as_ref(1).is_none(),
+        ])
+    );
+    assert!(rt; null == row_of(rt.alloc(), Some(Value::NULL))?);
+    assert!(rt; null != taken);
+    let null_text = format!(in rt.alloc(); "{null:?}")?;
+    let taken_text = format!(in rt.alloc(); "{taken:?}")?;
+    assert!(rt; null_text.as_str() != taken_text.as_str());
+    Ok(())
+}
+
+/// Whether the only item of a WRITE_ROWS_EVENT is this fault, and a further `next` gives nothing.
+fn is_faulty(rt: &HostRuntime, table: &[u8], rows: &[u8], fault: Fault) -> Result<bool, Fault> {
+    let decoded = inserted(rt, table, rows);
+    let table: TableMapEvent<'_> = ParseBuf(table).parse(8)?;
+    let event = read(rows, EventType::WRITE_ROWS_EVENT, 10)?;
+    let mut items = event.rows(rt.alloc(), &table);
+    let is_first = matches!(items.next(), Some(Err(other)) if other == fault);
+    Ok(is_first && items.next().is_none() && ends(&decoded, 0, Some(fault)))
+}
+
+#[test]
+fn faults_of_pairs(rt: HostRuntime) -> Result<(), Fail> {
+    // No column is in the image, so a pair has no bytes.
+    let empty = &[1, 0, 0, 0, 0, 0, 1, 0, 2, 0, 2, 0, 5];
+    assert!(rt; is_faulty(&rt, TWO_COLUMNS, empty, Fault::EmptyPair)?);
+    // Nor in either image of an update.
+    let update = &[1, 0, 0, 0, 0, 0, 1, 0, 2, 0, 2, 0, 0, 5];
+    let decoded = decode(&rt, TWO_COLUMNS, update, EventType::UPDATE_ROWS_EVENT, 10);
+    assert!(rt; ends(&decoded, 0, Some(Fault::EmptyPair)));
+    // The event has three columns.
+    let three = [1, 0, 0, 0, 0, 0, 1, 0, 2, 0, 3, 7, 7];
+    assert!(rt; is_faulty(&rt, TWO_COLUMNS, &three, Fault::NoColumnType)?);
+    // VARCHAR without metadata.
+    let bare = &[
+        1, 0, 0, 0, 0, 0, 1, 0, 1, 0x64, 0, 1, 0x74, 0, 1, 0x0f, 0, 1,
+    ];
+    let text = &[1, 0, 0, 0, 0, 0, 1, 0, 2, 0, 1, 1, 0, 2, 0x61, 0x62];
+    assert!(rt; is_faulty(&rt, bare, text, Fault::MissingMetadata)?);
+    // LONG, LONG, LONG and an unknown type: the cell of the second is cut, or all three are whole.
+    let unknown = &[
+        1, 0, 0, 0, 0, 0, 1, 0, 1, 0x64, 0, 1, 0x74, 0, 4, 3, 3, 3, 244, 0, 0,
+    ];
+    let cut = &[1, 0, 0, 0, 0, 0, 1, 0, 2, 0, 4, 15, 0, 1, 0, 0, 0, 2];
+    assert!(rt; is_faulty(&rt, unknown, cut, Fault::UnexpectedEof)?);
+    let whole = &[
+        1, 0, 0, 0, 0, 0, 1, 0, 2, 0, 4, 15, 0, 1, 0, 0, 0, 2, 0, 0, 0, 3, 0, 0, 0,
+    ];
+    assert!(rt; is_faulty(&rt, unknown, whole, Fault::UnknownColumnType(244))?);
+    Ok(())
+}
+
+#[test]
+fn first_version_pairs(rt: HostRuntime) -> Result<(), Fail> {
+    let bytes = &[1, 0, 0, 0, 1, 0, 2, 3, 3];
+    let decoded = decode(&rt, TWO_COLUMNS, bytes, EventType::WRITE_ROWS_EVENT_V1, 6)?;
+    assert!(rt; decoded.fault.is_none());
+    match decoded.pairs.as_slice() {
+        [pair] => assert!(rt; is_inserted(pair, None, None)),
+        _ => assert!(rt; false),
+    }
+    Ok(())
+}
+
+#[test]
+fn refused_runs(rt: HostRuntime) {
+    let count = &[1, 0, 0, 0, 0, 0, 1, 0, 2, 0, 0xfb];
+    assert!(rt; refuses(&inserted(&rt, TWO_COLUMNS, count), Fault::BadLenEnc));
+    let long = &[
+        1, 0, 0, 0, 0, 0, 1, 0, 2, 0, 0xfe, 0xff, 0xff, 0xff, 0xff, 0xff, 0xff, 0xff, 0xff,
+    ];
+    assert!(rt;
+        all(&[
+            refuses(&inserted(&rt, TWO_COLUMNS, long), Fault::UnexpectedEof),
+            // Both events are refused: the fault is that of the table map event.
+            refuses(
+                &inserted(&rt, &TWO_COLUMNS[..20], count),
+                Fault::UnexpectedEof
+            ),
+        ])
+    );
+}
+
+/// What four calls of `next` give: a pair, a fault, or nothing.
+fn walk(rt: &HostRuntime, table: &[u8], bytes: &[u8]) -> Result<[char; 4], Fault> {
+    let table: TableMapEvent<'_> = ParseBuf(table).parse(8)?;
+    let event = read(bytes, EventType::WRITE_ROWS_EVENT, 10)?;
+    let mut rows = event.rows(rt.alloc(), &table);
+    let mut items = ['?'; 4];
+    for item in &mut items {
+        *item = match rows.next() {
+            Some(Ok(_)) => 'p',
+            Some(Err(_)) => 'f',
+            None => '-',
+        };
+    }
+    Ok(items)
+}
+
+#[test]
+fn pairs_one_by_one(rt: HostRuntime) {
+    let cut = &TWO_ROWS[..24];
+    assert!(rt;
+        all(&[
+            walk(&rt, TWO_COLUMNS, TWO_ROWS) == Ok(['p', 'p', '-', '-']),
+            walk(&rt, TWO_COLUMNS, cut) == Ok(['p', 'f', '-', '-']),
+        ])
+    );
 }

@@ -1,13 +1,13 @@
 //! Tests of JSON cells, diffs, and partial updates.
 
 use super::{TWO_COLUMNS, all, decode, ends};
-use crate::row::{BinlogRow, BinlogRowToRowError};
-use crate::value::{BinlogValue, BinlogValueToValueError};
 use binlog_base::below::{ColumnType, ParseBuf, Value as PlainValue};
 use binlog_base::fault::Fault;
 use binlog_consts::consts::EventType;
 use binlog_values::jsonb::Value;
 use binlog_values::jsondiff::{JsonDiff, JsonDiffOperation, UnknownJsonDiffOperation};
+use mysql_binlog_rows::row::{BinlogRow, BinlogRowToRowError};
+use mysql_binlog_rows::value::{BinlogValue, BinlogValueToValueError};
 use std::test::Fail;
 
 /// The operation REPLACE, the path `$.a`, and the number 7.

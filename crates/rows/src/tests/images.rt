@@ -3,15 +3,15 @@
 use super::{
     TWO_COLUMNS, TWO_ROWS, all, decode, ends, inserted, is_faulty, is_number, is_text, read, row_of,
 };
-use crate::row::{
-    BinlogRow, BinlogRowToRowError, BinlogRowValueOptions, UnknownBinlogRowValueOptions,
-};
-use crate::rows_event::{Decoded, RowPair, RowsEvent, RowsEventRows};
-use crate::value::BinlogValue;
 use binlog_base::below::{Column, ColumnType, ParseBuf, Value};
 use binlog_base::fault::Fault;
 use binlog_consts::consts::{BinlogVersion, EventType, Flags};
 use binlog_table::table_map::TableMapEvent;
+use mysql_binlog_rows::row::{
+    BinlogRow, BinlogRowToRowError, BinlogRowValueOptions, UnknownBinlogRowValueOptions,
+};
+use mysql_binlog_rows::rows_event::{Decoded, RowPair, RowsEvent, RowsEventRows};
+use mysql_binlog_rows::value::BinlogValue;
 use std::alloc::{AllocError, Global};
 use std::rc::RcSlice;
 use std::test::Fail;

@@ -5,13 +5,13 @@ use binlog_base::below::{
     BareBytes, BeI16, BeI24, BeI32, BeU16, BeU24, BeU32, BeU40, BeU48, BytesRepr, Column,
     ColumnFlags, ColumnType, Const, EofBytes, Failed, GeometryType, I8, IntRepr, LeI16, LeI24,
     LeI32, LeI48, LeI64, LeU16, LeU24, LeU32, LeU48, LeU64, LenEnc, MyDeserialize, MySerialize,
-    ParseBuf, RawBytes, RawFlags, RawInt, Skip, Source, U8, U8Bytes, UnknownColumnType,
+    ParseBuf, RawBytes, RawFlags, RawInt, Row, Skip, Source, U8, U8Bytes, UnknownColumnType,
     UnknownGeometryType, Value, VarLen, new_row_raw,
 };
 use binlog_base::bits::{BitOrder, BitView, bitmap_len};
 use binlog_base::fault::{Fault, FaultKind, JsonbError};
 use binlog_base::laws;
-use std::alloc::Global;
+use std::alloc::{AllocError, Global};
 use std::borrow::CowSlice;
 use std::rc::RcSlice;
 use std::test::Fail;
@@ -475,38 +475,50 @@ fn equal_bits(rt: HostRuntime) -> Result<(), Fail> {
     Ok(())
 }
 
+/// A column with a key, and names in each part.
+fn key_column(alloc: Global) -> Result<Column, AllocError> {
+    Ok(
+        Column::new(ColumnType::MYSQL_TYPE_LONG)
+            .with_schema(alloc, b"d")?
+            .with_table(alloc, b"t")?
+            .with_org_table(alloc, b"o")?
+            .with_name(alloc, b"@0")?
+            .with_flags(ColumnFlags::PRI_KEY_FLAG)
+            .with_character_set(45),
+    )
+}
+
+fn is_key_column(column: &Column) -> bool {
+    all(&[
+        column.column_type() == ColumnType::MYSQL_TYPE_LONG,
+        column.schema_ref() == b"d".as_slice(),
+        column.table_ref() == b"t".as_slice(),
+        column.org_table_ref() == b"o".as_slice(),
+        column.name_ref() == b"@0".as_slice(),
+        column.flags() == ColumnFlags::PRI_KEY_FLAG,
+        column.character_set() == 45,
+    ])
+}
+
+/// Whether the row has one column, the value -1, and one that was taken.
+fn has_one_value(row: &Row) -> bool {
+    all(&[
+        row.len() == 2 && !row.is_empty(),
+        row.columns_ref().len() == 1,
+        matches!(row.as_ref(0), Some(Value::Int(-1))),
+        row.as_ref(1).is_none(),
+        row.as_ref(2).is_none(),
+    ])
+}
+
 #[test]
 fn columns_and_rows(rt: HostRuntime) -> Result<(), Fail> {
     let alloc: Global = rt.alloc();
-    let column = Column::new(ColumnType::MYSQL_TYPE_LONG)
-        .with_schema(alloc, b"d")?
-        .with_table(alloc, b"t")?
-        .with_org_table(alloc, b"o")?
-        .with_name(alloc, b"@0")?
-        .with_flags(ColumnFlags::PRI_KEY_FLAG)
-        .with_character_set(45);
-    assert!(rt;
-        all(&[
-            column.column_type() == ColumnType::MYSQL_TYPE_LONG,
-            column.schema_ref() == b"d".as_slice(),
-            column.table_ref() == b"t".as_slice(),
-            column.org_table_ref() == b"o".as_slice(),
-            column.name_ref() == b"@0".as_slice(),
-            column.flags() == ColumnFlags::PRI_KEY_FLAG,
-            column.character_set() == 45,
-        ])
-    );
+    let column = key_column(alloc)?;
+    assert!(rt; is_key_column(&column));
     let columns = RcSlice::from_vec(vec![in alloc; column]?)?;
     let row = new_row_raw(vec![in alloc; Some(Value::Int(-1)), None]?, columns);
-    assert!(rt;
-        all(&[
-            row.len() == 2 && !row.is_empty(),
-            row.columns_ref().len() == 1,
-            matches!(row.as_ref(0), Some(Value::Int(-1))),
-            row.as_ref(1).is_none(),
-            row.as_ref(2).is_none(),
-        ])
-    );
+    assert!(rt; has_one_value(&row));
     Ok(())
 }
 

@@ -1,10 +1,10 @@
 //! Tests of single cells.
 
-use super::{BinlogValue, BinlogValueToValueError, signed_old_time};
-use crate::laws::old_times_have_signs;
-use crate::tests::all;
+use super::all;
 use binlog_base::below::{ColumnType, ParseBuf, Value};
 use binlog_base::fault::Fault;
+use mysql_binlog_rows::laws::old_times_have_signs;
+use mysql_binlog_rows::value::{BinlogValue, BinlogValueToValueError, signed_old_time};
 use std::test::Fail;
 
 /// Reads a cell that takes all of the bytes.

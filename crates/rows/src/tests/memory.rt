@@ -6,9 +6,6 @@
 
 use super::jsonb::{has_element, has_key_a};
 use super::{TWO_COLUMNS, TWO_ROWS, all, decode, images, partial, read, trees};
-use crate::row::BinlogRow;
-use crate::rows_event::{RowPair, RowsEvent, RowsEventRows};
-use crate::value::BinlogValue;
 use binlog_base::below::{Column, ColumnType, EofBytes, MySerialize, ParseBuf, RawBytes, Value};
 use binlog_base::fault::Fault;
 use binlog_base::misc::my_time_packed_from_binary;
@@ -20,6 +17,9 @@ use binlog_values::jsonb::{
     JsonDom, JsonScalar, JsonbString, ObjectKey, OpaqueValue, Value as Json,
 };
 use binlog_values::jsondiff::JsonDiff;
+use mysql_binlog_rows::row::BinlogRow;
+use mysql_binlog_rows::rows_event::{RowPair, RowsEvent, RowsEventRows};
+use mysql_binlog_rows::value::BinlogValue;
 use std::alloc::{AllocError, Global};
 use std::borrow::{CowSlice, CowStr};
 use std::cmp::Ordering;

@@ -1,14 +1,14 @@
 //! Walks an event without a list of its pairs, as the example in README.md does.
 
-use crate::row::BinlogRow;
-use crate::rows_event::{RowsEvent, RowsEventCtx, RowsEventRows};
-use crate::value::BinlogValue;
 use binlog_base::below::{ColumnFlags, ParseBuf};
 use binlog_base::fault::Fault;
 use binlog_consts::consts::EventType;
 use binlog_table::table_map::TableMapEvent;
 use binlog_values::jsonb::{JsonContainer, JsonDom, JsonScalar};
 use bitflags::Flags;
+use mysql_binlog_rows::row::BinlogRow;
+use mysql_binlog_rows::rows_event::{RowsEvent, RowsEventCtx, RowsEventRows};
+use mysql_binlog_rows::value::BinlogValue;
 use std::alloc::Global;
 use std::test::Fail;
 

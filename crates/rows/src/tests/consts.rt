@@ -26,6 +26,15 @@ where
     }
 }
 
+/// Whether each value of the table has the number that the table says.
+fn are_numbered<N, T>(table: &[(N, T)]) -> bool
+where
+    N: Copy + PartialEq + From<T>,
+    T: Copy,
+{
+    table.iter().all(|row| N::from(row.1) == row.0)
+}
+
 /// The table of event types in MySQL's documentation.
 const EVENT_TYPES: [(u8, EventType); 42] = [
     (0x00, EventType::UNKNOWN_EVENT),
@@ -114,58 +123,6 @@ const OPTIONAL_METADATA_FIELD_TYPES: [(u8, OptionalMetadataFieldType); 13] = [
     (13, OptionalMetadataFieldType::VECTOR_DIMENSIONALITY),
 ];
 
-#[test]
-fn event_types_by_number(rt: HostRuntime) {
-    for number in 0..=255u8 {
-        assert!(rt;
-            follows(&EVENT_TYPES, number, UnknownEventType(number)),
-            "{number}"
-        );
-        assert!(rt; u8::from(UnknownEventType(number)) == number);
-    }
-    for (number, event_type) in EVENT_TYPES {
-        assert!(rt; event_type as u8 == number);
-    }
-    assert!(rt;
-        all(&[
-            EventType::try_from(0x29) == Err(UnknownEventType(0x29)),
-            EventType::try_from(0x2a) == Ok(EventType::GTID_TAGGED_LOG_EVENT),
-            EventType::ENUM_END_EVENT as u8 == 0x2b,
-        ])
-    );
-}
-
-#[test]
-fn keys_and_fields_by_number(rt: HostRuntime) {
-    for number in 0..=255u8 {
-        assert!(rt;
-            follows(&STATUS_VAR_KEYS, number, UnknownStatusVarKey(number)),
-            "{number}"
-        );
-        assert!(rt;
-            follows(
-                &OPTIONAL_METADATA_FIELD_TYPES,
-                number,
-                UnknownOptionalMetadataFieldType(number),
-            ),
-            "{number}"
-        );
-        assert!(rt; u8::from(UnknownOptionalMetadataFieldType(number)) == number);
-    }
-    for (number, key) in STATUS_VAR_KEYS {
-        assert!(rt; key as u8 == number);
-    }
-    for (number, field) in OPTIONAL_METADATA_FIELD_TYPES {
-        assert!(rt; field as u8 == number);
-    }
-    assert!(rt;
-        all(&[
-            StatusVarKey::try_from(20) == Ok(StatusVarKey::DefaultTableEncryption),
-            StatusVarKey::try_from(21) == Err(UnknownStatusVarKey(21)),
-        ])
-    );
-}
-
 const CHECKSUM_ALGS: [(u8, BinlogChecksumAlg); 2] = [
     (0, BinlogChecksumAlg::BINLOG_CHECKSUM_ALG_OFF),
     (1, BinlogChecksumAlg::BINLOG_CHECKSUM_ALG_CRC32),
@@ -183,44 +140,6 @@ const INTVAR_EVENT_TYPES: [(u8, IntvarEventType); 3] = [
     (2, IntvarEventType::INSERT_ID_EVENT),
 ];
 
-#[test]
-fn small_enums_by_number(rt: HostRuntime) {
-    for number in 0..=255u8 {
-        assert!(rt;
-            follows(&CHECKSUM_ALGS, number, UnknownChecksumAlg(number)),
-            "{number}"
-        );
-        assert!(rt;
-            follows(
-                &DUPLICATE_HANDLINGS,
-                number,
-                UnknownDuplicateHandling(number),
-            ),
-            "{number}"
-        );
-        assert!(rt;
-            follows(&INTVAR_EVENT_TYPES, number, UnknownIntvarEventType(number)),
-            "{number}"
-        );
-        assert!(rt;
-            all(&[
-                u8::from(UnknownChecksumAlg(number)) == number,
-                u8::from(UnknownDuplicateHandling(number)) == number,
-                u8::from(UnknownIntvarEventType(number)) == number,
-            ])
-        );
-    }
-    for (number, algorithm) in CHECKSUM_ALGS {
-        assert!(rt; algorithm as u8 == number);
-    }
-    for (number, handling) in DUPLICATE_HANDLINGS {
-        assert!(rt; u8::from(handling) == number);
-    }
-    for (number, kind) in INTVAR_EVENT_TYPES {
-        assert!(rt; u8::from(kind) == number);
-    }
-}
-
 const BINLOG_VERSIONS: [(u16, BinlogVersion); 4] = [
     (1, BinlogVersion::Version1),
     (2, BinlogVersion::Version2),
@@ -232,41 +151,6 @@ const INCIDENT_TYPES: [(u16, IncidentType); 2] = [
     (0, IncidentType::INCIDENT_NONE),
     (1, IncidentType::INCIDENT_LOST_EVENTS),
 ];
-
-#[test]
-fn versions_and_incidents_by_number(rt: HostRuntime) {
-    for number in (0..=300u16).chain([u16::MAX]) {
-        assert!(rt;
-            follows(&BINLOG_VERSIONS, number, UnknownBinlogVersion(number)),
-            "{number}"
-        );
-        assert!(rt;
-            follows(&INCIDENT_TYPES, number, UnknownIncidentType(number)),
-            "{number}"
-        );
-        assert!(rt;
-            all(&[
-                u16::from(UnknownBinlogVersion(number)) == number,
-                u16::from(UnknownIncidentType(number)) == number,
-            ])
-        );
-    }
-    for (number, version) in BINLOG_VERSIONS {
-        assert!(rt; u16::from(version) == number);
-        for (other, other_version) in BINLOG_VERSIONS {
-            assert!(rt;
-                all(&[
-                    version.cmp(&other_version) == number.cmp(&other),
-                    (version < other_version) == (number < other),
-                ])
-            );
-        }
-    }
-    for (number, incident) in INCIDENT_TYPES {
-        assert!(rt; u16::from(incident) == number);
-    }
-    assert!(rt; BinlogVersion::try_from(0) == Err(UnknownBinlogVersion(0)));
-}
 
 const PAYLOAD_FIELDS: [(u64, TransactionPayloadFields); 4] = [
     (0, TransactionPayloadFields::OTW_PAYLOAD_HEADER_END_MARK),
@@ -287,14 +171,39 @@ const PAYLOAD_COMPRESSIONS: [(u64, TransactionPayloadCompressionType); 2] = [
 ];
 
 #[test]
-fn payloads_by_number(rt: HostRuntime) {
+fn numbers_of_a_byte(rt: HostRuntime) {
+    for number in 0..=255u8 {
+        assert!(rt;
+            all(&[
+                follows(&EVENT_TYPES, number, UnknownEventType(number)),
+                follows(&STATUS_VAR_KEYS, number, UnknownStatusVarKey(number)),
+                follows(
+                    &OPTIONAL_METADATA_FIELD_TYPES,
+                    number,
+                    UnknownOptionalMetadataFieldType(number),
+                ),
+                follows(&CHECKSUM_ALGS, number, UnknownChecksumAlg(number)),
+                follows(
+                    &DUPLICATE_HANDLINGS,
+                    number,
+                    UnknownDuplicateHandling(number),
+                ),
+                follows(&INTVAR_EVENT_TYPES, number, UnknownIntvarEventType(number)),
+            ])
+        );
+    }
+}
+
+#[test]
+fn numbers_of_payloads(rt: HostRuntime) {
     for number in (0..=300u64).chain([u64::MAX]) {
         let unknown_field = UnknownTransactionPayloadFields(number);
         let unknown_compression = UnknownTransactionPayloadCompressionType(number);
-        assert!(rt; follows(&PAYLOAD_FIELDS, number, unknown_field), "{number}");
         assert!(rt;
-            follows(&PAYLOAD_COMPRESSIONS, number, unknown_compression),
-            "{number}"
+            all(&[
+                follows(&PAYLOAD_FIELDS, number, unknown_field),
+                follows(&PAYLOAD_COMPRESSIONS, number, unknown_compression),
+            ])
         );
     }
     for byte in 0..=255u8 {
@@ -308,24 +217,45 @@ fn payloads_by_number(rt: HostRuntime) {
             ])
         );
     }
-    for (number, field) in PAYLOAD_FIELDS {
+}
+
+#[test]
+fn versions_and_incidents(rt: HostRuntime) {
+    for number in (0..=300u16).chain([u16::MAX]) {
         assert!(rt;
             all(&[
-                u64::from(field) == number,
-                u64::from(u8::from(field)) == number,
+                follows(&BINLOG_VERSIONS, number, UnknownBinlogVersion(number)),
+                follows(&INCIDENT_TYPES, number, UnknownIncidentType(number)),
             ])
         );
     }
-    for (number, compression) in PAYLOAD_COMPRESSIONS {
-        assert!(rt; compression as u64 == number);
-    }
+}
+
+#[test]
+fn refused_numbers(rt: HostRuntime) {
     assert!(rt;
         all(&[
+            EventType::try_from(0x29) == Err(UnknownEventType(0x29)),
+            EventType::try_from(0x2a) == Ok(EventType::GTID_TAGGED_LOG_EVENT),
+            StatusVarKey::try_from(20) == Ok(StatusVarKey::DefaultTableEncryption),
+            StatusVarKey::try_from(21) == Err(UnknownStatusVarKey(21)),
+            BinlogVersion::try_from(0) == Err(UnknownBinlogVersion(0)),
             TransactionPayloadFields::try_from(256u64) == Err(UnknownTransactionPayloadFields(256)),
             TransactionPayloadCompressionType::try_from(255u8)
                 == Ok(TransactionPayloadCompressionType::NONE),
             TransactionPayloadCompressionType::try_from(1u8)
                 == Err(UnknownTransactionPayloadCompressionType(1)),
+        ])
+    );
+    assert!(rt;
+        all(&[
+            u8::from(UnknownEventType(0x29)) == 0x29,
+            u8::from(UnknownOptionalMetadataFieldType(14)) == 14,
+            u8::from(UnknownChecksumAlg(2)) == 2,
+            u8::from(UnknownDuplicateHandling(3)) == 3,
+            u8::from(UnknownIntvarEventType(3)) == 3,
+            u16::from(UnknownBinlogVersion(300)) == 300,
+            u16::from(UnknownIncidentType(300)) == 300,
         ])
     );
 }
@@ -468,12 +398,26 @@ fn flags_of_one_bit(rt: HostRuntime) {
 fn numbers_of_variants(rt: HostRuntime) {
     assert!(rt;
         all(&[
-            u8::from(EventType::WRITE_ROWS_EVENT) == 0x1e,
+            are_numbered(&EVENT_TYPES),
+            are_numbered(&STATUS_VAR_KEYS),
+            are_numbered(&OPTIONAL_METADATA_FIELD_TYPES),
+            are_numbered(&CHECKSUM_ALGS),
+            are_numbered(&DUPLICATE_HANDLINGS),
+            are_numbered(&INTVAR_EVENT_TYPES),
+            are_numbered(&BINLOG_VERSIONS),
+            are_numbered(&INCIDENT_TYPES),
+            are_numbered(&PAYLOAD_FIELDS),
+        ])
+    );
+    assert!(rt;
+        all(&[
             u8::from(EventType::ENUM_END_EVENT) == 0x2b,
-            u8::from(BinlogChecksumAlg::BINLOG_CHECKSUM_ALG_CRC32) == 1,
-            u8::from(StatusVarKey::DefaultTableEncryption) == 20,
-            u8::from(OptionalMetadataFieldType::VECTOR_DIMENSIONALITY) == 13,
+            EventType::WRITE_ROWS_EVENT as u8 == 0x1e,
+            u8::from(TransactionPayloadFields::OTW_PAYLOAD_UNCOMPRESSED_SIZE_FIELD) == 3,
+            u8::from(TransactionPayloadCompressionType::ZSTD) == 0,
             u8::from(TransactionPayloadCompressionType::NONE) == 255,
+            BinlogVersion::Version1 < BinlogVersion::Version2,
+            BinlogVersion::Version4 > BinlogVersion::Version3,
         ])
     );
 }

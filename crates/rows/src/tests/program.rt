@@ -1,0 +1,574 @@
+//! Tests of the program's output and exit status.
+
+use crate::run::{fail, run};
+use crate::words::WordsError;
+use binlog_base::below::Value;
+use binlog_base::fault::Fault;
+use binlog_consts::consts::EventType;
+use mysql_binlog_rows::rows_event::{RowsEventCtx, decode_pairs};
+use mysql_binlog_rows::value::BinlogValue;
+use std::alloc::{AllocError, Global};
+use std::io::Write;
+use std::test::Fail;
+use std::{io, str};
+
+const USAGE: &str = "usage: rows MLEN TYPE PLEN WLEN MAPHEX ROWSHEX\n";
+
+/// The table d.t of an INT and a VARCHAR column.
+const TABLE: &str = "010000000000010001640001740002030F020A0002";
+
+/// Whether the program, on these words, ends with the status and writes these texts.
+fn prints(
+    alloc: Global,
+    all: &[&str],
+    status: u8,
+    text: &str,
+    usage: &str,
+) -> Result<bool, AllocError> {
+    let mut words = Vec::new(alloc);
+    for word in all {
+        words.push(String::from_str(alloc, word)?)?;
+    }
+    let mut out = Vec::new(alloc);
+    let mut err = Vec::new(alloc);
+    let answer = run(alloc, &words, &mut out, &mut err);
+    Ok(answer == status && out.as_slice() == text.as_bytes() && err.as_slice() == usage.as_bytes())
+}
+
+/// Returns whether the program, on a WRITE_ROWS_EVENT over the table d.t, ends with the status and
+/// writes the text.
+fn prints_rows(alloc: Global, rows: &str, status: u8, text: &str) -> Result<bool, AllocError> {
+    prints(
+        alloc,
+        &["8", "1E", "10", "10", TABLE, rows],
+        status,
+        text,
+        "",
+    )
+}
+
+#[test]
+fn rows_of_a_table(rt: HostRuntime) -> Result<(), Fail> {
+    let cases = [
+        (
+            "010000000000010002000203002A00000002616202FFFFFFFF",
+            0,
+            "- -> {@0=42, @1=x6162}\n- -> {@0=-1, @1=NULL}\n",
+        ),
+        // Digits in either case, and a text of no bytes.
+        (
+            "010000000000010002000203002a0000000002FfffffFF",
+            0,
+            "- -> {@0=42, @1=x}\n- -> {@0=-1, @1=NULL}\n",
+        ),
+        ("010000000000010002000203", 0, ""),
+        // Only the second column is in the image.
+        ("01000000000001000200020200026162", 0, "- -> {@1=x6162}\n"),
+        // The last byte is cut.
+        (
+            "010000000000010002000203002A00000002616202FFFFFF",
+            1,
+            "- -> {@0=42, @1=x6162}\nfault UnexpectedEof\n",
+        ),
+        ("0100000000000100020000", 0, ""),
+        ("010000000000010002000005", 1, "fault EmptyPair\n"),
+        ("0100000000000100020003070700", 1, "fault NoColumnType\n"),
+        ("01000000000001000200FB", 1, "fault BadLenEnc\n"),
+        ("", 1, "fault UnexpectedEof\n"),
+    ];
+    for (rows, status, text) in cases {
+        assert!(rt; prints_rows(rt.alloc(), rows, status, text)?, "{rows}");
+    }
+    Ok(())
+}
+
+/// The digits of two inserted rows.
+const INSERTED: &[u8] = b"010000000000010002000203002A00000002616202FFFFFFFF";
+
+/// The status for the first `len` bytes of `INSERTED`, and what is printed.
+fn printed(len: usize) -> (u8, &'static str) {
+    match len {
+        12 => (0, ""),
+        0..=19 => (1, "fault UnexpectedEof\n"),
+        20 => (0, "- -> {@0=42, @1=x6162}\n"),
+        21..=24 => (1, "- -> {@0=42, @1=x6162}\nfault UnexpectedEof\n"),
+        _ => (0, "- -> {@0=42, @1=x6162}\n- -> {@0=-1, @1=NULL}\n"),
+    }
+}
+
+#[test]
+fn cut_events(rt: HostRuntime) -> Result<(), Fail> {
+    for len in 0..=25 {
+        let (status, text) = printed(len);
+        let rows = str::from_utf8(&INSERTED[..2 * len])?;
+        assert!(rt; prints_rows(rt.alloc(), rows, status, text)?, "{len}");
+    }
+    Ok(())
+}
+
+#[test]
+fn described_columns(rt: HostRuntime) -> Result<(), Fail> {
+    // A sign bit, two names, a key column, and a default character set.
+    let table = "010000000000010001640001740002030F020A0002010180040401610162080100020121";
+    let inserted = "010000000000010002000203002A00000002616202FFFFFFFF";
+    let text = "- -> {a=42, b=x6162}\n- -> {a=4294967295, b=NULL}\n";
+    let words = ["8", "1E", "10", "10", table, inserted];
+    assert!(rt; prints(rt.alloc(), &words, 0, text, "")?);
+    // An update of column a to column b.
+    let updated = "01000000000001000200020102000700000001";
+    let words = ["8", "1F", "10", "10", table, updated];
+    assert!(rt; prints(rt.alloc(), &words, 0, "{a=7} -> {b=NULL}\n", "")?);
+    Ok(())
+}
+
+#[test]
+fn other_tables(rt: HostRuntime) -> Result<(), Fail> {
+    let rows = "010000000000010002000203002A0000000261620200000000";
+    let cases = [
+        // Two deleted rows.
+        (
+            "20",
+            TABLE,
+            0,
+            "{@0=42, @1=x6162} -> -\n{@0=0, @1=NULL} -> -\n",
+        ),
+        // VARCHAR without metadata, an unknown type, and a STRING column whose metadata names
+        // another type.
+        (
+            "1E",
+            "010000000000010001640001740002030F0002",
+            1,
+            "fault MissingMetadata\n",
+        ),
+        (
+            "1E",
+            "01000000000001000164000174000203F40002",
+            1,
+            "fault UnknownColumnType(244)\n",
+        ),
+        (
+            "1E",
+            "01000000000001000164000174000203FE02110002",
+            1,
+            "fault UnexpectedColumnType(49)\n",
+        ),
+        ("1E", "", 1, "fault UnexpectedEof\n"),
+    ];
+    for (event, table, status, text) in cases {
+        let words = ["8", event, "10", "10", table, rows];
+        assert!(rt; prints(rt.alloc(), &words, status, text, "")?, "{table}");
+    }
+    // The first version of the event, in lower case, with post-header lengths of 6.
+    let words = [
+        "6",
+        "17",
+        "6",
+        "010",
+        "0100000001000164000174000103 0001",
+        "01000000010001010002000000",
+    ];
+    assert!(rt; prints(rt.alloc(), &words, 2, "", USAGE)?);
+    let words = [
+        "6",
+        "17",
+        "6",
+        "010",
+        "01000000010001640001740001030001",
+        "0100000001000101000200 0000",
+    ];
+    assert!(rt; prints(rt.alloc(), &words, 2, "", USAGE)?);
+    let words = [
+        "6",
+        "17",
+        "6",
+        "010",
+        "01000000010001640001740001030001",
+        "01000000010001010002000000",
+    ];
+    assert!(rt; prints(rt.alloc(), &words, 0, "- -> {@0=2}\n", "")?);
+    Ok(())
+}
+
+/// Inserts that a MariaDB 10.11 server wrote, and the rows that its tables held afterwards.
+#[test]
+fn real_inserts(rt: HostRuntime) -> Result<(), Fail> {
+    let cases = [
+        (
+            "e6000000000001000464625f42000278360001030001",
+            "e6000000000001000101fe01000000",
+            "- -> {@0=1}\n",
+        ),
+        (
+            "e7000000000001000464625f42000278370001030001",
+            "e7000000000001000101fe01000000",
+            "- -> {@0=1}\n",
+        ),
+        (
+            "07010000000001000464625f42000378333900010f02500001",
+            "07010000000001000101fe0161",
+            "- -> {@0=x61}\n",
+        ),
+        (
+            "08010000000001000464625f42000378343000010f02ff0001",
+            "08010000000001000101fe0161",
+            "- -> {@0=x61}\n",
+        ),
+        (
+            "0a010000000001000464625f42000378343200010f02fc0001",
+            "0a010000000001000101fe0161",
+            "- -> {@0=x61}\n",
+        ),
+        (
+            "0c010000000001000464625f42000378343400010f02e80301",
+            "0c010000000001000101fe010061",
+            "- -> {@0=x61}\n",
+        ),
+        (
+            "10010000000001000464625f42000378343800010f02100001",
+            "10010000000001000101fe0161",
+            "- -> {@0=x61}\n",
+        ),
+        (
+            "11010000000001000464625f42000378343900010f02ff0001",
+            "11010000000001000101fe0161",
+            "- -> {@0=x61}\n",
+        ),
+        (
+            "12010000000001000464625f42000378353000010f02000101",
+            "12010000000001000101fe010061",
+            "- -> {@0=x61}\n",
+        ),
+        (
+            "e8020000000001000464625f460007706b5f6175746f0002030f02280002",
+            "e8020000000001000203fc020000000162",
+            "- -> {@0=2, @1=x62}\n",
+        ),
+        (
+            "ec020000000001000464625f460007756b5f6f6e6c790003030f0302280003",
+            "ec020000000001000307f802000000016206000000",
+            "- -> {@0=2, @1=x62, @2=6}\n",
+        ),
+        (
+            "f1020000000001000464625f46000367656e000503030f03030228000f",
+            "f102000000000100051fe8020000000400000002763200000000e70700000001000000",
+            "- -> {@0=2, @1=4, @2=x7632, @3=NULL, @4=0}\n- -> {@0=NULL, @1=NULL, @2=NULL, @3=7, @4=1}\n",
+        ),
+        (
+            "f6020000000001000464625f4600036d5f630002030f02280002",
+            "f6020000000001000203fc0b00000002736afc0c00000002736afc0d000000027363",
+            "- -> {@0=11, @1=x736a}\n- -> {@0=12, @1=x736a}\n- -> {@0=13, @1=x7363}\n",
+        ),
+    ];
+    for (table, rows, text) in cases {
+        let words = ["8", "17", "8", "10", table, rows];
+        assert!(rt; prints(rt.alloc(), &words, 0, text, "")?, "{rows}");
+    }
+    Ok(())
+}
+
+/// Inserts of other types, all but one written by the same server.
+#[test]
+fn real_inserts_of_other_types(rt: HostRuntime) -> Result<(), Fail> {
+    let cases = [
+        (
+            "ea000000000001000464625f4200037831300001010001",
+            "ea000000000001000101fe01",
+            "- -> {@0=1}\n",
+        ),
+        (
+            "ef000000000001000464625f420003783135000104010401",
+            "ef000000000001000101fe0000803f",
+            "- -> {@0=f32:3f800000}\n",
+        ),
+        (
+            "ee000000000001000464625f420003783134000105010801",
+            "ee000000000001000101fe000000000000f03f",
+            "- -> {@0=f64:3ff0000000000000}\n",
+        ),
+        (
+            "96030000000001000564625f6f4200046f6c64320001070001",
+            "96030000000001000101fe4058e065",
+            "- -> {@0=1709201472}\n",
+        ),
+        (
+            "e8000000000001000464625f42000278380001080001",
+            "e8000000000001000101fe0100000000000000",
+            "- -> {@0=1}\n",
+        ),
+        (
+            "e4000000000001000464625f42000278340001090001",
+            "e4000000000001000101fe010000",
+            "- -> {@0=1}\n",
+        ),
+        (
+            "01020000000001000464625f43000378393200010a0001",
+            "01020000000001000101fe5dd00f",
+            "- -> {@0=date(2024,2,29,0,0,0,0)}\n",
+        ),
+        (
+            "94030000000001000564625f6f4200046f6c643000010b0001",
+            "94030000000001000101fef88a01",
+            "- -> {@0=time(false,0,10,11,12,0)}\n",
+        ),
+        (
+            "94030000000001000564625f6f4200046f6c643000010b0001",
+            "94030000000001000101fe000000fefffffffea7f57ffe590a80feb79903fe80a903fe8056fcfe000000fe000000fec01dfefe41420fff",
+            "- -> {@0=time(false,0,0,0,0,0)}\n\
+             - -> {@0=time(false,69,21,72,15,0)}\n\
+             - -> {@0=time(false,34,22,59,59,0)}\n\
+             - -> {@0=time(false,34,23,12,57,0)}\n\
+             - -> {@0=time(false,0,23,59,59,0)}\n\
+             - -> {@0=time(false,1,0,0,0,0)}\n\
+             - -> {@0=time(false,68,21,72,16,0)}\n\
+             - -> {@0=time(false,0,0,0,0,0)}\n\
+             - -> {@0=time(false,0,0,0,0,0)}\n\
+             - -> {@0=time(false,69,9,37,60,0)}\n\
+             - -> {@0=time(false,4,4,0,1,0)}\n\
+             - -> {@0=NULL}\n",
+        ),
+        // The least number of three bytes in two's complement, on the same table.
+        (
+            "94030000000001000564625f6f4200046f6c643000010b0001",
+            "94030000000001000101fe000080",
+            "- -> {@0=time(false,34,22,86,8,0)}\n",
+        ),
+        (
+            "95030000000001000564625f6f4200046f6c643100010c0001",
+            "95030000000001000101fe386eaa8b68120000",
+            "- -> {@0=date(2024,2,29,10,11,12,0)}\n",
+        ),
+        (
+            "63010000000001000464625f420010796561725f7468656e5f7369676e656400030d03010007",
+            "63010000000001000307f87e0100000001",
+            "- -> {@0=x32303236, @1=1, @2=1}\n",
+        ),
+        (
+            "2e010000000001000464625f42000378373800011002050001",
+            "2e010000000001000101fe01",
+            "- -> {@0=x01}\n",
+        ),
+        (
+            "4b010000000001000464625f42000478313037000111010001",
+            "4b010000000001000101fe65e05840",
+            "- -> {@0=x31373039323031343732}\n",
+        ),
+        (
+            "45010000000001000464625f42000478313031000112010101",
+            "45010000000001000101fe99b2baa2cc0a",
+            "- -> {@0=date(2024,2,29,10,11,12,100000)}\n",
+        ),
+        (
+            "3e010000000001000464625f420003783934000113010101",
+            "3e010000000001000101fe80a2cc0a",
+            "- -> {@0=time(false,0,10,11,12,100000)}\n",
+        ),
+        (
+            "f7000000000001000464625f4200037832330001f602050001",
+            "f7000000000001000101fe800001",
+            "- -> {@0=x31}\n",
+        ),
+        (
+            "18010000000001000464625f4200037835360001fc010101",
+            "18010000000001000101fe0161",
+            "- -> {@0=x61}\n",
+        ),
+        (
+            "1c010000000001000464625f4200037836300001fe02f70101",
+            "1c010000000001000101fe01",
+            "- -> {@0=1}\n",
+        ),
+    ];
+    for (table, rows, text) in cases {
+        let words = ["8", "17", "8", "10", table, rows];
+        assert!(rt; prints(rt.alloc(), &words, 0, text, "")?, "{rows}");
+    }
+    Ok(())
+}
+
+/// A cell of each form of text: the bits of floats, a date, a time; of the types FLOAT, DOUBLE, DATE and TIME2.
+#[test]
+fn forms_of_cells(rt: HostRuntime) -> Result<(), Fail> {
+    let table = "01000000000001000164000174000404050A13030408020F";
+    let rows = "01000000000001000200040F000000803F000000000000F03F7BC70F7FFFFFF6";
+    let text =
+        "- -> {@0=f32:3f800000, @1=f64:3ff0000000000000, @2=date(2019,11,27,0,0,0,0), @3=time(true,0,0,0,0,100000)}\n";
+    let words = ["8", "1E", "10", "10", table, rows];
+    assert!(rt; prints(rt.alloc(), &words, 0, text, "")?);
+    Ok(())
+}
+
+/// A text of 70 bytes, which are converted to digits in three parts.
+#[test]
+fn long_bytes(rt: HostRuntime) -> Result<(), Fail> {
+    let mut rows = String::from_str(rt.alloc(), "010000000000010002000202FE46")?;
+    let mut text = String::from_str(rt.alloc(), "- -> {@1=x")?;
+    for byte in 0..70u8 {
+        write!(rows, "{byte:02X}")?;
+        write!(text, "{byte:02x}")?;
+    }
+    text.push_str("}\n")?;
+    let table = "010000000000010001640001740002030F020A0002";
+    assert!(rt;
+        prints(
+            rt.alloc(),
+            &["8", "1E", "10", "10", table, &rows],
+            0,
+            &text,
+            ""
+        )?
+    );
+    Ok(())
+}
+
+#[test]
+fn texts_of_errors(rt: HostRuntime) -> Result<(), Fail> {
+    let usage = WordsError::Usage;
+    let memory = WordsError::Memory;
+    let text = format!(in rt.alloc(); "{usage}\n{memory}")?;
+    assert!(rt; text.as_str() == "usage: rows MLEN TYPE PLEN WLEN MAPHEX ROWSHEX\nout of memory");
+    Ok(())
+}
+
+#[test]
+fn lines_of_faults(rt: HostRuntime) {
+    let mut out = Vec::new(rt.alloc());
+    assert!(rt; fail(&mut out, Fault::Memory) == 1);
+    assert!(rt; out.as_slice() == b"fault Memory\n".as_slice());
+}
+
+#[test]
+fn usage(rt: HostRuntime) -> Result<(), Fail> {
+    let good = ["8", "1E", "10", "10", TABLE, "00"];
+    assert!(rt; prints(rt.alloc(), &[], 2, "", USAGE)?);
+    assert!(rt; prints(rt.alloc(), &good[..5], 2, "", USAGE)?);
+    let seven = ["8", "1E", "10", "10", TABLE, "00", "00"];
+    assert!(rt; prints(rt.alloc(), &seven, 2, "", USAGE)?);
+    // Each argument in turn isn't in its form.
+    let bad = [
+        (0, "256"),
+        (0, ""),
+        (0, "+8"),
+        (0, "-8"),
+        (1, "29"),
+        (1, "2B"),
+        (1, "1"),
+        (1, "01E"),
+        (1, ""),
+        (2, "1000"),
+        (2, "0010"),
+        (3, "1e1"),
+        (4, "010"),
+        (5, "0g"),
+        (5, "0 "),
+    ];
+    for (place, word) in bad {
+        let mut words = good;
+        words[place] = word;
+        assert!(rt; prints(rt.alloc(), &words, 2, "", USAGE)?, "{word}");
+    }
+    Ok(())
+}
+
+/// An output that takes no byte.
+#[derive(Drop)]
+struct Closed;
+
+impl Write for Closed {
+    fn write(&mut self, _buf: &[u8]) -> io::Result<usize> {
+        Err(io::Error::from(io::ErrorKind::BrokenPipe))
+    }
+
+    fn flush(&mut self) -> io::Result<()> {
+        Ok(())
+    }
+}
+
+/// The status where the output fails.
+fn status_of_closed(alloc: Global) -> Result<u8, AllocError> {
+    let rows = "010000000000010002000203002A00000002616202FFFFFFFF";
+    let mut words = Vec::new(alloc);
+    for word in ["8", "1E", "10", "10", TABLE, rows] {
+        words.push(String::from_str(alloc, word)?)?;
+    }
+    Ok(run(alloc, &words, &mut Closed, &mut Closed))
+}
+
+/// A table of two JSON columns.
+const DOCUMENTS: &str = "010000000000010001640001740002F5F502040403";
+
+#[test]
+fn partial_updates(rt: HostRuntime) -> Result<(), Fail> {
+    let cases = [
+        (
+            DOCUMENTS,
+            "01000000000001000200020002010200050000000203242E61",
+            "{} -> {@1=diffs(1)}\n",
+        ),
+        (
+            DOCUMENTS,
+            "01000000000001000200020002000003000000052A00",
+            "{} -> {@1=scalar}\n",
+        ),
+        (
+            DOCUMENTS,
+            "010000000000010002000200020000050000000000000400",
+            "{} -> {@1=object(0)}\n",
+        ),
+        (
+            TABLE,
+            "010000000000010002000200000000",
+            "{} -> {}\n{} -> {}\n",
+        ),
+    ];
+    for (table, rows, text) in cases {
+        let words = ["8", "27", "10", "10", table, rows];
+        assert!(rt; prints(rt.alloc(), &words, 0, text, "")?, "{rows}");
+    }
+    Ok(())
+}
+
+#[test]
+fn closed_output(rt: HostRuntime) -> Result<(), Fail> {
+    assert!(rt; status_of_closed(rt.alloc())? == 1);
+    Ok(())
+}
+
+/// The numbers in the first column of the rows that a WRITE_ROWS_EVENT inserts; none for a value that is no number.
+fn first_numbers(alloc: Global, table: &[u8], rows: &[u8]) -> Result<Vec<Option<i64>>, Fault> {
+    let ctx = RowsEventCtx {
+        event_type: EventType::WRITE_ROWS_EVENT,
+        post_header_len: 10,
+        write_rows_post_header_len: 10,
+    };
+    let decoded = decode_pairs(alloc, table, 8, rows, ctx)?;
+    if let Some(fault) = decoded.fault {
+        return Err(fault);
+    }
+    let mut numbers = Vec::new(alloc);
+    for (_, after) in &decoded.pairs {
+        let value = match after {
+            Some(row) => row.as_ref(0),
+            None => None,
+        };
+        numbers.push(match value {
+            Some(BinlogValue::Value(Value::Int(number))) => Some(*number),
+            _ => None,
+        })?;
+    }
+    Ok(numbers)
+}
+
+/// The rows of the README's first example, by the library.
+#[test]
+fn example(rt: HostRuntime) -> Result<(), Fail> {
+    let table = [
+        1, 0, 0, 0, 0, 0, 1, 0, 1, 0x64, 0, 1, 0x74, 0, 2, 3, 0x0f, 2, 0x0a, 0, 2,
+    ];
+    let rows = [
+        1, 0, 0, 0, 0, 0, 1, 0, 2, 0, 2, 3, 0, 0x2a, 0, 0, 0, 2, 0x61, 0x62, 2, 0xff, 0xff, 0xff,
+        0xff,
+    ];
+    let numbers = first_numbers(rt.alloc(), &table, &rows)?;
+    assert!(rt; numbers.as_slice() == [Some(42), Some(-1)].as_slice());
+    Ok(())
+}

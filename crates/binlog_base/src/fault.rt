@@ -65,7 +65,7 @@ pub enum Fault {
     /// The length of a BLOB column's cells doesn't take 1 to 4 bytes.
     #[error("unknown width of a blob's length")]
     UnknownBlob,
-    /// Something that isn't supported: cells of the column's type, or a partial update.
+    /// The cells of the column's type aren't supported.
     #[error("not supported")]
     Unhandled,
     /// A decimal's scale is above its precision.

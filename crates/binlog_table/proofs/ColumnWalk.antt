@@ -19,8 +19,8 @@ use Rattle.binlog_table.specs.ColumnsLeft.{parts_left, columns_left, Follows, Ad
 use Rattle.binlog_table.specs.Chunks.{chunk_at, chunk_left}
 use Rattle.binlog_table.specs.TableMap.{TableMap}
 use Rattle.binlog_table.specs.Lists.{pair_with}
-use Rattle.binlog_table.specs.Keys.{key_at as key_in}
-use Rattle.binlog_table.specs.KeysLeft.{keys_left, key_from}
+use Rattle.binlog_table.specs.Keys.{key_items, key_at as key_in}
+use Rattle.binlog_table.specs.KeysLeft.{key_from}
 use Rattle.binlog_table.proofs.KeyByKey.{key_later, keys_of_table}
 use Rattle.binlog_table.proofs.CharsetByCharset.{charsets_of_table}
 
@@ -179,13 +179,13 @@ parts_with t k = record {
   sign = λ i. sign_in t.types (list_or k.signs) i;
   charset = λ i. charset_by (charset_of_group k.default k.charsets) (charset_of_group k.enum_default k.enum_charsets) (type_at t) i;
   name = λ i. named (items lenenc_string (list_or k.names)) i;
-  key = λ i. key_in (keys_left None (items lenenc (list_or k.simple)) (items (pair_with lenenc) (list_or k.prefixed))) i;
+  key = λ i. key_in (key_items (items lenenc (list_or k.simple)) (items (pair_with lenenc) (list_or k.prefixed))) i;
   json_place = λ i. json_count (take i t.types);
 }
 
 pub walk_start : (w : Walk) (t : TableMap) (k : Kept) → k ≡ kept_of t → w.types.now ≡ t.types → w.chunks ≡ record { types = t.types; metadata = Some t.metadata } → w.signs ≡ list_or k.signs
     → IsStart k.default k.charsets w.characters → IsStart k.enum_default k.enum_charsets w.enums → w.names ≡ record { bytes = list_or k.names; taken = 0 }
-    → w.keys.keys ≡ keys_left None (items lenenc (list_or k.simple)) (items (pair_with lenenc) (list_or k.prefixed)) → w.column ≡ 0 → w.json_place ≡ 0
+    → w.keys.keys ≡ key_items (items lenenc (list_or k.simple)) (items (pair_with lenenc) (list_or k.prefixed)) → w.column ≡ 0 → w.json_place ≡ 0
     → columns_left w ≡ columns_by (column_at t) (length t.types)
 unfolding columns_left parts_left column_at
 walk_start w t k is types chunks signs characters enums names keys column json =

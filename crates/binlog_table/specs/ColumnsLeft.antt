@@ -56,7 +56,7 @@ parts_left w = record {
   json_place = λ j. w.json_place + json_count (take j w.types.now);
 }
 
--- Behind the first column the one tells what the other tells.
+-- after one step, column j is what column j + 1 was before it
 pub record Follows (p q : Parts) : Type 0 where
   pub type : (j : ℕ) → q.type j ≡ p.type (suc j)
   pub chunk : (j : ℕ) → q.chunk j ≡ p.chunk (suc j)

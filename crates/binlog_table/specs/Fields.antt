@@ -117,10 +117,6 @@ pub record Kept : Type 0 where
 abbrev pub kept : List OptionalMetadataField → Kept
 kept fs = record { signs = last_of signs_in fs; default = last_of default_in fs; charsets = last_of charsets_in fs; names = last_of names_in fs; simple = last_of simple_in fs; prefixed = last_of prefixed_in fs; enum_default = last_of enum_default_in fs; enum_charsets = last_of enum_charsets_in fs }
 
--- the kept fields of a list, by those of its first part and of the rest
-abbrev pub kept_after : Kept → Kept → Kept
-kept_after prefix left = record { signs = or_else left.signs prefix.signs; default = or_else left.default prefix.default; charsets = or_else left.charsets prefix.charsets; names = or_else left.names prefix.names; simple = or_else left.simple prefix.simple; prefixed = or_else left.prefixed prefix.prefixed; enum_default = or_else left.enum_default prefix.enum_default; enum_charsets = or_else left.enum_charsets prefix.enum_charsets }
-
 -- ---- the columns with a sign bit
 
 abbrev pub numeric_of : Result ColumnType Fault → Bool

@@ -1,7 +1,11 @@
 -- The columns of a table's primary key.
-use Rattle.std.specs.Prelude.{◌≡◌, ℕ, suc, ◌≤◌, ◌==◌, ◌&&◌, ◌||◌, nat_lt, Bool, false, List, [], ◌∷◌, ◌++◌, length, Option, Some, None, Result, Ok, Err, if◌then◌else◌}
+use Rattle.std.specs.Prelude.{◌≡◌, ℕ, suc, ◌≤◌, ◌==◌, ◌&&◌, ◌||◌, nat_lt, Bool, false, List, [], ◌∷◌, ◌++◌, map, length, Option, Some, None, Result, Ok, Err, if◌then◌else◌}
 use Rattle.binlog_base.specs.declared.fault.Fault.{Fault}
-use Rattle.binlog_base.specs.Items.{before_fault, first_fault}
+use Rattle.binlog_base.specs.Items.{before_fault, first_fault, result_map}
+
+-- the items of a key: those of the list without prefixes, then the columns of the list with prefixes
+abbrev pub key_items : List (Result ℕ Fault) → List (Result (ℕ × ℕ) Fault) → List (Result ℕ Fault)
+key_items simple prefixed = simple ++ map (λ r. result_map (λ k. k.0) r) prefixed
 
 -- the longest prefix of numbers of which each is above those before it, and none is below low
 abbrev pub increasing_from : ℕ → List ℕ → List ℕ

@@ -1,7 +1,7 @@
 -- The key columns that are left, as columns are asked for in order.
-use Rattle.std.specs.Prelude.{◌≡◌, ℕ, suc, ◌+◌, ◌≤◌, ◌==◌, nat_lt, Bool, true, false, List, [], ◌∷◌, ◌++◌, map, Option, Some, None, Result, Ok, Err, if◌then◌else◌}
+use Rattle.std.specs.Prelude.{◌≡◌, ℕ, suc, ◌+◌, ◌≤◌, ◌==◌, nat_lt, Bool, true, false, List, [], ◌∷◌, Option, Some, None, Result, Ok, Err, if◌then◌else◌}
 use Rattle.binlog_base.specs.declared.fault.Fault.{Fault}
-use Rattle.binlog_base.specs.Items.{result_map}
+use Rattle.binlog_table.specs.Keys.{key_items}
 
 -- what is left of the key columns: their items, how many were taken of the two lists, and how many
 -- bytes of the lists are left
@@ -16,8 +16,8 @@ Agree low f g = (i : ℕ) → low ≤ i → f i ≡ g i
 
 -- an item that was taken before it was asked for, and the two lists after it
 abbrev pub keys_left : Option (Result ℕ Fault) → List (Result ℕ Fault) → List (Result (ℕ × ℕ) Fault) → List (Result ℕ Fault)
-keys_left None simple prefixed = simple ++ map (λ r. result_map (λ k. k.0) r) prefixed
-keys_left (Some x) simple prefixed = x ∷ (simple ++ map (λ r. result_map (λ k. k.0) r) prefixed)
+keys_left None simple prefixed = key_items simple prefixed
+keys_left (Some x) simple prefixed = x ∷ key_items simple prefixed
 
 -- where no such item was taken, both lists are at their end
 abbrev pub IsHeadFirst : Option (Result ℕ Fault) → List (Result ℕ Fault) → List (Result (ℕ × ℕ) Fault) → Type 0

@@ -15,8 +15,7 @@ use Rattle.binlog_table.specs.Chunks.{chunk_at}
 use Rattle.binlog_table.specs.ColumnTypes.{column_type_at, json_count, fault_of}
 use Rattle.binlog_table.specs.Lists.{DefaultCharset, low_bits, pair_with}
 use Rattle.binlog_table.specs.Fields.{is_numeric_number, numeric_count}
-use Rattle.binlog_table.specs.Keys.{key_at as key_in}
-use Rattle.binlog_table.specs.KeysLeft.{keys_left}
+use Rattle.binlog_table.specs.Keys.{key_items, key_at as key_in}
 use Rattle.binlog_table.specs.Charsets.{charset_at as charset_in, zero_without}
 use Rattle.binlog_table.specs.Extracted.{list_or, pairs_or, kept_of, field_fault}
 
@@ -122,7 +121,8 @@ abbrev pub name_at : TableMap → ℕ → Result (Option (List ℕ)) Fault
 name_at t i = named (items lenenc_string (list_or (kept_of t).names)) i
 
 abbrev pub key_at : TableMap → ℕ → Result Bool Fault
-key_at t i = key_in (keys_left None (items lenenc (list_or (kept_of t).simple)) (items (pair_with lenenc) (list_or (kept_of t).prefixed))) i
+key_at t i =
+    key_in (key_items (items lenenc (list_or (kept_of t).simple)) (items (pair_with lenenc) (list_or (kept_of t).prefixed))) i
 
 abbrev pub parts_of : TableMap → Parts
 parts_of t = record { type = type_at t; chunk = chunk_at t.types t.metadata; sign = sign_at t; charset = charset_at t; name = name_at t; key = key_at t; json_place = λ i. json_count (take i t.types) }

@@ -84,8 +84,8 @@ other v (Ok d) n h = tt
 other v (Err f) n h = λ not deep many. other_is_own (limit_of v) v f n (fault v (Err f) n h not) deep many
 
 -- what was read meets all that `parse` promises
-pub parsed : (v : JsonbValue) (r : Result JsonDom Fault) (n : ℕ) → IsWholeValue v → n ≤ limit_of v + 1 → OnOk r (n ≤ limit_of v) → (is_simple v ≡ true → IsOk r) → IsRead v r n → Parsed v r n
-parsed v r n whole bound kept simple h = record {
+pub parsed : (v : JsonbValue) (r : Result JsonDom Fault) (n : ℕ) → IsWholeValue v → n ≤ limit_of v + 1 → (IsScalar v → n ≡ 0) → OnOk r (n ≤ limit_of v) → (is_simple v ≡ true → IsOk r) → IsRead v r n → Parsed v r n
+parsed v r n whole bound unread kept simple h = record {
   tree = tree v r n h;
   limits = limits v r n bound h kept;
   count = count v r n h;
@@ -96,6 +96,7 @@ parsed v r n whole bound kept simple h = record {
   values = values v r n h;
   other = other v r n h;
   bound = bound;
+  unread = unread;
   simple = simple;
 }
 
@@ -105,7 +106,7 @@ parsed_container v c limit n r is l whole bound kept h =
     let bound' : n ≤ m + 1 = subst (λ (k : ℕ). n ≤ k + 1) l bound in
     let kept' : OnOk r (n ≤ m) = subst (λ (k : ℕ). OnOk r (n ≤ k)) l kept in
     let h' : IsRead (nested c) r n = subst (λ (k : ℕ). Meets IsTree r n (visit k 100 0 (document (nested c)))) l h in
-    subst (λ (u : JsonbValue). Parsed u r n) (sym is) (parsed (nested c) r n whole bound' kept' (λ e. absurd cc) h')
+    subst (λ (u : JsonbValue). Parsed u r n) (sym is) (parsed (nested c) r n whole bound' (λ no. absurd no) kept' (λ e. absurd cc) h')
 
 whole_scalar : (v : JsonbValue) → IsScalar v → IsWholeValue v
 whole_scalar (scalar s) h = tt
@@ -116,4 +117,4 @@ least (Ok d) m = omega arith
 least (Err f) m = tt
 
 pub parsed_scalar : (v : JsonbValue) (r : Result JsonDom Fault) → IsScalar v → (is_simple v ≡ true → IsOk r) → Meets IsTree r 0 (visit (limit_of v) 100 0 (document v)) → Parsed v r 0
-parsed_scalar v r h simple read = parsed v r 0 (whole_scalar v h) (omega arith) (least r (limit_of v)) simple read
+parsed_scalar v r h simple read = parsed v r 0 (whole_scalar v h) (omega arith) (λ is. refl) (least r (limit_of v)) simple read

@@ -7,6 +7,7 @@ use Rattle.binlog_values.specs.JsonbValues.{JsonbValue, scalar, nested, Text, Op
 use Rattle.binlog_values.specs.JsonbTrees.{Tree, Denotes}
 use Rattle.binlog_values.specs.JsonbDocuments.{Document, document_of, weight, depth, max_depth, limit_of, Position, positions, fault_inside, first_fault}
 use Rattle.binlog_values.specs.JsonbHeaders.{headers, AreDisjoint}
+use Rattle.binlog_values.specs.JsonbContainers.{IsScalar}
 use Rattle.binlog_values.specs.JsonbDoms.{IsTree, IsGiven}
 
 abbrev pub document : JsonbValue → Document
@@ -44,17 +45,22 @@ is_simple (scalar _) = true
 -- position's number.
 -- nesting, values, other: so the fault of a limit comes only where the limit isn't met, and any other
 -- fault only where a position has it.
--- bound: no more positions are read than the limit on values and one more.
+-- bound, unread: no more positions are read than the limit on values and one more, and none for a
+-- value that is no container.
 -- simple: a literal or a number takes no memory.
 pub record Parsed (value : JsonbValue) (result : Result JsonDom Fault) (read : ℕ) : Type 0 where
   pub tree : IfOk result (IsDenoted value)
   pub limits : OnOk result (IsWithinLimits value)
   pub count : OnOk result (read ≡ weight (document value))
   pub given : (t : Tree) → Denotes t (Ok value) → IsWithinLimits value → IsGiven result t
-  pub disjoint : (t : Tree) → Denotes t (Ok value) → depth (document value) ≤ max_depth → AreDisjoint (headers 0 (document value)) → IsGiven result t
-  pub fault : IfErr result (λ f. f ≢ Memory → first_fault (limit_of value) 0 (positions (document value)) ≡ Some (f, read))
+  pub disjoint : (t : Tree) → Denotes t (Ok value) → depth (document value) ≤ max_depth →
+      AreDisjoint (headers 0 (document value)) → IsGiven result t
+  pub fault : IfErr result (λ f. f ≢ Memory →
+      first_fault (limit_of value) 0 (positions (document value)) ≡ Some (f, read))
   pub nesting : result ≡ Err NestingTooDeep → max_depth < depth (document value)
   pub values : result ≡ Err TooManyValues → limit_of value < weight (document value)
-  pub other : IfErr result (λ f. f ≢ Memory → f ≢ NestingTooDeep → f ≢ TooManyValues → SomeOf (HasFault f) (positions (document value)))
+  pub other : IfErr result (λ f. f ≢ Memory → f ≢ NestingTooDeep → f ≢ TooManyValues →
+      SomeOf (HasFault f) (positions (document value)))
   pub bound : read ≤ limit_of value + 1
+  pub unread : IsScalar value → read ≡ 0
   pub simple : is_simple value ≡ true → IsOk result

@@ -1,5 +1,5 @@
-//! Values of MySQL's binary log: the packed DECIMAL format, the packed TIME and DATETIME formats,
-//! and the text of such values.
+//! Values of MySQL's binary log: packed decimals, their text and their order, the text of times,
+//! binary JSON by element and as trees, and JSON diffs.
 #![tactic(auto)]
 
 pub mod decimal;

@@ -114,7 +114,7 @@ impl<'a> TryFrom<BinlogValue<'a>> for Value {
     }
 }
 
-/// Reads the plain value of a cell in this way.
+/// Reads a plain cell whose bytes have this form.
 #[tactic(auto, unfolding(crate::specs::Cells::plain_by))]
 pub(crate) fn read_plain(
     alloc: Global,
@@ -167,6 +167,12 @@ fn read_cell<'de>(
 ///
 /// A cell of type JSON borrows its bytes. It is a length in four bytes and in as many bytes a value
 /// of binary JSON, after which bytes are ignored; or, if it is partial, diffs up to the end.
+///
+/// The faults come in this order, before any byte of the cell is read: `MissingMetadata`,
+/// `UnknownEnum` or `UnknownBlob` if the metadata has too few bytes or a width that the type doesn't
+/// have, `Unhandled` if the type isn't supported, and `DecimalScale`. Then `UnexpectedEof` if the
+/// cell is cut, and the faults of what it holds: `DecimalGroup`, `TimeRange`, `YearRange`, and for
+/// JSON those of `jsonb::Value` and `JsonDiff`. `Memory` if memory is refused.
 impl<'de> MyDeserialize<'de> for BinlogValue<'de> {
     ghost Seen = { Cell };
 

@@ -177,7 +177,7 @@ pub fn bitmap_len(len: usize) -> usize
 }
 
 /// A bitmap is read with its order and the count of its bits. The bits of its last byte after these
-/// are ignored.
+/// are ignored. Where fewer than `bitmap_len` bytes are left, it is `UnexpectedEof`.
 impl<'de> MyDeserialize<'de> for BitView<'de> {
     ghost Seen = { List Bool };
 

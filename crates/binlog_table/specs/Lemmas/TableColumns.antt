@@ -30,8 +30,7 @@ use Rattle.binlog_table.specs.ColumnTypes.{column_type_at, real_type_of, raw_typ
 use Rattle.binlog_table.specs.Lists.{DefaultCharset, RawField, raw_field, default_charset, low_bits, pair_with}
 use Rattle.binlog_table.specs.Lemmas.Lists.{exact_low_bits, eats_low_bits, exact_pair_with, eats_pair_with, exact_raw_field, eats_raw_field, exact_default_charset}
 use Rattle.binlog_table.specs.Fields.{whole, bits_for, default_charset_in, value_of, field_of}
-use Rattle.binlog_table.specs.Keys.{unless, key_at as key_in}
-use Rattle.binlog_table.specs.KeysLeft.{keys_left}
+use Rattle.binlog_table.specs.Keys.{unless, key_items, key_at as key_in}
 use Rattle.binlog_table.specs.Charsets.{pairs_from, above_from, charset_in as pair_at, listed, after, or_else, charset_above, charset_at as charset_in, zero_without}
 use Rattle.binlog_table.specs.Extracted.{list_or, pairs_or, kept_of, field_fault}
 use Rattle.binlog_table.specs.TableColumns.{Column, typed, named, in_group, ordinal_of, charset_by, charset_of_group, type_at, charset_at, name_at, key_at, column_at}
@@ -158,7 +157,7 @@ by_sound f g type i hf hg =
 
 -- ---- columns
 
-keys_sound : (simple prefixed : List ℕ) → AllOfBytes (keys_left None (items lenenc simple) (items (pair_with lenenc) prefixed))
+keys_sound : (simple prefixed : List ℕ) → AllOfBytes (key_items (items lenenc simple) (items (pair_with lenenc) prefixed))
 keys_sound simple prefixed =
     append_sound (items lenenc simple) _ (items_sound lenenc exact_lenenc eats_lenenc simple)
     (map_sound _ (items (pair_with lenenc) prefixed) (result_sound (λ k. k.0)) (items_sound (pair_with lenenc) (exact_pair_with lenenc exact_lenenc) (eats_pair_with lenenc exact_lenenc) prefixed))

@@ -159,6 +159,12 @@ impl<'a, T: StorageFormat, U: ComplexType> Lent<'a, T, U> {
 /// A container of binary JSON: an object or an array, in the small or the large storage format. Its
 /// elements are read when they are asked for. Contracts see it as a `Frame`: its kind and format, the
 /// count of its elements, and its bytes.
+///
+/// In MySQL's JSONB format an offset has two bytes where the container is small, and four where it is
+/// large. A container is the count of its elements and its size in bytes, each as long as an offset;
+/// for an object the offset and the two-byte length of each key; the type byte of each element with
+/// its offset, or with the element itself where it is that short; and then the keys and elements.
+/// Offsets count from the start of the container.
 #[derive(Drop)]
 pub struct ComplexValue<'a, T: StorageFormat, U: ComplexType> {
     element_count: u32,
@@ -270,7 +276,9 @@ impl<'a, T: StorageFormat, U: ComplexType> ComplexValue<'a, T, U> {
     }
 }
 
-/// A container is read by its own, and leaves the bytes after it.
+/// A container is as many bytes as its size says; bytes after these are left. `UnexpectedEof` where
+/// fewer bytes than a count and a size are left, and `SizeOverflow` where the size is below that of
+/// the header, or above the count of the bytes that are left.
 impl<'de, T: StorageFormat, U: ComplexType> MyDeserialize<'de> for ComplexValue<'de, T, U> {
     ghost use Rattle.binlog_values.specs.JsonbValues.{Frame, container};
     ghost use Rattle.binlog_values.specs.Lemmas.JsonbValues.{exact_container};

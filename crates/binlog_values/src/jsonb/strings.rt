@@ -128,6 +128,8 @@ impl<'a> fmt::Debug for JsonbString<'a> {
     }
 }
 
+/// A string is its length, a VarLen number, and as many bytes. `BadVarLen` where the length isn't
+/// valid, and `UnexpectedEof` where the length or the bytes aren't all there.
 impl<'de> MyDeserialize<'de> for JsonbString<'de> {
     ghost use Rattle.std.specs.Prelude.{List, ℕ};
 
@@ -160,7 +162,8 @@ impl<'a> MySerialize for JsonbString<'a> {
     }
 }
 
-/// A value of a column type that binary JSON has no type for.
+/// A value of a column type that binary JSON has no type for: the number of the column type, a VarLen
+/// length, and as many bytes.
 #[derive(Debug, PartialEq, Drop)]
 pub struct OpaqueValue<'a> {
     value_type: ColumnType,

@@ -168,6 +168,11 @@ impl<'a> Value<'a> {
 
 /// A value is a type byte and its bytes; later bytes are ignored, and no bytes at all are NULL. So
 /// reading one takes all bytes.
+///
+/// `UnknownJsonbType` where the type byte is of no type, and `UnexpectedEof` where the bytes of its
+/// type aren't all there. Further, `UnknownLiteralType` for a literal, `BadVarLen` for the length of a
+/// string or of an opaque value, `UnknownColumnType` for the type of an opaque value, and
+/// `SizeOverflow` for a container, as `ComplexValue` says.
 impl<'de> MyDeserialize<'de> for Value<'de> {
     ghost use Rattle.std.specs.Prelude.{true};
     ghost use Rattle.binlog_values.specs.JsonbValues.{JsonbValue, json};

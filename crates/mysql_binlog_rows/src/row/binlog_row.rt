@@ -91,7 +91,7 @@ impl BinlogRow {
         self.columns.as_slice()
     }
 
-    /// The columns, shared with this row.
+    /// The columns, shared with this row. Fails where memory is refused.
     pub fn columns(&self, _alloc: Global) -> Result<RcSlice<Column>, AllocError>
         ensures { IfOk result (λ columns. rc_slice_items columns ≡ self.now.columns) }
     {
@@ -121,7 +121,7 @@ impl BinlogRow {
         }
     }
 
-    /// Puts a value at place `index`, in place of what is there.
+    /// Puts a value at place `index`, in place of what is there. The place must be below `len`.
     pub fn place(&mut self, index: usize, value: BinlogValue<'static>)
         requires { index < length self.old.values }
         ensures { self.new ≡ record self.old { values = set self.old.values index (Some (cell_of value.entry)) } }

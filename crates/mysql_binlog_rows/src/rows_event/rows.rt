@@ -220,13 +220,12 @@ impl<'a> RowsEvent<'a> {
     /// The iterator ends after its first fault. For each image, in order: in the image after the
     /// change of a `PARTIAL_UPDATE_ROWS_EVENT`, `BadLenEnc` or `UnexpectedEof` if the options or
     /// the partial bits can't be read; `UnexpectedEof` if the null bits are cut; the fault of the
-    /// first faulty field of the optional metadata; then, for each column of the event in order,
-    /// the faults of its type (`UnknownColumnType`, `UnexpectedColumnType`, `NoColumnType`), of its
-    /// character set, its name and its key, and, if it is in the image and isn't NULL, of its cell:
-    /// `MissingMetadata`, `UnknownEnum`, `UnknownBlob` or `DecimalScale` for the column's metadata,
-    /// `Unhandled` for a type that isn't supported, `UnexpectedEof` if the cell is cut, and the
-    /// faults of single types, such as `DecimalGroup`. After the images, `EmptyPair` if they have
-    /// no bytes. `Memory` if memory can't be allocated.
+    /// first faulty field of the optional metadata (`UnknownOptionalField`, `BytesRemaining`,
+    /// `BadLenEnc`, `UnexpectedEof`); then, for each column of the event in order, the fault of its
+    /// type (`UnknownColumnType`, `UnexpectedColumnType`, `NoColumnType`), of its character set, its
+    /// name and its key (`BadLenEnc`, `UnexpectedEof`), and, if it is in the image and isn't NULL,
+    /// of its cell, as `BinlogValue` says. After the images, `EmptyPair` if they have no bytes.
+    /// `Memory` if memory can't be allocated.
     pub fn rows<'b>(&'b self, alloc: Global, table: &'b TableMapEvent<'b>) -> RowsEventRows<'b>
         ensures is_of { IsOf table.now self.now result }
         ensures left { result.left ≡ self.now.rows_data }

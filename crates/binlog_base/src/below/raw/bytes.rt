@@ -143,7 +143,7 @@ impl<'a, T: BytesRepr> RawBytes<'a, T> {
         self.text
     }
 
-    /// Returns the same string, with bytes of its own.
+    /// Returns the same string, with bytes of its own. The call fails where memory is refused.
     pub fn clone(&self, alloc: Global) -> Result<Self, AllocError>
         ensures { IfOk result (λ copy. copy ≡ self.now) }
     {

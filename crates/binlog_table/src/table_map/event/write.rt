@@ -66,7 +66,8 @@ impl<'a> TableMapEvent<'a> {
         write_bytes(self.optional_metadata.as_bytes(), buf)
     }
 
-    /// Returns the same event, with bytes of its own. Borrowed bytes are copied.
+    /// Returns the same event, with bytes of its own. Borrowed bytes are copied, and the call fails
+    /// where memory is refused.
     pub fn into_owned(self, alloc: Global) -> Result<TableMapEvent<'static>, AllocError>
         ensures { IfOk result (λ owned. owned ≡ self.entry) }
     {
@@ -83,7 +84,7 @@ impl<'a> TableMapEvent<'a> {
         })
     }
 
-    /// Returns a copy of the event, with bytes of its own.
+    /// Returns a copy of the event, with bytes of its own. The call fails where memory is refused.
     pub fn clone(&self, alloc: Global) -> Result<Self, AllocError>
         ensures { IfOk result (λ copy. copy ≡ self.now) }
     {

@@ -63,6 +63,8 @@ impl<'a> DefaultCharset<'a> {
     }
 }
 
+/// The default is read, and what follows it is the list, whatever its bytes are. `BadLenEnc` where the
+/// default isn't a length-encoded number, and `UnexpectedEof` where it isn't all there.
 impl<'de> MyDeserialize<'de> for DefaultCharset<'de> {
     ghost Seen = { Spec.DefaultCharset };
 
@@ -137,6 +139,8 @@ impl NonDefaultCharset {
     }
 }
 
+/// `BadLenEnc` where one of the two isn't a length-encoded number, and `UnexpectedEof` where one isn't
+/// all there.
 impl<'de> MyDeserialize<'de> for NonDefaultCharset {
     ghost Seen = { ℕ × ℕ };
 

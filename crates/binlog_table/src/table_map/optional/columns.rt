@@ -5,7 +5,8 @@ ghost use Rattle.std.specs.Option.{option_map};
 ghost use Rattle.std.specs.Iterator.{YieldsFirstBy, item_count};
 ghost use Rattle.binlog_base.specs.Items.{items, result_map};
 ghost use Rattle.binlog_base.specs.Strings.{lenenc_string};
-ghost use Rattle.binlog_base.specs.ColumnTypes.{is_character, is_enum_or_set};
+ghost use Rattle.binlog_base.specs.declared.below.columns.column_type.ColumnType.TheVariants.{MYSQL_TYPE_JSON};
+ghost use Rattle.binlog_base.specs.ColumnTypes.{column_number, is_character, is_enum_or_set};
 ghost use Rattle.binlog_table.specs.ColumnTypes.{raw_type_of, real_type_of};
 ghost use Rattle.binlog_table.specs.Fields.{is_numeric_number, fields};
 ghost use Rattle.binlog_table.specs.CharsetsLeft.{row_charset};
@@ -122,7 +123,7 @@ fn next_charset(
 
 // How many JSON columns a column of this raw type is.
 fn json_columns(raw: u8) -> usize
-    ensures { result ≡ if raw == 245 then 1 else 0 }
+    ensures { result ≡ if raw == column_number MYSQL_TYPE_JSON then 1 else 0 }
 {
     if raw == ColumnType::MYSQL_TYPE_JSON as u8 {
         1

@@ -4,7 +4,7 @@ ghost use Rattle.std.specs.Prelude.{◌≡◌, ◌+◌, length, IfOk, IfErr, Non
 ghost use Rattle.binlog_base.specs.Items.{items, before_fault, first_fault};
 ghost use Rattle.binlog_base.specs.Numbers.{lenenc};
 ghost use Rattle.binlog_table.specs.Lists.{pair_with, Spends};
-ghost use Rattle.binlog_table.specs.KeysLeft.{keys_left};
+ghost use Rattle.binlog_table.specs.Keys.{key_items};
 ghost use Rattle.binlog_table.specs.Extracted.{list_or, pair_bytes, IsStart};
 ghost use Rattle.binlog_table.specs.Fields.{fields as fields_in, kept};
 
@@ -171,7 +171,7 @@ impl<'a> OptionalMetaExtractor<'a> {
         ensures spends { Spends 0
             (length (list_or self.now.simple) + length (list_or self.now.prefixed))
             result.taken result.room }
-        ensures keys { result.keys ≡ keys_left None
+        ensures keys { result.keys ≡ key_items
             (items lenenc (list_or self.now.simple))
             (items (pair_with lenenc) (list_or self.now.prefixed)) }
     {

@@ -3,6 +3,7 @@
 ghost use Rattle.std.specs.Prelude.{◌≡◌, ◌<◌, ◌+◌, ◌++◌, ◌^◌, length, ℕ, suc, [], OnOk, None, option_map};
 ghost use Rattle.std.specs.Iterator.{YieldsFirst, item_count};
 ghost use Rattle.binlog_base.specs.Items.{items};
+ghost use Rattle.binlog_table.specs.Keys.{key_items};
 ghost use Rattle.binlog_table.specs.KeysLeft.{keys_left, head_of, next_if, key_from};
 ghost use Rattle.binlog_base.specs.Numbers.{lenenc, lenenc_bytes};
 ghost use Rattle.binlog_base.specs.Lemmas.Numbers.{exact_lenenc};
@@ -57,6 +58,8 @@ impl PrimaryKeyWithPrefix {
     }
 }
 
+/// `BadLenEnc` where one of the two isn't a length-encoded number, and `UnexpectedEof` where one isn't
+/// all there.
 impl<'de> MyDeserialize<'de> for PrimaryKeyWithPrefix {
     ghost Seen = { ℕ × ℕ };
 
@@ -120,7 +123,7 @@ impl<'a> Model for IterPrimaryKey<'a> {
 // Takes the first item of two lists, of the second one where the first is at its end.
 fn first_of(simple: &mut IterIndexes<'_>, prefixed: &mut IterKeys<'_>) -> Option<Result<u64, Fault>>
     ensures keys { keys_left result (items lenenc simple.new.bytes) (items (pair_with lenenc) prefixed.new.bytes)
-        ≡ keys_left None (items lenenc simple.old.bytes) (items (pair_with lenenc) prefixed.old.bytes) }
+        ≡ key_items (items lenenc simple.old.bytes) (items (pair_with lenenc) prefixed.old.bytes) }
     ensures none { result ≡ None
         → (items lenenc simple.new.bytes ≡ []) × (items (pair_with lenenc) prefixed.new.bytes ≡ []) }
     ensures spends { Spends
@@ -140,7 +143,7 @@ fn first_of(simple: &mut IterIndexes<'_>, prefixed: &mut IterKeys<'_>) -> Option
 impl<'a> IterPrimaryKey<'a> {
     /// Returns the items of these two lists.
     pub(super) fn new(simple: IterIndexes<'a>, prefixed: IterKeys<'a>) -> Self
-        ensures keys { result.keys ≡ keys_left None
+        ensures keys { result.keys ≡ key_items
             (items lenenc simple.entry.bytes) (items (pair_with lenenc) prefixed.entry.bytes) }
         ensures spends { Spends
             (simple.entry.taken + prefixed.entry.taken)

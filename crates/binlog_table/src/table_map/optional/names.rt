@@ -68,6 +68,8 @@ impl<'a> ColumnName<'a> {
     }
 }
 
+/// `BadLenEnc` where the length isn't valid, and `UnexpectedEof` where the length or the bytes aren't
+/// all there.
 impl<'de> MyDeserialize<'de> for ColumnName<'de> {
     ghost use Rattle.std.specs.Prelude.{List, ℕ};
 

@@ -72,6 +72,8 @@ impl<'a> StrValue<'a> {
     }
 }
 
+/// `BadLenEnc` where the length isn't valid, and `UnexpectedEof` where the length or the bytes aren't
+/// all there.
 impl<'de> MyDeserialize<'de> for StrValue<'de> {
     ghost Seen = { List ℕ };
 
@@ -167,7 +169,9 @@ fn read_values<'a>(
 }
 
 /// Values are read with the allocator that their list takes memory from. Memory is taken value by
-/// value, and never by the count.
+/// value, and never by the count. `BadLenEnc` where the count or a length isn't a length-encoded
+/// number, `UnexpectedEof` where they or the bytes of a value aren't all there, and `Memory` where
+/// memory is refused.
 impl<'de> MyDeserialize<'de> for StrValues<'de> {
     ghost Seen = { List (List ℕ) };
 

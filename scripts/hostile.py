@@ -8,9 +8,10 @@ Some inputs are intact, and must end with status 0 and all their pairs. The othe
 lengths, or with bytes that were taken out or put in.
 
 Of every input it checks: the status is 0, 1 or 2, and no signal ended the program; it took at most 2 seconds and 256 MiB; every line has a
-form of docs/PROGRAM.md; there is at most one fault line, the last, exactly with status 1; there are at most as many lines of pairs as the rows
-data has bytes. It prints each input that breaks one of these, and then how many inputs ended with each status; its own status is 1 where one
-broke, and 2 where there is no program. Build the program with `rt run` in crates/rows first.
+form of docs/PROGRAM.md; there is at most one fault line, the last, exactly with status 1, and it isn't `Memory`; there are at most as many
+lines of pairs as the rows data has bytes, so with the fault at most one line more. Where the rows event is cut before its rows data, this has
+no bytes. The script prints each input that breaks one of these, and then how many inputs ended with each status; its own status is 1 where
+one broke, and 2 where there is no program. Build the program with `rt run` in crates/rows first.
 """
 import os
 import random
@@ -36,14 +37,14 @@ IMAGE = rb"(?:-|\{(?:" + PLACE + rb"(?:, " + PLACE + rb")*)?\})"
 PAIR = re.compile(IMAGE + b" -> " + IMAGE)
 FAULT = re.compile(
     rb"fault (?:UnexpectedEof|BadLenEnc|BytesRemaining|Unhandled|BadVarLen|NoColumnType|MissingMetadata|UnknownEnum|UnknownBlob|DecimalScale"
-    rb"|DecimalGroup|TimeRange|YearRange|EmptyPair|Memory|Jsonb\([A-Za-z]+\)"
+    rb"|DecimalGroup|TimeRange|YearRange|EmptyPair|Jsonb\([A-Za-z]+\)"
     rb"|(?:UnknownOptionalField|UnknownJsonbType|UnknownLiteralType|UnknownJsonDiffOperation|UnknownColumnType|UnexpectedColumnType)\([0-9]+\))"
 )
 
 # The types of rows events: writes, updates, deletes, and the partial update.
 WRITES, UPDATES, DELETES, PARTIAL = (0x17, 0x1E), (0x18, 0x1F), (0x19, 0x20), 0x27
-NUMERIC = {0, 1, 2, 3, 4, 5, 8, 9, 246}
-JSON = 245
+NUMERIC = {1, 2, 3, 4, 5, 8, 9, 246}
+ENUM, SET, STRING, JSON = 247, 248, 254, 245
 
 
 def little(number, size):
@@ -93,6 +94,8 @@ def json_value(r, depth):
         return json_scalar(r)
     if r.random() < 0.05:
         return deep(r.randint(1, 120))
+    if r.random() < 0.15:
+        return overlapping(r, depth)
     values = [json_value(r, depth - 1) for _ in range(r.randint(0, 4))]
     if values and r.random() < 0.2:
         values += [r.choice(values)] * r.randint(1, 30)
@@ -129,6 +132,26 @@ def deep(count):
     return kind, value
 
 
+def overlapping(r, depth):
+    """A container of a string, of a value that lies inside the string's bytes, and of numbers that lie over entries, over the string and over each
+    other. If it is an object, its keys lie anywhere."""
+    kind, inner = json_value(r, depth - 1)
+    if kind in (4, 5, 6) or len(inner) > 9000:
+        kind, inner = 9, r.randbytes(8)
+    count, is_array = r.randint(3, 6), r.random() < 0.5
+    first = 4 if is_array else 4 + 4 * count
+    head = first + 3 * count
+    outer = var_text(inner)
+    size = head + len(outer) + 8
+    values = [(12, head), (kind, head + len(outer) - len(inner))]
+    for place in range(2, count):
+        after = first + 3 * place + 3
+        values.append((r.randint(7, 11), r.randint(after, r.choice([head, size - 8]))))
+    entries = b"" if is_array else b"".join(little(r.randint(head, size - 3), 2) + little(r.randint(0, 3), 2) for _ in values)
+    entries += b"".join(bytes([kind]) + little(at, 2) for kind, at in values)
+    return 2 if is_array else 0, little(count, 2) + little(size, 2) + entries + outer + r.randbytes(8)
+
+
 def json_cell(r):
     document = json_value(r, 3)
     cell = bytes([document[0]]) + document[1] + text(r, r.choice([0, 0, 9])) if r.random() < 0.95 else b""
@@ -146,7 +169,7 @@ def diffs_cell(r):
     return little(len(cell), 4) + cell
 
 
-# Columns. Each maker gives a type byte, its metadata, and how a cell is made.
+# Columns. Each maker gives a type byte, its metadata, and how a cell is made: None where only NULL can be one.
 
 
 def fixed(kind, size):
@@ -168,8 +191,8 @@ def texts(kind):
 
 def string(r):
     most = r.choice([30, 255, 260, 1000])
-    first = 254 ^ (most >> 8 & 3) << 4
-    return 254, bytes([first, most % 256]), lambda: with_length(text(r, 25), 1 if most < 256 else 2)
+    first = STRING ^ (most >> 8 & 3) << 4
+    return STRING, bytes([first, most % 256]), lambda: with_length(text(r, 25), 1 if most < 256 else 2)
 
 
 def blob(kind):
@@ -180,14 +203,18 @@ def blob(kind):
     return make
 
 
-def enum(r):
-    size = r.randint(1, 2)
-    return 254, bytes([247, size]), lambda: r.randbytes(size)
+def variant(kind, most):
+    """An ENUM or a SET: as a server writes it, with the type byte of a STRING, or with its own."""
+
+    def make(r):
+        size = r.randint(1, most)
+        return r.choice([STRING, kind]), bytes([kind, size]), lambda: r.randbytes(size)
+
+    return make
 
 
-def set_of(r):
-    size = r.randint(1, 8)
-    return 254, bytes([248, size]), lambda: r.randbytes(size)
+def without_cells(kind):
+    return lambda r: (kind, b"", None)
 
 
 def bit(r):
@@ -241,10 +268,11 @@ def json(r):
     return JSON, b"\4", lambda: json_cell(r)
 
 
-# The types without cells, and numbers that are no types.
-STRANGE = [0, 6, 243, 21, 100, 244, 14, 247, 248]
-MAKERS = [fixed(kind, size) for kind, size in ((1, 1), (2, 2), (3, 4), (4, 4), (5, 8), (7, 4), (8, 8), (9, 3), (10, 3), (11, 3), (13, 1))]
-MAKERS += [texts(15), texts(253), string, enum, set_of, bit, decimal, old_datetime, typed_array, json, json, json]
+# The types whose cells have no format, numbers that are no types, and types that a server never writes as a type byte.
+CELL_LESS, UNKNOWN, UNUSUAL = [0, 6, 243], [21, 100, 244], [14, ENUM, SET]
+FIXED = ((1, 1), (2, 2), (3, 4), (4, 4), (5, 8), (7, 4), (8, 8), (9, 3), (10, 3), (11, 3), (13, 1), (14, 3))
+MAKERS = [fixed(kind, size) for kind, size in FIXED] + [without_cells(kind) for kind in CELL_LESS]
+MAKERS += [texts(15), texts(253), string, variant(ENUM, 2), variant(SET, 8), bit, decimal, old_datetime, typed_array, json, json, json]
 MAKERS += [blob(kind) for kind in (249, 250, 251, 252, 255, 242)] + [with_fraction(17, 4), with_fraction(18, 5), with_fraction(19, 3)]
 
 
@@ -252,46 +280,95 @@ def field(kind, value):
     return bytes([kind]) + lenenc(len(value)) + value
 
 
-def optional_metadata(r, kinds):
-    """Optional metadata for columns of these types, each field there or not."""
-    numeric = [kind in NUMERIC for kind in kinds].count(True)
-    characters = [kind in (15, 253, 254, 249, 250, 251, 252) for kind in kinds].count(True)
-    names = b"".join(with_length(bytes(r.choices(b"abcxyz_ 19\xc3\xa9", k=r.randint(0, 9))), 1) for _ in kinds)
-    some = [place for place in range(len(kinds)) if r.random() < 0.3]
-    charsets = b"".join(lenenc(r.choice([8, 33, 63, 255, 300])) for _ in range(characters))
+def numbers(values):
+    return b"".join(lenenc(value) for value in values)
+
+
+def variants(r):
+    """The names of the variants of an ENUM or a SET."""
+    names = [text(r, 5) for _ in range(r.randint(0, 4))]
+    return lenenc(len(names)) + b"".join(lenenc(len(name)) + name for name in names)
+
+
+def charsets(r, default, listed, count):
+    """The fields of these two kinds, for so many columns: a default with pairs, and a list."""
+    pairs = [number for place in range(count) if r.random() < 0.4 for number in (place, 63)]
+    return [field(default, numbers([255] + pairs)), field(listed, numbers(r.choice([8, 33, 63, 255, 300]) for _ in range(count)))]
+
+
+def optional_metadata(r, columns):
+    """Optional metadata for these columns: each field there or not, in any order."""
+    kinds = [column[0] for column in columns]
+    real = [metadata[0] if kind == STRING and metadata[0] in (ENUM, SET) else kind for kind, metadata, _ in columns]
+    names = b"".join(with_length(bytes(r.choices(b"abcxyz_ 19\xc3\xa9", k=r.randint(0, 9))), 1) for _ in columns)
+    keys = [place for place in range(len(columns)) if r.random() < 0.3]
     fields = [
-        field(1, bits([r.random() < 0.5 for _ in range(numeric)], last_first=True)),
-        field(2, lenenc(255) + b"".join(lenenc(place) + lenenc(63) for place in range(0, characters, 2))),
-        field(3, charsets),
+        field(1, bits([r.random() < 0.5 for kind in kinds if kind in NUMERIC], last_first=True)),
         field(4, names),
-        field(8, b"".join(lenenc(place) for place in some)),
-        field(9, b"".join(lenenc(place) + b"\0" for place in some)),
-        field(5, b"\2\1a\1b"),
-        field(12, bits([r.random() < 0.9 for _ in kinds], last_first=True)),
+        field(5, b"".join(variants(r) for kind in real if kind == SET)),
+        field(6, b"".join(variants(r) for kind in real if kind == ENUM)),
+        field(7, numbers(r.randint(0, 8) for kind in real if kind == 255)),
+        field(8, numbers(keys)),
+        field(9, numbers(number for place in keys for number in (place, r.choice([0, 3, 700])))),
+        field(12, bits([r.random() < 0.9 for _ in columns], last_first=True)),
+        field(13, numbers(r.choice([2, 2048]) for kind in real if kind == 242)),
     ]
-    return b"".join(value for value in fields if r.random() < 0.5)
+    fields += charsets(r, 2, 3, sum(kind in (15, 252, 253, STRING) for kind in real))
+    fields += charsets(r, 10, 11, sum(kind in (ENUM, SET) for kind in real))
+    chosen = [value for value in fields if r.random() < 0.5]
+    r.shuffle(chosen)
+    return b"".join(chosen)
+
+
+# The two events. `lengths` are the three post-header lengths: of table map events, of the rows event, and of WRITE_ROWS_EVENT.
+
+
+def post_header_lengths(r, event_type):
+    """Mostly those of a server. With 6 an event has a table id of four bytes."""
+    own = 8 if event_type < 0x1A else 10
+    return r.choice([8, 8, 8, 6]), r.choice([own, own, own, 6]), r.choice([10, 10, 10, 10, 8, 6])
+
+
+def id_size(length):
+    return 4 if length == 6 else 6
+
+
+def table_id(r, length):
+    return r.randbytes(id_size(length)) + b"\1\0"
+
+
+def image_count(event_type):
+    return 2 if event_type in UPDATES or event_type == PARTIAL else 1
+
+
+def table_map(r, length, columns):
+    metadata = b"".join(column[1] for column in columns)
+    table = table_id(r, length) + b"\1d\0\1t\0" + lenenc(len(columns)) + bytes(column[0] for column in columns)
+    table += lenenc(len(metadata)) + metadata + r.randbytes((len(columns) + 7) // 8)
+    return table + optional_metadata(r, columns) if r.random() < 0.7 else table
+
+
+def extra_data(r):
+    """A number of two bytes that counts itself, and the bytes after it; 0 and 1 are read as 2."""
+    count = r.choice([2, 2, 2, 0, 1, 3, r.randint(4, 40), 300])
+    return little(count, 2) + r.randbytes(max(count - 2, 0))
 
 
 def events(r):
-    """A table map event, and the type, bytes and count of pairs of a rows event of its table."""
+    """The post-header lengths, a table map event, and the type, the bytes and the count of pairs of a rows event of its table."""
     count = r.choice([0, 1, 1, 2, 3, 4, 6, 9, 20, 300]) if r.random() < 0.9 else r.randint(0, 40)
     columns = [r.choice(MAKERS)(r) for _ in range(count)]
-    kinds = [column[0] for column in columns]
-    metadata = b"".join(column[1] for column in columns)
-    table = little(r.getrandbits(48), 6) + b"\1\0\1d\0\1t\0" + lenenc(count) + bytes(kinds) + lenenc(len(metadata)) + metadata
-    table += r.randbytes((count + 7) // 8)
-    if r.random() < 0.6:
-        table += optional_metadata(r, kinds)
     event_type = r.choice(WRITES + UPDATES + DELETES + (PARTIAL, PARTIAL))
-    is_version_1 = event_type < 0x1A
-    images = [[r.random() < 0.8 for _ in columns] for _ in range(1 + (event_type in UPDATES or event_type == PARTIAL))]
+    lengths = post_header_lengths(r, event_type)
+    table = table_map(r, lengths[0], columns)
+    images = [[r.random() < 0.8 for _ in columns] for _ in range(image_count(event_type))]
     data, pairs = b"", 0
     for _ in range(r.randint(0, 6) if count else 0):
         if len(data) < ENOUGH_BYTES:
             data += pair(r, event_type, columns, images)
             pairs += 1
-    rows = little(r.getrandbits(48), 6) + b"\1\0" + (b"" if is_version_1 else b"\2\0") + lenenc(count) + b"".join(map(bits, images)) + data
-    return table, event_type, rows, len(data), pairs if data else 0
+    rows = table_id(r, lengths[1]) + (extra_data(r) if lengths[1] == lengths[2] else b"") + lenenc(count) + b"".join(map(bits, images)) + data
+    return lengths, table, event_type, rows, pairs if data else 0
 
 
 def pair(r, event_type, columns, images):
@@ -309,7 +386,7 @@ def pair(r, event_type, columns, images):
                 for place, flag in zip(raw, flags):
                     partial[place] = flag
         cells = [place for place, is_there in enumerate(image) if is_there]
-        nulls = [r.random() < 0.2 for _ in cells]
+        nulls = [columns[place][2] is None or r.random() < 0.2 for place in cells]
         data += bits(nulls)
         for place, is_null in zip(cells, nulls):
             if not is_null:
@@ -317,35 +394,77 @@ def pair(r, event_type, columns, images):
     return data
 
 
+# Bytes that damage puts in.
+PUT_IN = [0, 1, 0xFA, 0xFB, 0xFC, 0xFD, 0xFE, 0xFF] + CELL_LESS + UNKNOWN + UNUSUAL
+
+
 def damage(r, data):
-    """The bytes with one to four things wrong."""
+    """The bytes with one to four things wrong, a third of them near the start, where the counts are."""
     data = bytearray(data)
-    for _ in range(r.randint(1, 4)):
-        place = r.randrange(len(data) + 1)
-        way = r.randrange(6)
+    for _ in range(r.choice([1, 1, 2, 4])):
+        place = r.randrange(min(len(data), r.choice([30, MOST_BYTES, MOST_BYTES])) + 1)
+        way = r.randrange(12)
         if way == 0:
-            del data[place:]
+            del data[r.randrange(len(data) + 1) :]
         elif way == 1:
             del data[place : place + r.randint(1, 4)]
         elif way == 2:
             data[place:place] = r.randbytes(r.randint(1, 9))
+        elif way == 3:
+            data += r.randbytes(r.randint(1, 40))
         elif place < len(data):
-            data[place] = data[place] ^ 1 << r.randrange(8) if way < 5 else r.choice([0, 1, 0xFA, 0xFB, 0xFC, 0xFD, 0xFE, 0xFF] + STRANGE)
+            data[place] = data[place] ^ 1 << r.randrange(8) if way < 9 else r.choice(PUT_IN)
     return bytes(data)
 
 
-def without_line_ends(table):
-    """The table map event with no byte 0A and no `=` in its optional metadata: a name with one of these would look like two lines or names."""
+# What the script reads of damaged events. IndexError says that a part can't be read.
+
+
+def take_lenenc(data, at):
+    """A length-encoded number and the place after it."""
+    size = {0xFC: 2, 0xFD: 3, 0xFE: 8}.get(data[at], 0)
+    end = at + 1 + size
+    if data[at] in (0xFB, 0xFF) or end > len(data):
+        raise IndexError
+    return int.from_bytes(data[at + 1 : end], "little") if size else data[at], end
+
+
+def rows_data_len(rows, event_type, lengths):
+    """How many bytes of rows data the event has; none if it ends before them."""
     try:
-        at = 8
-        at += table[at] + 2
-        at += table[at] + 2
-        count, at = table[at] if table[at] < 251 else table[at + 1] + 256 * table[at + 2], at + (1 if table[at] < 251 else 3)
-        at += count
-        at += (1 + table[at] if table[at] < 251 else 3 + table[at + 1] + 256 * table[at + 2]) + (count + 7) // 8
+        at = id_size(lengths[1]) + 2
+        if lengths[1] == lengths[2]:
+            at += max(rows[at] + 256 * rows[at + 1], 2)
+        count, at = take_lenenc(rows, at)
     except IndexError:
-        return table
-    return table[:at] + table[at:].replace(b"\n", b"\x0b").replace(b"=", b"-")
+        return 0
+    return max(len(rows) - at - image_count(event_type) * ((count + 7) // 8), 0)
+
+
+def optional_place(table, length):
+    """Where the optional metadata begins."""
+    at = id_size(length) + 2
+    at += table[at] + 2
+    at += table[at] + 2
+    count, at = take_lenenc(table, at)
+    metadata_len, at = take_lenenc(table, at + count)
+    return at + metadata_len + (count + 7) // 8
+
+
+def without_line_ends(table, length):
+    """The table map event with no byte 0A and no `=` in the names of its columns: a name with one of these would look like two lines or names."""
+    table = bytearray(table)
+    try:
+        at = optional_place(table, length)
+        while at < len(table):
+            kind = table[at]
+            value_len, at = take_lenenc(table, at + 1)
+            if kind == 4:
+                table[at : at + value_len] = table[at : at + value_len].replace(b"\n", b"\x0b").replace(b"=", b"-")
+            at += value_len
+    except IndexError:
+        pass
+    return bytes(table)
 
 
 def run(words):
@@ -367,6 +486,8 @@ def wrong(status, out, seconds, data_len, pairs):
     lines = out.split(b"\n")
     if lines.pop() != b"":
         return "the last line has no end"
+    if b"fault Memory" in lines:
+        return "a request for memory failed"
     if (status == 1) != bool(lines and FAULT.fullmatch(lines[-1])) or (status == 2 and lines):
         return f"status {status} with these lines"
     if status == 1:
@@ -381,22 +502,18 @@ def wrong(status, out, seconds, data_len, pairs):
 
 
 def make(seed, number):
-    """The words of an input, the most bytes that its rows data can have, and the count of its pairs if it is intact."""
+    """The words of an input, the bytes of its rows data, and the count of its pairs if it is intact."""
     r = random.Random(f"{seed} {number}")
-    table, event_type, rows, data_len, pairs = events(r)
-    kind = r.randrange(4)
-    if kind in (1, 3):
-        table = damage(r, table)
-    if kind in (2, 3):
+    lengths, table, event_type, rows, pairs = events(r)
+    way = r.randrange(4)
+    if way in (1, 3):
+        table = without_line_ends(damage(r, table), lengths[0])
+    if way in (2, 3):
         rows = damage(r, rows)
-    safe = without_line_ends(table)
-    if kind or len(rows) > MOST_BYTES:
-        rows, data_len, pairs = rows[:MOST_BYTES], len(rows), None
-    elif safe != table:
-        pairs = None
-    header = 8 if event_type < 0x1A else 10
-    words = ["8", f"{event_type:02X}", str(header), "10", safe.hex(), rows.hex()]
-    return words, data_len, pairs
+    if way or len(rows) > MOST_BYTES:
+        rows, pairs = rows[:MOST_BYTES], None
+    words = [str(lengths[0]), f"{event_type:02X}", str(lengths[1]), str(lengths[2]), table.hex(), rows.hex()]
+    return words, rows_data_len(rows, event_type, lengths), pairs
 
 
 def main():
@@ -426,5 +543,5 @@ def main():
     sys.exit(1 if broken else 0)
 
 
-
-main()
+if __name__ == "__main__":
+    main()

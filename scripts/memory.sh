@@ -7,7 +7,8 @@
 # (`rt test` and `rt run` in crates/rows build them too). A test runs with its request 1, 2, .. refused, until a run
 # makes fewer requests; that run must pass. In each run before it the call that was refused memory must say so: the test ends with its error.
 # The requests that the program makes before it decodes are refused as `fault Memory` too. So no run ends with an answer in place of a refusal.
-# The tests whose names begin with `nothing` make no more requests than the test `nothing`, which is empty.
+# The tests whose names begin with `nothing` make no more requests than the test `nothing`, which is empty. Every other run makes more: a test more
+# than that one, and the program more than without words.
 # The status is 0 if all of this holds, 1 if it doesn't, and 2 if a program or `cc` isn't there.
 set -eu
 here=$(cd "$(dirname "$0")/.." && pwd)
@@ -37,6 +38,7 @@ run() {
     status=0
     FAIL_AT=$1 FAIL_SHOW=1 LD_PRELOAD=$folder/refuse.so "${@:2}" >"$folder/out" 2>"$folder/err" || status=$?
     requests=$(sed -n 's/^requests //p' "$folder/err")
+    [ -n "$requests" ] || fail "${*:2} told no count of its requests: status $status, $(cat "$folder/out" "$folder/err")"
 }
 
 # Whether the run ended as one that was refused memory: a test with the error, the program with the line of the fault and no other.
@@ -48,7 +50,8 @@ was_refused() {
     fi
 }
 
-# Runs a command with each of its requests refused. The last run, which makes fewer, must end with status 0 and print the file `wanted`, if given.
+# Runs a command with each of its requests refused, more than `least`. The last run, which makes fewer, must end with status 0 and print the
+# text that is given first, if it isn't empty.
 each_request() {
     local number=1
     while run "$number" "${@:2}" && [ "$requests" -ge "$number" ]; do
@@ -57,12 +60,18 @@ each_request() {
     done
     [ "$status" -eq 0 ] || fail "${*:2}: status $status, $(cat "$folder/out" "$folder/err")"
     [ -z "$1" ] || [ "$(cat "$folder/out")" = "$1" ] || fail "${*:2} printed $(cat "$folder/out")"
+    [ "$requests" -gt "$least" ] || fail "${*:2} makes no request of its own"
     count=$((count + number - 1))
 }
 
 count=0
-names=$("$tests" --list | sed -n 's/^\(tests::memory::[a-z_]*\): test$/\1/p')
+"$tests" --list >"$folder/list"
+names=$(sed -n 's/^\(tests::memory::[A-Za-z0-9_]*\): test$/\1/p' "$folder/list")
 [ -n "$names" ] || fail "there are no tests of the module memory"
+[ "$(wc -l <<<"$names")" -eq "$(grep -c '^tests::memory::' "$folder/list")" ] || fail "a test of the module memory has another name than expected"
+for name in nothing two_decimals two_decimals_compared; do
+    grep -qx "tests::memory::$name" <<<"$names" || fail "there is no test $name"
+done
 run 0 "$tests" tests::memory::nothing
 least=$requests
 for name in $names; do
@@ -74,11 +83,14 @@ for name in $names; do
 done
 run 0 "$tests" tests::memory::two_decimals
 made=$requests
+[ "$status" -eq 0 ] || fail "two_decimals: status $status"
 run 0 "$tests" tests::memory::two_decimals_compared
-[ "$requests" -eq "$made" ] || fail "comparing two decimals makes $((requests - made)) requests"
+[ "$status" -eq 0 ] && [ "$requests" -eq "$made" ] || fail "comparing two decimals: status $status, $((requests - made)) requests"
 
 # Two inserted rows, an update with other columns in each image, and a partial update of a JSON document.
 table=010000000000010001640001740002030F020A0002
+run 0 "$program"
+least=$requests
 each_request '- -> {@0=42, @1=x6162}
 - -> {@0=-1, @1=NULL}' "$program" 8 1E 10 10 $table 010000000000010002000203002A00000002616202FFFFFFFF
 each_request '{@0=7} -> {@1=NULL}' "$program" 8 1F 10 10 $table 01000000000001000200020102000700000001

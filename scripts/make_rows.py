@@ -6,7 +6,8 @@ usage: scripts/make_rows.py COLUMNS COUNT [full]
 With `full`, the table map event has signs, character sets, names and a key as optional metadata; else it has none.
 
 COLUMNS are letters, one a column: b LONGLONG, i LONG, v VARCHAR(80), t DATETIME2(0), n NEWDECIMAL(12,2), y TINY, d DOUBLE, x BLOB with a
-length in two bytes, e ENUM in one byte. `all` stands for bivvtnydxe. The values are the same for each run; about one in ten is NULL.
+length in two bytes, e ENUM in one byte. `all` stands for bivvtnydxe. The values are the same for each run; about one in ten is NULL. N is as n,
+but no value is NULL.
 """
 import sys
 
@@ -58,6 +59,7 @@ COLUMNS = {
     "v": (15, b"\x50\x00", short_text),
     "t": (18, b"\x00", datetime),
     "n": (246, b"\x0c\x02", lambda r: decimal(next(r) * 251 - 2**39)),
+    "N": (246, b"\x0c\x02", lambda r: decimal(next(r) * 251 - 2**39)),
     "y": (1, b"", lambda r: bytes([next(r) % 256])),
     "d": (5, b"\x08", lambda r: (next(r) << 32 | next(r)).to_bytes(8, "little")),
     "x": (252, b"\x02", long_text),
@@ -72,7 +74,7 @@ def field(kind, value):
 
 def optional_metadata(letters):
     """Signs (the first numeric column is unsigned), character sets (255, and 63 for a BLOB), names and a key of the first column."""
-    numeric = sum(letter in "binyd" for letter in letters)
+    numeric = sum(letter in "binNyd" for letter in letters)
     signs = bytes([0x80]) + bytes((numeric - 1) // 8) if numeric else b""
     group = [letter for letter in letters if letter in "vx"]
     charsets = b"\xfc\xff\x00" + b"".join(bytes([place, 63]) for place, letter in enumerate(group) if letter == "x")
@@ -96,11 +98,11 @@ def main():
     random = numbers()
     for _ in range(int(sys.argv[2])):
         nulls, cells = 0, b""
-        for place, column in enumerate(columns):
-            if next(random) % 10 == 0:
+        for place, letter in enumerate(letters):
+            if next(random) % 10 == 0 and letter != "N":
                 nulls |= 1 << place
             else:
-                cells += column[2](random)
+                cells += COLUMNS[letter][2](random)
         rows += nulls.to_bytes(bitmap_len, "little") + cells
     print("8", "1E", "10", "10", table.hex(), rows.hex(), sep="\n")
 

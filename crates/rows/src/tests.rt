@@ -27,12 +27,19 @@ use mysql_binlog_rows::row::BinlogRow;
 use mysql_binlog_rows::rows_event::{Decoded, RowPair, RowsEvent, RowsEventCtx, decode_pairs};
 use mysql_binlog_rows::value::BinlogValue;
 use std::alloc::{AllocError, Global};
+use std::fmt::{Display, InlineText, Write};
 use std::rc::RcSlice;
 use std::test::Fail;
 
 /// Whether all of the checks hold. One call costs less to prove than an assertion for each.
 pub(crate) fn all(checks: &[bool]) -> bool {
     checks.iter().all(|check| *check)
+}
+
+/// Whether this is the text of an error, which is written without memory.
+pub(crate) fn has_text(error: &impl Display, text: &str) -> bool {
+    let mut room = InlineText::<128>::new();
+    write!(room, "{error}").is_ok() && room.as_str() == text
 }
 
 /// Reads an event of this type, whose post-header has this length. The post-header length of

@@ -1,6 +1,6 @@
 //! Tests of numbers, byte strings, columns, rows, faults and lists of bits.
 
-use super::all;
+use super::{all, has_text};
 use binlog_base::below::{
     BareBytes, BeI16, BeI24, BeI32, BeU16, BeU24, BeU32, BeU40, BeU48, BytesRepr, Column,
     ColumnFlags, ColumnType, Const, EofBytes, Failed, GeometryType, I8, IntRepr, LeI16, LeI24,
@@ -11,6 +11,7 @@ use binlog_base::below::{
 use binlog_base::bits::{BitOrder, BitView, bitmap_len};
 use binlog_base::fault::{Fault, FaultKind, JsonbError};
 use binlog_base::laws;
+use binlog_table::table_map::BadColumnType;
 use std::alloc::{AllocError, Global};
 use std::borrow::CowSlice;
 use std::rc::RcSlice;
@@ -227,47 +228,169 @@ fn geometry_types_by_number(rt: HostRuntime) {
     }
 }
 
-/// Each fault with its kind, in the order of the numbers.
-const FAULTS: [(Fault, FaultKind); 28] = [
-    (Fault::UnexpectedEof, FaultKind::UnexpectedEof),
-    (Fault::BadLenEnc, FaultKind::Other),
-    (Fault::UnknownColumnType(244), FaultKind::InvalidData),
-    (Fault::UnexpectedColumnType(49), FaultKind::InvalidData),
-    (Fault::NoColumnType, FaultKind::InvalidData),
-    (Fault::MissingMetadata, FaultKind::InvalidData),
-    (Fault::UnknownEnum, FaultKind::InvalidData),
-    (Fault::UnknownBlob, FaultKind::InvalidData),
-    (Fault::Unhandled, FaultKind::InvalidData),
-    (Fault::DecimalScale, FaultKind::InvalidData),
-    (Fault::DecimalGroup, FaultKind::InvalidData),
-    (Fault::TimeRange, FaultKind::InvalidData),
-    (Fault::YearRange, FaultKind::InvalidData),
-    (Fault::UnknownOptionalField(14), FaultKind::InvalidData),
-    (Fault::BytesRemaining, FaultKind::Other),
-    (Fault::UnknownGeometryType(8), FaultKind::InvalidData),
+/// Each fault with its kind and its text, in the order of the numbers.
+const FAULTS: [(Fault, FaultKind, &str); 28] = [
+    (
+        Fault::UnexpectedEof,
+        FaultKind::UnexpectedEof,
+        "unexpected end of the bytes",
+    ),
+    (
+        Fault::BadLenEnc,
+        FaultKind::Other,
+        "not a length-encoded number",
+    ),
+    (
+        Fault::UnknownColumnType(244),
+        FaultKind::InvalidData,
+        "unknown column type 244",
+    ),
+    (
+        Fault::UnexpectedColumnType(49),
+        FaultKind::InvalidData,
+        "unexpected column type 49",
+    ),
+    (
+        Fault::NoColumnType,
+        FaultKind::InvalidData,
+        "a column without a type",
+    ),
+    (
+        Fault::MissingMetadata,
+        FaultKind::InvalidData,
+        "missing metadata",
+    ),
+    (
+        Fault::UnknownEnum,
+        FaultKind::InvalidData,
+        "unknown width of an enum",
+    ),
+    (
+        Fault::UnknownBlob,
+        FaultKind::InvalidData,
+        "unknown width of a blob's length",
+    ),
+    (Fault::Unhandled, FaultKind::InvalidData, "not supported"),
+    (
+        Fault::DecimalScale,
+        FaultKind::InvalidData,
+        "scale above precision",
+    ),
+    (
+        Fault::DecimalGroup,
+        FaultKind::InvalidData,
+        "digits out of range",
+    ),
+    (
+        Fault::TimeRange,
+        FaultKind::InvalidData,
+        "time out of range",
+    ),
+    (
+        Fault::YearRange,
+        FaultKind::InvalidData,
+        "year out of range",
+    ),
+    (
+        Fault::UnknownOptionalField(14),
+        FaultKind::InvalidData,
+        "unknown optional field 14",
+    ),
+    (Fault::BytesRemaining, FaultKind::Other, "bytes remain"),
+    (
+        Fault::UnknownGeometryType(8),
+        FaultKind::InvalidData,
+        "unknown geometry type 8",
+    ),
     (
         Fault::Jsonb(JsonbError::SizeOverflow),
         FaultKind::InvalidData,
+        "bad JSONB: the size is out of range",
     ),
-    (Fault::UnknownJsonbType(13), FaultKind::InvalidData),
-    (Fault::UnknownLiteralType(3), FaultKind::InvalidData),
-    (Fault::BadVarLen, FaultKind::InvalidData),
-    (Fault::InvalidUtf8, FaultKind::InvalidData),
-    (Fault::OpaqueTooShort, FaultKind::InvalidData),
-    (Fault::NestingTooDeep, FaultKind::InvalidData),
-    (Fault::TooManyValues, FaultKind::InvalidData),
-    (Fault::UnknownJsonDiffOperation(3), FaultKind::InvalidData),
-    (Fault::EmptyPair, FaultKind::InvalidData),
-    (Fault::Reader, FaultKind::Reader),
-    (Fault::Memory, FaultKind::Memory),
+    (
+        Fault::UnknownJsonbType(13),
+        FaultKind::InvalidData,
+        "unknown JSONB type 13",
+    ),
+    (
+        Fault::UnknownLiteralType(3),
+        FaultKind::InvalidData,
+        "unknown literal 3",
+    ),
+    (
+        Fault::BadVarLen,
+        FaultKind::InvalidData,
+        "bad variable length",
+    ),
+    (Fault::InvalidUtf8, FaultKind::InvalidData, "not UTF-8"),
+    (
+        Fault::OpaqueTooShort,
+        FaultKind::InvalidData,
+        "opaque value too short",
+    ),
+    (
+        Fault::NestingTooDeep,
+        FaultKind::InvalidData,
+        "nesting too deep",
+    ),
+    (
+        Fault::TooManyValues,
+        FaultKind::InvalidData,
+        "too many values",
+    ),
+    (
+        Fault::UnknownJsonDiffOperation(3),
+        FaultKind::InvalidData,
+        "unknown operation 3",
+    ),
+    (
+        Fault::EmptyPair,
+        FaultKind::InvalidData,
+        "a pair of no bytes",
+    ),
+    (
+        Fault::Reader,
+        FaultKind::Reader,
+        "the reader or writer failed",
+    ),
+    (Fault::Memory, FaultKind::Memory, "out of memory"),
 ];
 
 #[test]
 fn faults_by_number(rt: HostRuntime) {
-    for (i, (fault, kind)) in FAULTS.iter().enumerate() {
-        assert!(rt; usize::from(fault.number()) == i + 1);
-        assert!(rt; fault.kind() == *kind, "{fault}");
+    for (i, (fault, kind, text)) in FAULTS.iter().enumerate() {
+        assert!(rt;
+            all(&[
+                usize::from(fault.number()) == i + 1,
+                fault.kind() == *kind,
+                has_text(fault, *text),
+            ])
+        );
     }
+}
+
+#[test]
+fn texts_of_errors(rt: HostRuntime) {
+    assert!(rt;
+        all(&[
+            has_text(&UnknownColumnType(244), "unknown column type 244"),
+            has_text(&UnknownGeometryType(8), "unknown geometry type 8"),
+            has_text(
+                &BadColumnType::Unknown(UnknownColumnType(244)),
+                "unknown column type 244"
+            ),
+            has_text(&BadColumnType::Unexpected(49), "unexpected column type 49"),
+            has_text(
+                &JsonbError::InvalidKeyOffsetPointer,
+                "a key's offset is out of range"
+            ),
+            has_text(
+                &JsonbError::InvalidValueOffsetPointer,
+                "a value's offset is out of range"
+            ),
+            has_text(&JsonbError::SizeOverflow, "the size is out of range"),
+        ])
+    );
 }
 
 /// What a value is written as, after a byte that is there already.

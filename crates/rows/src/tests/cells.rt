@@ -1,11 +1,13 @@
 //! Tests of single cells.
 
-use super::all;
+use super::{all, has_text};
 use binlog_base::below::{ColumnType, ParseBuf, Value};
 use binlog_base::fault::Fault;
+use binlog_values::jsonb::{UnknownJsonbType, UnknownLiteralType};
+use binlog_values::jsondiff::UnknownJsonDiffOperation;
 use mysql_binlog_rows::laws::old_times_have_signs;
+use mysql_binlog_rows::row::{BinlogRowToRowError, UnknownBinlogRowValueOptions};
 use mysql_binlog_rows::value::{BinlogValue, BinlogValueToValueError, signed_old_time};
-use std::test::Fail;
 
 /// Reads a cell that takes all of the bytes.
 fn cell(
@@ -381,14 +383,39 @@ fn unhandled_types(rt: HostRuntime) {
 }
 
 #[test]
-fn texts_of_errors(rt: HostRuntime) -> Result<(), Fail> {
-    let json = BinlogValueToValueError::ToJson.to_string(rt.alloc())?;
-    let diffs = BinlogValueToValueError::JsonDiff.to_string(rt.alloc())?;
+fn texts_of_errors(rt: HostRuntime) {
+    let diffs = BinlogValueToValueError::JsonDiff;
     assert!(rt;
         all(&[
-            json.as_str() == "binary JSON is not a plain value",
-            diffs.as_str() == "JSON diffs are not a plain value",
+            has_text(
+                &BinlogValueToValueError::ToJson,
+                "binary JSON is not a plain value"
+            ),
+            has_text(&diffs, "JSON diffs are not a plain value"),
+            has_text(
+                &BinlogRowToRowError::NotPlain(2, diffs),
+                "the value at place 2 of a row can't be converted: JSON diffs are not a plain value"
+            ),
+            has_text(
+                &BinlogRowToRowError::Memory,
+                "no memory for the values of a row"
+            ),
+            has_text(
+                &UnknownBinlogRowValueOptions(2),
+                "no option of row values has number 2"
+            ),
+            has_text(
+                &UnknownJsonDiffOperation(3),
+                "no operation of a JSON diff has number 3"
+            ),
+            has_text(
+                &UnknownJsonbType(13),
+                "no type of binary JSON has number 13"
+            ),
+            has_text(
+                &UnknownLiteralType(3),
+                "no literal of binary JSON has number 3"
+            ),
         ])
     );
-    Ok(())
 }

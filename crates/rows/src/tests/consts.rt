@@ -1,6 +1,6 @@
 //! Tests of the constants and flags.
 
-use super::all;
+use super::{all, has_text};
 use binlog_consts::consts::{
     BinlogChecksumAlg, BinlogVersion, EventFlags, EventType, Flags, Gno, GtidFlags, IncidentType,
     IntvarEventType, InvalidGno, LoadDuplicateHandling, OptionalMetadataFieldType, RowsEventFlags,
@@ -418,6 +418,63 @@ fn numbers_of_variants(rt: HostRuntime) {
             u8::from(TransactionPayloadCompressionType::NONE) == 255,
             BinlogVersion::Version1 < BinlogVersion::Version2,
             BinlogVersion::Version4 > BinlogVersion::Version3,
+        ])
+    );
+}
+
+#[test]
+fn texts_of_errors(rt: HostRuntime) {
+    assert!(rt;
+        all(&[
+            has_text(&UnknownEventType(41), "no event type has number 41"),
+            has_text(&UnknownStatusVarKey(21), "no status variable has key 21"),
+            has_text(
+                &UnknownOptionalMetadataFieldType(14),
+                "no field of optional metadata has number 14"
+            ),
+            has_text(
+                &UnknownDuplicateHandling(3),
+                "no handling of duplicates has number 3"
+            ),
+            has_text(&UnknownIncidentType(2), "no incident has number 2"),
+            has_text(
+                &UnknownIntvarEventType(3),
+                "no kind of integer variable has number 3"
+            ),
+            has_text(
+                &UnknownTransactionPayloadFields(4),
+                "no field of a transaction payload has number 4"
+            ),
+            has_text(&UnknownBinlogVersion(2), "no binary log has version 2"),
+            has_text(&UnknownChecksumAlg(7), "no checksum algorithm has number 7"),
+        ])
+    );
+}
+
+#[test]
+fn texts_of_errors_of_flags(rt: HostRuntime) {
+    assert!(rt;
+        all(&[
+            has_text(
+                &UnknownTransactionPayloadCompressionType(1),
+                "no compression of a transaction payload has number 1"
+            ),
+            has_text(
+                &UnknownEventFlags(0x800),
+                "0x800 has a bit that no flag of an event has"
+            ),
+            has_text(
+                &UnknownSemiSyncFlags(2),
+                "0x2 has a bit that no flag of semi-synchronous replication has"
+            ),
+            has_text(
+                &UnknownGtidFlags(0x12),
+                "0x12 has a bit that no flag of a GTID event has"
+            ),
+            has_text(
+                &UnknownUserVarFlags(0xfe),
+                "0xfe has a bit that no flag of a user variable has"
+            ),
         ])
     );
 }

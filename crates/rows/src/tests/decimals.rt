@@ -164,6 +164,20 @@ fn decimals_are_packed(rt: HostRuntime) -> Result<(), Fail> {
 }
 
 #[test]
+fn short_decimals_are_packed(rt: HostRuntime) {
+    assert!(rt;
+        all(&[
+            reads(&rt, "1000", "1000", &[0x83, 0xe8]),
+            reads(&rt, "9", "9", &[0x89]),
+            reads(&rt, "1.0", "1.0", &[0x81, 0]),
+            reads(&rt, "1", "1", &[0x81]),
+            reads(&rt, "-1", "-1", &[0x7e]),
+            reads(&rt, "0", "0", &[0x80]),
+        ])
+    );
+}
+
+#[test]
 fn packed_decimals_are_read(rt: HostRuntime) -> Result<(), Fail> {
     let mut left = COUNTED.as_slice();
     match Decimal::read_packed(rt.alloc(), &mut left, false) {
@@ -310,6 +324,16 @@ fn default_is_zero(rt: HostRuntime) -> Result<(), Fail> {
     Ok(())
 }
 
+// What a decimal of two bytes gives that is written where there is room for one, and the number of
+// the writer's failures.
+fn written_to_one_byte(alloc: Global) -> Result<(Result<(), Fault>, u64), ParseDecimalError> {
+    let one = Decimal::from_str(alloc, "1.0")?;
+    let mut bytes = Vec::<u8>::new(alloc);
+    let mut sink = Counted::new(bytes.limit(1));
+    let answer = one.write_bin(&mut sink);
+    Ok((answer, sink.failures()))
+}
+
 #[test]
 fn failing_writers_are_told(rt: HostRuntime) -> Result<(), Fail> {
     let mut broken = Broken { failures: 0 };
@@ -320,16 +344,7 @@ fn failing_writers_are_told(rt: HostRuntime) -> Result<(), Fail> {
             broken.failures == 1,
         ])
     );
-    if let Ok(one) = Decimal::from_str(rt.alloc(), "1.0") {
-        let mut bytes = Vec::<u8>::new(rt.alloc());
-        let mut sink = Counted::new(bytes.limit(1));
-        assert!(rt;
-            all(&[
-                one.write_bin(&mut sink) == Err(Fault::Reader),
-                sink.failures() == 1,
-            ])
-        );
-    }
+    assert!(rt; written_to_one_byte(rt.alloc())? == (Err(Fault::Reader), 1));
     Ok(())
 }
 

@@ -1,8 +1,6 @@
 //! Tests of images: the columns of rows, updates and deletes, and what is found out once.
 
-use super::{
-    TWO_COLUMNS, TWO_ROWS, all, decode, ends, inserted, is_faulty, is_number, is_text, read, row_of,
-};
+use super::{TWO_COLUMNS, TWO_ROWS, all, decode, inserted, is_faulty, is_number, read, row_of};
 use binlog_base::below::{Column, ColumnType, ParseBuf, Value};
 use binlog_base::fault::Fault;
 use binlog_consts::consts::{BinlogVersion, EventType, Flags};

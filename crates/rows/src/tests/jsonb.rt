@@ -168,10 +168,15 @@ fn has_bad_key(bytes: &[u8]) -> bool {
     }
 }
 
-/// Whether the first entry of the object is this key and this number.
-fn begins_with(bytes: &[u8], key: &[u8], number: i16) -> bool {
+/// Whether the object has one entry, this key and this number, and no more.
+fn has_one(bytes: &[u8], key: &[u8], number: i16) -> bool {
     match object(bytes) {
-        Some(object) => is_entry(&object.iter().next(), key, number),
+        Some(object) => {
+            let mut entries = object.iter();
+            object.element_count() == 1
+                && is_entry(&entries.next(), key, number)
+                && entries.next().is_none()
+        }
         None => false,
     }
 }
@@ -204,7 +209,7 @@ fn keys_of_objects(rt: HostRuntime) {
         all(&[
             has_key_a(NULL),
             has_bad_key(BAD_KEY),
-            begins_with(EMPTY_KEY, &[], 1),
+            has_one(EMPTY_KEY, &[], 1),
             has_two(TWO_KEYS),
         ])
     );

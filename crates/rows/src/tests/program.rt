@@ -106,6 +106,20 @@ fn cut_events(rt: HostRuntime) -> Result<(), Fail> {
     Ok(())
 }
 
+/// The digits of `TABLE`.
+const TABLE_DIGITS: &[u8] = b"010000000000010001640001740002030F020A0002";
+
+#[test]
+fn cut_tables(rt: HostRuntime) -> Result<(), Fail> {
+    let rows = str::from_utf8(INSERTED)?;
+    for len in 0..21 {
+        let table = str::from_utf8(&TABLE_DIGITS[..2 * len])?;
+        let words = ["8", "1E", "10", "10", table, rows];
+        assert!(rt; prints(rt.alloc(), &words, 1, "fault UnexpectedEof\n", "")?);
+    }
+    Ok(())
+}
+
 #[test]
 fn described_columns(rt: HostRuntime) -> Result<(), Fail> {
     // A sign bit, two names, a key column, and a default character set.
@@ -513,6 +527,11 @@ fn partial_updates(rt: HostRuntime) -> Result<(), Fail> {
             DOCUMENTS,
             "010000000000010002000200020000050000000000000400",
             "{} -> {@1=object(0)}\n",
+        ),
+        (
+            DOCUMENTS,
+            "010000000000010002000200020000050000000200000400",
+            "{} -> {@1=array(0)}\n",
         ),
         (
             TABLE,

@@ -4,7 +4,7 @@ ghost use Rattle.std.specs.Prelude.{◌≤◌};
 
 use binlog_base::below::ParseBuf;
 use binlog_base::fault::{Fault, JsonbError};
-use binlog_values::jsonb::{JsonDom, JsonNumber, JsonScalar, Value};
+use binlog_values::jsonb::{JsonContainer, JsonDom, JsonNumber, JsonScalar, Value};
 use std::alloc::{AllocError, Global};
 use std::fmt::Write;
 use std::test::Fail;
@@ -232,11 +232,33 @@ fn shared_arrays(rt: HostRuntime) -> Result<(), Fail> {
     Ok(())
 }
 
+/// Documents without a tree, each with its fault and the number of the position.
+const FAULTY: [(&[u8], Fault, u64); 3] = [
+    // The second element has an unknown type.
+    (
+        &[2, 2, 0, 10, 0, 5, 1, 0, 13, 0, 0],
+        Fault::UnknownJsonbType(13),
+        2,
+    ),
+    // A key inside the entries.
+    (
+        &[0, 1, 0, 12, 0, 10, 0, 1, 0, 4, 0, 0, 0x61],
+        Fault::Jsonb(JsonbError::InvalidKeyOffsetPointer),
+        1,
+    ),
+    // A string that begins at the end of its array.
+    (
+        &[2, 2, 0, 12, 0, 12, 12, 0, 4, 1, 0, 0x78, 0x79],
+        Fault::UnexpectedEof,
+        1,
+    ),
+];
+
 #[test]
 fn faults_of_documents(rt: HostRuntime) -> Result<(), Fail> {
-    let alloc = rt.alloc();
-    let unknown = &[2, 2, 0, 10, 0, 5, 1, 0, 13, 0, 0];
-    assert!(rt; is_fault(alloc, unknown, Fault::UnknownJsonbType(13), 2)?);
+    for (bytes, fault, count) in FAULTY {
+        assert!(rt; is_fault(rt.alloc(), bytes, fault, count)?);
+    }
     let size = Fault::Jsonb(JsonbError::SizeOverflow);
     let huge = &[3, 0xff, 0xff, 0xff, 0xff, 13, 0, 0, 0, 7, 42, 0, 0, 0];
     assert!(rt; matches!(json(huge), Err(found) if found == size));
@@ -313,9 +335,25 @@ fn is_tree_of(alloc: Global, bytes: &[u8], count: u64) -> Result<bool, Fail> {
     Ok(json(bytes)?.parse(alloc).is_ok() && read == count)
 }
 
+/// Whether the bytes are an array of so many items, whose last is the number 1.
+fn ends_with_one(alloc: Global, bytes: &[u8], count: usize) -> Result<bool, Fault> {
+    match tree(alloc, bytes)? {
+        JsonDom::Container(JsonContainer::Array(items)) => Ok(
+            items.len() == count
+                && matches!(
+                    items.last(),
+                    Some(JsonDom::Scalar(JsonScalar::Number(JsonNumber::Int(1))))
+                ),
+        ),
+        _ => Ok(false),
+    }
+}
+
 #[test]
 fn large_arrays(rt: HostRuntime) -> Result<(), Fail> {
-    assert!(rt; is_tree_of(rt.alloc(), &ones(rt.alloc(), 21843)?, 21843)?);
+    let bytes = ones(rt.alloc(), 21843)?;
+    assert!(rt; is_tree_of(rt.alloc(), &bytes, 21843)?);
+    assert!(rt; ends_with_one(rt.alloc(), &bytes, 21843)?);
     Ok(())
 }
 
@@ -351,5 +389,40 @@ fn copies_of_trees(rt: HostRuntime) -> Result<(), Fail> {
     let array = tree(alloc, &SHARED)?;
     let object = tree(alloc, &[0, 1, 0, 12, 0, 11, 0, 1, 0, 4, 0, 0, 0x61])?;
     assert!(rt; is_copied(alloc, &array) && is_copied(alloc, &object) && array != object);
+    Ok(())
+}
+
+/// Whether a tree of so many nested arrays has an equal copy, isn't that of one array less, and has
+/// a `Debug` text of this length.
+fn is_deep(alloc: Global, depth: u16, length: usize) -> Result<bool, Fail>
+    requires some { 2 ≤ depth }
+    requires depth { depth ≤ 100 }
+{
+    let dom = tree(alloc, &nested(alloc, depth, 1)?)?;
+    let other = tree(alloc, &nested(alloc, depth - 1, 1)?)?;
+    let shown = format!(in alloc; "{dom:?}")?;
+    Ok(is_copied(alloc, &dom) && dom != other && shown.len() == length)
+}
+
+#[test]
+fn copies_of_deep_trees(rt: HostRuntime) -> Result<(), Fail> {
+    // The text `Container(Array([]))` of 20 bytes, a hundred times.
+    assert!(rt; is_deep(rt.alloc(), 100, 2000)?);
+    Ok(())
+}
+
+#[test]
+fn shown_scalars(rt: HostRuntime) -> Result<(), Fail> {
+    let alloc = rt.alloc();
+    let opaque = "Scalar(Opaque(JsonOpaque { field_type: MYSQL_TYPE_BLOB, value: [97] }))";
+    assert!(rt; is_tree(alloc, &[15, 252, 1, 0x61], opaque, 0)?);
+    let decimal =
+        "Scalar(Number(Decimal(Decimal { negative: false, integer: [1], fraction: [5] })))";
+    assert!(rt; is_tree(alloc, &[15, 246, 4, 2, 1, 0x81, 5], decimal, 0)?);
+    let time = "Scalar(DateTime(MysqlTime { year: 2019, month: 11, day: 27, hour: 12, minute: 30, \
+        second: 0, second_part: 0, neg: false, time_type: MYSQL_TIMESTAMP_DATETIME, \
+        time_zone_displacement: 0 }))";
+    let bytes = &[15, 12, 8, 0, 0, 0, 0x80, 0xc7, 0xb6, 0xa4, 0x19];
+    assert!(rt; is_tree(alloc, bytes, time, 0)?);
     Ok(())
 }

@@ -6,15 +6,22 @@
 
 use super::jsonb::{has_element, has_key_a};
 use super::{TWO_COLUMNS, TWO_ROWS, all, decode, images, partial, read, trees};
-use binlog_base::below::{Column, ColumnType, EofBytes, MySerialize, ParseBuf, RawBytes, Value};
+use binlog_base::below::{
+    BareBytes, Column, ColumnFlags, ColumnType, Const, EofBytes, LeU16, LeU24, LenEnc, MySerialize,
+    ParseBuf, RawBytes, RawFlags, RawInt, Skip, U8, U8Bytes, Value, VarLen,
+};
 use binlog_base::fault::Fault;
 use binlog_base::misc::my_time_packed_from_binary;
 use binlog_consts::consts::EventType;
-use binlog_table::table_map::TableMapEvent;
-use binlog_table::table_map::optional::{ColumnName, SetStrValue};
+use binlog_table::table_map::optional::{
+    ColumnCharsets, ColumnName, DefaultCharset, IterSetStrValues, ListOf, NonDefaultCharset,
+    PrimaryKeyWithPrefix, SetStrValue, SetStrValues, SetsStrValues,
+};
+use binlog_table::table_map::{TableId, TableMapEvent};
 use binlog_values::decimal::Decimal;
 use binlog_values::jsonb::{
-    JsonDom, JsonScalar, JsonbString, ObjectKey, OpaqueValue, Value as Json,
+    Array, ComplexValue, JsonDom, JsonScalar, JsonbString, ObjectKey, OpaqueValue, Small,
+    Value as Json,
 };
 use binlog_values::jsondiff::JsonDiff;
 use mysql_binlog_rows::row::BinlogRow;
@@ -257,6 +264,107 @@ fn written_strings(rt: HostRuntime) -> Result<(), Fail> {
     Ok(())
 }
 
+#[test]
+fn written_strings_of_each_kind(rt: HostRuntime) -> Result<(), Fail> {
+    let alloc = rt.alloc();
+    let short: RawBytes<'_, U8Bytes> = RawBytes::new(CowSlice::Borrowed(b"ab"));
+    assert!(rt; is_appended(alloc, &short, b"\x02ab")?);
+    let lenenc: RawBytes<'_, LenEnc> = RawBytes::new(CowSlice::Borrowed(b"ab"));
+    assert!(rt; is_appended(alloc, &lenenc, b"\x02ab")?);
+    let varlen: RawBytes<'_, VarLen> = RawBytes::new(CowSlice::Borrowed(b"ab"));
+    assert!(rt; is_appended(alloc, &varlen, b"\x02ab")?);
+    let bare: RawBytes<'_, BareBytes<2>> = RawBytes::new(CowSlice::Borrowed(b"ab"));
+    assert!(rt; is_appended(alloc, &bare, b"ab")?);
+    Ok(())
+}
+
+/// Whether numbers of each kind are appended.
+fn are_numbers_appended(alloc: Global) -> Result<bool, AllocError> {
+    Ok(
+        is_appended(alloc, &RawInt::<LeU24>::new(0x3_0201), b"\x01\x02\x03")?
+            && is_appended(alloc, &RawInt::<LenEnc>::new(251), b"\xfc\xfb\0")?
+            && is_appended(alloc, &RawInt::<VarLen>::new(300), b"\xac\x02")?,
+    )
+}
+
+#[test]
+fn written_numbers(rt: HostRuntime) -> Result<(), Fail> {
+    let alloc = rt.alloc();
+    assert!(rt; are_numbers_appended(alloc)?);
+    let flags = RawFlags::<ColumnFlags, LeU16>::new(0x22);
+    assert!(rt; is_appended(alloc, &flags, b"\x22\0")?);
+    let long = Const::<ColumnType, U8>::new(ColumnType::MYSQL_TYPE_LONG);
+    assert!(rt; is_appended(alloc, &long, &[3])?);
+    assert!(rt; is_appended(alloc, &Skip::<2>, &[0, 0])?);
+    let id: TableId = ParseBuf(&[1, 0, 0, 0]).parse(6)?;
+    assert!(rt; is_appended(alloc, &id, &[1, 0, 0, 0, 0, 0])?);
+    Ok(())
+}
+
+#[test]
+fn written_fields(rt: HostRuntime) -> Result<(), Fail> {
+    let alloc = rt.alloc();
+    let charsets: ColumnCharsets<'_> = ListOf::new(&[8, 0x21]);
+    assert!(rt; is_appended(alloc, &charsets, &[8, 0x21])?);
+    let default = DefaultCharset::new(45, ListOf::new(&[1, 0x21]));
+    assert!(rt; is_appended(alloc, &default, &[0x2d, 1, 0x21])?);
+    assert!(rt; is_appended(alloc, &NonDefaultCharset::new(1, 33), &[1, 0x21])?);
+    assert!(rt; is_appended(alloc, &PrimaryKeyWithPrefix::new(2, 10), &[2, 10])?);
+    Ok(())
+}
+
+/// Whether the bytes are read as string values, which are appended as the same bytes.
+fn are_values_appended(alloc: Global, bytes: &[u8]) -> Result<bool, Fault> {
+    let values: SetStrValues<'_> = ParseBuf(bytes).parse(alloc)?;
+    Ok(is_appended(alloc, &values, bytes)?)
+}
+
+#[test]
+fn values_of_a_set(rt: HostRuntime) -> Result<(), Fail> {
+    assert!(rt; are_values_appended(rt.alloc(), b"\x02\x01a\x01b")?);
+    Ok(())
+}
+
+/// Whether the values of the next column begin with this one, and are so many.
+fn next_values_are(
+    columns: &mut IterSetStrValues<'_>,
+    first: &[u8],
+    count: usize,
+) -> Result<bool, Fault> {
+    match columns.next() {
+        Some(values) => {
+            let values = values?;
+            let values = values.values();
+            Ok(
+                values.len() == count
+                    && matches!(values.first(), Some(value) if value.value_raw() == first),
+            )
+        }
+        None => Ok(false),
+    }
+}
+
+/// Whether the values of the columns are `a` and `b`, and then `c`. A refusal is the end of the
+/// columns.
+fn are_values(columns: &mut IterSetStrValues<'_>) -> Result<bool, Fault> {
+    for (first, count) in [(b"a", 2), (b"c", 1)] {
+        match next_values_are(columns, first, count) {
+            Ok(true) => {}
+            Ok(false) => return Ok(false),
+            Err(fault) if columns.next().is_none() => return Err(fault),
+            Err(_) => return Ok(false),
+        }
+    }
+    Ok(columns.next().is_none())
+}
+
+#[test]
+fn values_of_sets(rt: HostRuntime) -> Result<(), Fail> {
+    let sets: SetsStrValues<'_> = ListOf::new(b"\x02\x01a\x01b\x01\x01c");
+    assert!(rt; are_values(&mut sets.iter_values(rt.alloc()))?);
+    Ok(())
+}
+
 /// The same text for a scalar of a tree: of a time, or of an opaque value.
 fn write_scalar(dom: &JsonDom, text: &mut String) -> Result<(), AllocError> {
     match dom {
@@ -379,6 +487,18 @@ fn opaque_is_lossy(alloc: Global) -> Result<bool, AllocError> {
     is_lossy(OpaqueValue::new(ColumnType::MYSQL_TYPE_BLOB, bytes).data(alloc))
 }
 
+fn path_is_lossy(alloc: Global) -> Result<bool, Fault> {
+    // The operation REMOVE and the path.
+    let diff: JsonDiff<'_> = ParseBuf(b"\x02\x01\xff").parse(())?;
+    Ok(is_lossy(diff.path_str(alloc))?)
+}
+
+#[test]
+fn a_lossy_path(rt: HostRuntime) -> Result<(), Fail> {
+    assert!(rt; path_is_lossy(rt.alloc())?);
+    Ok(())
+}
+
 #[test]
 fn lossy_texts(rt: HostRuntime) -> Result<(), Fail> {
     let alloc = rt.alloc();
@@ -407,6 +527,19 @@ fn decimals(rt: HostRuntime) -> Result<(), Fail> {
             "-0.01"
         )
     );
+    Ok(())
+}
+
+/// Whether packed bytes of four digits, two of them after the point, have this text.
+fn has_text(alloc: Global, bytes: &[u8], text: &[u8]) -> Result<bool, Fault> {
+    let found = Decimal::read_text(alloc, &mut ParseBuf(bytes), 4, 2)?;
+    Ok(found.as_slice() == text)
+}
+
+#[test]
+fn texts_of_decimals(rt: HostRuntime) -> Result<(), Fail> {
+    assert!(rt; shows(&Decimal::parse_str_bytes(rt.alloc(), b"1.5")?, "1.5"));
+    assert!(rt; has_text(rt.alloc(), &[0x7f, 0xfe], b"-0.01")?);
     Ok(())
 }
 
@@ -484,6 +617,54 @@ fn is_owned(alloc: Global, bytes: &[u8]) -> Result<bool, Fault> {
 fn copies_of_json(rt: HostRuntime) -> Result<(), Fail> {
     assert!(rt; is_owned(rt.alloc(), trees::OVERLAPPING)? && is_owned(rt.alloc(), &[12, 1, 0x61])?);
     assert!(rt; is_owned(rt.alloc(), &[15, 252, 1, 0x61])?);
+    Ok(())
+}
+
+/// Whether each kind of string that owns its bytes has the same bytes.
+fn name_is_owned(alloc: Global) -> Result<bool, AllocError> {
+    let name = ColumnName::new(CowSlice::Borrowed(b"ab"));
+    Ok(name.into_owned(alloc)?.name_raw() == b"ab".as_slice())
+}
+
+fn bytes_are_owned(alloc: Global) -> Result<bool, AllocError> {
+    let bytes: RawBytes<'_, EofBytes> = RawBytes::new(CowSlice::Borrowed(b"ab"));
+    Ok(bytes.into_owned(alloc)?.as_bytes() == b"ab".as_slice())
+}
+
+fn bytes_are_copied(alloc: Global) -> Result<bool, AllocError> {
+    let bytes: RawBytes<'_, EofBytes> = RawBytes::new(CowSlice::Borrowed(b"ab"));
+    Ok(bytes.clone(alloc)? == bytes)
+}
+
+fn string_is_owned(alloc: Global) -> Result<bool, AllocError> {
+    let string = JsonbString::new(CowSlice::Borrowed(b"ab"));
+    Ok(string.into_owned(alloc)?.str_raw() == b"ab".as_slice())
+}
+
+fn opaque_is_owned(alloc: Global) -> Result<bool, AllocError> {
+    let bytes = CowSlice::Borrowed(b"ab");
+    let opaque = OpaqueValue::new(ColumnType::MYSQL_TYPE_BLOB, bytes);
+    Ok(opaque.into_owned(alloc)?.data_raw() == b"ab".as_slice())
+}
+
+#[test]
+fn owned_strings(rt: HostRuntime) -> Result<(), Fail> {
+    let alloc = rt.alloc();
+    assert!(rt; name_is_owned(alloc)? && bytes_are_owned(alloc)? && bytes_are_copied(alloc)?);
+    assert!(rt; string_is_owned(alloc)? && opaque_is_owned(alloc)?);
+    Ok(())
+}
+
+/// Whether a container that owns its bytes has the one element 1.
+fn container_is_owned(alloc: Global) -> Result<bool, Fault> {
+    let array: ComplexValue<'_, Small, Array> = ParseBuf(b"\x01\0\x07\0\x05\x01\0").parse(())?;
+    let owned = ComplexValue::into_owned(array, alloc)?;
+    Ok(owned.element_count() == 1 && matches!(owned.elem_at(0), Ok(Some(Json::I16(1)))))
+}
+
+#[test]
+fn an_owned_container(rt: HostRuntime) -> Result<(), Fail> {
+    assert!(rt; container_is_owned(rt.alloc())?);
     Ok(())
 }
 

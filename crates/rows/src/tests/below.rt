@@ -393,13 +393,6 @@ fn texts_of_errors(rt: HostRuntime) {
     );
 }
 
-/// What a value is written as, after a byte that is there already.
-fn written(rt: &HostRuntime, value: &impl MySerialize) -> Result<Vec<u8>, Fail> {
-    let mut buf = vec![in rt.alloc(); 7u8]?;
-    value.serialize(&mut buf)?;
-    Ok(buf)
-}
-
 /// Whether these bytes are what a value is written as, after a byte that is there already.
 fn writes(rt: &HostRuntime, value: &impl MySerialize, bytes: &[u8]) -> bool {
     let mut buf = Vec::new(rt.alloc());
@@ -514,18 +507,35 @@ fn strings_are_written(rt: HostRuntime) -> Result<(), Fail> {
     Ok(())
 }
 
+/// Whether a byte is followed by so many bytes where a value is written after it.
+fn adds(rt: &HostRuntime, value: &impl MySerialize, count: usize) -> bool {
+    let mut buf = Vec::new(rt.alloc());
+    buf.push(7u8).is_ok() && value.serialize(&mut buf).is_ok() && buf.len() == 1 + count
+}
+
+/// Whether a byte is followed by so many bytes where a string is written after it, whose length has
+/// one byte.
+fn adds_short(rt: &HostRuntime, text: &[u8], count: usize) -> bool {
+    let mut buf = Vec::new(rt.alloc());
+    buf.push(7u8).is_ok()
+        && <U8Bytes as BytesRepr>::serialize(text, &mut buf).is_ok()
+        && buf.len() == 1 + count
+}
+
 #[test]
 fn long_strings_are_written(rt: HostRuntime) -> Result<(), Fail> {
     let long = vec![in rt.alloc(); 5u8; 300]?;
     let cut = RawBytes::<U8Bytes>::new(CowSlice::Borrowed(&long));
     let whole = RawBytes::<LenEnc>::new(CowSlice::Borrowed(&long));
     let groups = RawBytes::<VarLen>::new(CowSlice::Borrowed(&long));
-    assert!(rt; written(&rt, &cut)?.len() == 1 + 1 + 255);
-    assert!(rt; written(&rt, &whole)?.len() == 1 + 3 + 300);
-    assert!(rt; written(&rt, &groups)?.len() == 1 + 2 + 300);
-    let mut buf = vec![in rt.alloc(); 7u8]?;
-    <U8Bytes as BytesRepr>::serialize(&long, &mut buf)?;
-    assert!(rt; buf.len() == 1 + 1 + 255);
+    assert!(rt;
+        all(&[
+            adds(&rt, &cut, 1 + 255),
+            adds(&rt, &whole, 3 + 300),
+            adds(&rt, &groups, 2 + 300),
+            adds_short(&rt, &long, 1 + 255),
+        ])
+    );
     Ok(())
 }
 

@@ -1,10 +1,10 @@
 //! Walks an event without a list of its pairs, as the example in README.md does.
 
-use binlog_base::below::{ColumnFlags, ParseBuf};
+use binlog_base::below::{ColumnFlags, ParseBuf, Value};
 use binlog_base::fault::Fault;
 use binlog_consts::consts::EventType;
 use binlog_table::table_map::TableMapEvent;
-use binlog_values::jsonb::{JsonContainer, JsonDom, JsonScalar};
+use binlog_values::jsonb::{JsonContainer, JsonDom, JsonScalar, Value as Json};
 use bitflags::Flags;
 use mysql_binlog_rows::row::BinlogRow;
 use mysql_binlog_rows::rows_event::{RowsEvent, RowsEventCtx, RowsEventRows};
@@ -23,14 +23,27 @@ const ROWS: &[u8] = b"\x01\0\0\0\0\0\x01\0\x02\0\x02\x03\0\x2a\0\0\0\
     \x13\0\0\0\0\x01\0\x12\0\x0b\0\x04\0\x0c\x0f\0name\x02ab\
     \0\x2b\0\0\0\x03\0\0\0\x05\x07\0";
 
+/// Adds a key, on a line of its own.
+fn add_key(alloc: Global, lines: &mut String, key: &Value) -> Result<(), Fault> {
+    let line = format!(in alloc; "{key:?}\n")?;
+    Ok(lines.push_str(&line)?)
+}
+
 /// Adds the string under `name` of a tree, on a line of its own.
-fn add_name(alloc: Global, lines: &mut String, tree: &JsonDom) -> Result<(), Fault> {
+fn add_name(lines: &mut String, tree: &JsonDom) -> Result<(), Fault> {
     if let JsonDom::Container(JsonContainer::Object(object)) = tree
         && let Some(JsonDom::Scalar(JsonScalar::String(name))) = object.get("name")
     {
-        lines.push_str(&format!(in alloc; "{name}\n")?)?;
+        lines.push_str(name)?;
+        lines.push('\n')?;
     }
     Ok(())
+}
+
+/// Adds the string under `name` of a document, on a line of its own.
+fn add_name_of(alloc: Global, lines: &mut String, document: &Json<'_>) -> Result<(), Fault> {
+    let tree = document.clone(alloc)?.parse(alloc)?;
+    add_name(lines, &tree)
 }
 
 /// Adds the key columns of a row, and the string under `name` in its JSON, one a line.
@@ -38,12 +51,8 @@ fn add(alloc: Global, lines: &mut String, row: &BinlogRow) -> Result<(), Fault> 
     for (index, column) in row.columns_ref().iter().enumerate() {
         let is_key = column.flags().contains(ColumnFlags::PRI_KEY_FLAG);
         match row.as_ref(index) {
-            Some(BinlogValue::Value(value)) if is_key => {
-                lines.push_str(&format!(in alloc; "{value:?}\n")?)?;
-            }
-            Some(BinlogValue::Jsonb(document)) => {
-                add_name(alloc, lines, &document.clone(alloc)?.parse(alloc)?)?;
-            }
+            Some(BinlogValue::Value(value)) if is_key => add_key(alloc, lines, value)?,
+            Some(BinlogValue::Jsonb(document)) => add_name_of(alloc, lines, document)?,
             _ => {}
         }
     }

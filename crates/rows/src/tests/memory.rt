@@ -408,6 +408,12 @@ fn has_table_copy(alloc: Global, table: &TableMapEvent<'_>) -> Result<bool, Allo
     Ok(table.clone(alloc)? == *table)
 }
 
+/// Whether the table map event that the bytes are has an equal copy.
+fn is_table_copied(alloc: Global, bytes: &[u8]) -> Result<bool, Fault> {
+    let table: TableMapEvent<'_> = ParseBuf(bytes).parse(8)?;
+    Ok(has_table_copy(alloc, &table)?)
+}
+
 #[test]
 fn copies_of_events(rt: HostRuntime) -> Result<(), Fail> {
     assert!(rt;
@@ -421,8 +427,7 @@ fn copies_of_events(rt: HostRuntime) -> Result<(), Fail> {
 
 #[test]
 fn copies_of_tables(rt: HostRuntime) -> Result<(), Fail> {
-    let table: TableMapEvent<'_> = ParseBuf(TWO_COLUMNS).parse(8)?;
-    assert!(rt; has_table_copy(rt.alloc(), &table)?);
+    assert!(rt; is_table_copied(rt.alloc(), TWO_COLUMNS)?);
     Ok(())
 }
 

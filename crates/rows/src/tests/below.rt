@@ -510,7 +510,9 @@ fn strings_are_written(rt: HostRuntime) -> Result<(), Fail> {
 /// Whether a byte is followed by so many bytes where a value is written after it.
 fn adds(rt: &HostRuntime, value: &impl MySerialize, count: usize) -> bool {
     let mut buf = Vec::new(rt.alloc());
-    buf.push(7u8).is_ok() && value.serialize(&mut buf).is_ok() && buf.len() == 1 + count
+    buf.push(7u8).is_ok()
+        && value.serialize(&mut buf).is_ok()
+        && buf.len().checked_sub(1) == Some(count)
 }
 
 /// Whether a byte is followed by so many bytes where a string is written after it, whose length has
@@ -519,7 +521,7 @@ fn adds_short(rt: &HostRuntime, text: &[u8], count: usize) -> bool {
     let mut buf = Vec::new(rt.alloc());
     buf.push(7u8).is_ok()
         && <U8Bytes as BytesRepr>::serialize(text, &mut buf).is_ok()
-        && buf.len() == 1 + count
+        && buf.len().checked_sub(1) == Some(count)
 }
 
 #[test]

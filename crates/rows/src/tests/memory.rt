@@ -344,24 +344,33 @@ fn next_values_are(
     }
 }
 
-/// Whether the values of the columns are `a` and `b`, and then `c`. A refusal is the end of the
-/// columns.
-fn are_values(columns: &mut IterSetStrValues<'_>) -> Result<bool, Fault> {
-    for (first, count) in [(b"a", 2), (b"c", 1)] {
-        match next_values_are(columns, first, count) {
+/// Whether there are no more columns.
+fn has_no_column(columns: &mut IterSetStrValues<'_>) -> bool {
+    columns.next().is_none()
+}
+
+/// Whether the values of each column begin with this one, and are so many. A refusal is the end of
+/// the columns.
+fn are_values(
+    columns: &mut IterSetStrValues<'_>,
+    expected: &[(&[u8], usize)],
+) -> Result<bool, Fault> {
+    for (first, count) in expected {
+        match next_values_are(columns, first, *count) {
             Ok(true) => {}
             Ok(false) => return Ok(false),
-            Err(fault) if columns.next().is_none() => return Err(fault),
+            Err(fault) if has_no_column(columns) => return Err(fault),
             Err(_) => return Ok(false),
         }
     }
-    Ok(columns.next().is_none())
+    Ok(has_no_column(columns))
 }
 
 #[test]
 fn values_of_sets(rt: HostRuntime) -> Result<(), Fail> {
     let sets: SetsStrValues<'_> = ListOf::new(b"\x02\x01a\x01b\x01\x01c");
-    assert!(rt; are_values(&mut sets.iter_values(rt.alloc()))?);
+    let expected: &[(&[u8], usize)] = &[(b"a", 2), (b"c", 1)];
+    assert!(rt; are_values(&mut sets.iter_values(rt.alloc()), expected)?);
     Ok(())
 }
 

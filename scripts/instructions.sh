@@ -7,10 +7,9 @@
 #
 # COLUMNS are the letters of scripts/make_rows.py; without them the table has ten columns. With `full` it has optional metadata. FEW, MANY and
 # MORE are files of the program's six words, one a line, of the same table with 30, 330 and 630 rows. The instructions of a row are the
-# difference of two runs, divided by 300: of the whole program, and of the call of `decode_pairs` alone. With the COLUMNS `N`, one
-# NEWDECIMAL(12,2) column without NULL, it counts also the calls of the function that reads a decimal cell, with all that it calls: a row has one
-# cell. Build the program with `rt run` in crates/rows. With `trees` it counts the call of `jsonb::Value::parse` in tests, which make a tree of
-# 10,000 numbers and two of 10,000 keys and values; run `rt test` there first.
+# difference of two runs, divided by 300: of the whole program, and of the call of `decode_pairs` alone. What a further column of a row costs
+# is the difference of two tables, such as `N` and `NN`. Build the program with `rt run` in crates/rows. With `trees` it counts the call of
+# `jsonb::Value::parse` in tests, which make a tree of 10,000 numbers and two of 10,000 keys and values; run `rt test` there first.
 set -eu
 here=$(cd "$(dirname "$0")/.." && pwd)
 if [ "${1:-}" = trees ]; then
@@ -26,8 +25,6 @@ if [ "${1:-}" = trees ]; then
     done
     exit
 fi
-# The function that reads a decimal cell, as callgrind names it. It must match no function that is called in it: callgrind stops counting there.
-cell_reader='*decimals::read_decimal'
 program=$here/crates/rows/out/rows
 if [ ! -x "$program" ]; then
     echo "$program is not built: run 'rt run' in crates/rows first" >&2
@@ -63,12 +60,3 @@ writes=$(valgrind --tool=none --trace-syscalls=yes "$program" "${words[@]}" 2>&1
 echo "instructions a row: $(((many_all - few_all) / 300)), of which decoding: $(((many - few) / 300))"
 echo "decoding, a row of the rows 331 to 630: $(((more - many) / 300))"
 echo "calls of write for 330 rows: $writes, for $(wc -c <"$folder/out") bytes"
-if [ "${1:-}" = N ] && [ $# -lt 3 ]; then
-    few_cells=$(instructions "$folder/30" --collect-atstart=no "--toggle-collect=$cell_reader")
-    many_cells=$(instructions "$folder/330" --collect-atstart=no "--toggle-collect=$cell_reader")
-    if [ "$many_cells" -le "$few_cells" ]; then
-        echo "no call of $cell_reader was counted: it may be a part of its caller; see nm $program" >&2
-        exit 1
-    fi
-    echo "instructions a cell: $(((many_cells - few_cells) / 300))"
-fi

@@ -6,8 +6,8 @@ usage: scripts/make_rows.py COLUMNS COUNT [full]
 With `full`, the table map event has signs, character sets, names and a key as optional metadata; else it has none.
 
 COLUMNS are letters, one a column: b LONGLONG, i LONG, v VARCHAR(80), t DATETIME2(0), n NEWDECIMAL(12,2), y TINY, d DOUBLE, x BLOB with a
-length in two bytes, e ENUM in one byte. `all` stands for bivvtnydxe. The values are the same for each run; about one in ten is NULL. N is as n,
-but no value is NULL.
+length in two bytes, e ENUM in one byte. `all` stands for bivvtnydxe. The values are the same for each run; about one in ten is NULL. N and I
+are as n and i, but no value is NULL.
 """
 import sys
 
@@ -60,6 +60,7 @@ COLUMNS = {
     "t": (18, b"\x00", datetime),
     "n": (246, b"\x0c\x02", lambda r: decimal(next(r) * 251 - 2**39)),
     "N": (246, b"\x0c\x02", lambda r: decimal(next(r) * 251 - 2**39)),
+    "I": (3, b"", lambda r: next(r).to_bytes(4, "little")),
     "y": (1, b"", lambda r: bytes([next(r) % 256])),
     "d": (5, b"\x08", lambda r: (next(r) << 32 | next(r)).to_bytes(8, "little")),
     "x": (252, b"\x02", long_text),
@@ -74,7 +75,7 @@ def field(kind, value):
 
 def optional_metadata(letters):
     """Signs (the first numeric column is unsigned), character sets (255, and 63 for a BLOB), names and a key of the first column."""
-    numeric = sum(letter in "binNyd" for letter in letters)
+    numeric = sum(letter in "bniNIyd" for letter in letters)
     signs = bytes([0x80]) + bytes((numeric - 1) // 8) if numeric else b""
     group = [letter for letter in letters if letter in "vx"]
     charsets = b"\xfc\xff\x00" + b"".join(bytes([place, 63]) for place, letter in enumerate(group) if letter == "x")
@@ -99,7 +100,7 @@ def main():
     for _ in range(int(sys.argv[2])):
         nulls, cells = 0, b""
         for place, letter in enumerate(letters):
-            if next(random) % 10 == 0 and letter != "N":
+            if next(random) % 10 == 0 and letter not in "NI":
                 nulls |= 1 << place
             else:
                 cells += COLUMNS[letter][2](random)

@@ -7,8 +7,9 @@
 #
 # COLUMNS are the letters of scripts/make_rows.py; without them the table has ten columns. With `full` it has optional metadata. FEW, MANY and
 # MORE are files of the program's six words, one a line, of the same table with 30, 330 and 630 rows. The instructions of a row are the
-# difference of two runs, divided by 300: of the whole program, and of the call of `decode_pairs` alone. What a further column of a row costs
-# is the difference of two tables, such as `N` and `NN`. Build the program with `rt run` in crates/rows. With `trees` it counts the call of
+# difference of two runs, divided by 300: of the whole program, and of the call of `decode_pairs` alone. Of `N`, one NEWDECIMAL(12,2) column,
+# those of the call of `read_decimal`, the cell alone, are counted too. What a further column of a row costs is the difference of two tables,
+# such as `N` and `NN`. Build the program with `rt run` in crates/rows. With `trees` it counts the call of
 # `jsonb::Value::parse` in tests, which make a tree of 10,000 numbers and two of 10,000 keys and values; run `rt test` there first.
 set -eu
 here=$(cd "$(dirname "$0")/.." && pwd)
@@ -59,4 +60,11 @@ mapfile -t words <"$folder/330"
 writes=$(valgrind --tool=none --trace-syscalls=yes "$program" "${words[@]}" 2>&1 >/dev/null | grep -c 'sys_write')
 echo "instructions a row: $(((many_all - few_all) / 300)), of which decoding: $(((many - few) / 300))"
 echo "decoding, a row of the rows 331 to 630: $(((more - many) / 300))"
+if [ "${1:-}" = N ]; then
+    cell=(--collect-atstart=no '--toggle-collect=*read_decimal*')
+    few=$(instructions "$folder/30" "${cell[@]}")
+    many=$(instructions "$folder/330" "${cell[@]}")
+    [ "$many" -gt "$few" ] || { echo "read_decimal is no function of its own in the program" >&2; exit 2; }
+    echo "a NEWDECIMAL(12,2) cell: $(((many - few) / 300))"
+fi
 echo "calls of write for 330 rows: $writes, for $(wc -c <"$folder/out") bytes"

@@ -24,7 +24,7 @@ use binlog_consts::consts::{BinlogVersion, EventType, RowsEventFlags};
 use binlog_table::table_map::TableMapEvent;
 use mysql_binlog_rows::laws::pairs_are_unambiguous;
 use mysql_binlog_rows::row::BinlogRow;
-use mysql_binlog_rows::rows_event::{Decoded, RowPair, RowsEvent, RowsEventCtx, decode_pairs};
+use mysql_binlog_rows::rows_event::{Decoded, RowsEvent, RowsEventCtx, decode_pairs};
 use mysql_binlog_rows::value::BinlogValue;
 use std::alloc::{AllocError, Global};
 use std::fmt::{Display, InlineText, Write};
@@ -162,25 +162,6 @@ fn extra_data_is_written(rt: HostRuntime) -> Result<(), Fail> {
     Ok(())
 }
 
-/// Whether a copy of an event is equal to it.
-fn is_copied(rt: &HostRuntime, event: &RowsEvent<'_>) -> Result<bool, AllocError> {
-    Ok(event.clone(rt.alloc())? == *event)
-}
-
-#[test]
-fn a_copy_of_an_event(rt: HostRuntime) -> Result<(), Fail> {
-    let event = read(TWO_ROWS, EventType::WRITE_ROWS_EVENT, 10)?;
-    assert!(rt; is_copied(&rt, &event)?);
-    Ok(())
-}
-
-#[test]
-fn an_owned_event(rt: HostRuntime) -> Result<(), Fail> {
-    let owned = read(TWO_ROWS, EventType::WRITE_ROWS_EVENT, 10)?.into_owned(rt.alloc())?;
-    assert!(rt; has_parts(&owned, 1, 2, &TWO_ROWS[12..]));
-    Ok(())
-}
-
 /// Whether a WRITE_ROWS_EVENT of these bytes is refused by this fault.
 fn is_refused(bytes: &[u8], fault: Fault) -> bool {
     match read(bytes, EventType::WRITE_ROWS_EVENT, 10) {
@@ -189,84 +170,37 @@ fn is_refused(bytes: &[u8], fault: Fault) -> bool {
     }
 }
 
+/// Whether there are no pairs, but this fault, for a WRITE_ROWS_EVENT of these bytes.
+fn is_refused_run(alloc: Global, bytes: &[u8], fault: Fault) -> bool {
+    match decode(alloc, TWO_COLUMNS, bytes, EventType::WRITE_ROWS_EVENT, 10) {
+        Ok(_) => false,
+        Err(other) => other == fault,
+    }
+}
+
+/// WRITE_ROWS_EVENTs with a bad count of columns, or too few bytes of extra data, and their faults.
+const REFUSED: [(&[u8], Fault); 3] = [
+    (b"\x01\0\0\0\0\0\x01\0\x02\0\xfb", Fault::BadLenEnc),
+    (
+        b"\x01\0\0\0\0\0\x01\0\x02\0\xfe\xff\xff\xff\xff\xff\xff\xff\xff",
+        Fault::UnexpectedEof,
+    ),
+    (b"\x01\0\0\0\0\0\x01\0\x05\0\x01\x01", Fault::UnexpectedEof),
+];
+
 #[test]
 fn refused_events(rt: HostRuntime) {
+    let alloc = rt.alloc();
     for len in 0..12 {
-        assert!(rt; is_refused(&TWO_ROWS[..len], Fault::UnexpectedEof), "{len}");
+        let cut = &TWO_ROWS[..len];
+        assert!(rt;
+            is_refused(cut, Fault::UnexpectedEof)
+                && is_refused_run(alloc, cut, Fault::UnexpectedEof)
+        );
     }
-    assert!(rt;
-        all(&[
-            is_refused(&[1, 0, 0, 0, 0, 0, 1, 0, 2, 0, 0xfb], Fault::BadLenEnc),
-            is_refused(
-                &[
-                    1, 0, 0, 0, 0, 0, 1, 0, 2, 0, 0xfe, 0xff, 0xff, 0xff, 0xff, 0xff, 0xff, 0xff,
-                    0xff
-                ],
-                Fault::UnexpectedEof
-            ),
-            is_refused(&[1, 0, 0, 0, 0, 0, 1, 0, 5, 0, 1, 1], Fault::UnexpectedEof),
-        ])
-    );
-}
-
-/// The number of a LONG cell.
-fn long_cell(rt: &HostRuntime, unsigned: bool, bytes: &[u8]) -> Result<i64, Fault> {
-    let metadata: &[u8] = &[];
-    let cell: BinlogValue<'_> = ParseBuf(bytes).parse((
-        rt.alloc(),
-        ColumnType::MYSQL_TYPE_LONG,
-        metadata,
-        unsigned,
-        false,
-    ))?;
-    match cell {
-        BinlogValue::Value(Value::Int(number)) => Ok(number),
-        _ => Err(Fault::Unhandled),
+    for (bytes, fault) in REFUSED {
+        assert!(rt; is_refused(bytes, fault) && is_refused_run(alloc, bytes, fault));
     }
-}
-
-#[test]
-fn cells_of_numbers(rt: HostRuntime) {
-    assert!(rt;
-        all(&[
-            long_cell(&rt, false, &[0xff, 0xff, 0xff, 0xff]) == Ok(-1),
-            long_cell(&rt, true, &[0xff, 0xff, 0xff, 0xff]) == Ok(4294967295),
-            long_cell(&rt, false, &[0xff, 0xff, 0xff]) == Err(Fault::UnexpectedEof),
-        ])
-    );
-}
-
-/// The bytes of a cell of text, with this metadata.
-fn text_cell(rt: &HostRuntime, metadata: &[u8], bytes: &[u8]) -> Result<Vec<u8>, Fault> {
-    let cell: BinlogValue<'_> = ParseBuf(bytes).parse((
-        rt.alloc(),
-        ColumnType::MYSQL_TYPE_VARCHAR,
-        metadata,
-        false,
-        false,
-    ))?;
-    match cell {
-        BinlogValue::Value(Value::Bytes(text)) => Ok(text),
-        _ => Err(Fault::Unhandled),
-    }
-}
-
-#[test]
-fn cells_of_text(rt: HostRuntime) -> Result<(), Fail> {
-    let short = text_cell(&rt, &[10, 0], &[2, 0x61, 0x62, 0x63])?;
-    assert!(rt; short.as_slice() == b"ab".as_slice());
-    let long = text_cell(&rt, &[0, 1], &[2, 0, 0x61, 0x62])?;
-    assert!(rt;
-        all(&[
-            long.as_slice() == b"ab".as_slice(),
-            matches!(text_cell(&rt, &[10], &[]), Err(Fault::MissingMetadata)),
-            matches!(
-                text_cell(&rt, &[10, 0], &[2, 0x61]),
-                Err(Fault::UnexpectedEof)
-            ),
-        ])
-    );
-    Ok(())
 }
 
 /// The table d.t of two columns, LONG and VARCHAR.
@@ -274,7 +208,7 @@ const TWO_COLUMNS: &[u8] = b"\x01\0\0\0\0\0\x01\0\x01d\0\x01t\0\x02\x03\x0f\x02\
 
 /// The pairs of a rows event of this type, whose post-header has this length.
 fn decode(
-    rt: &HostRuntime,
+    alloc: Global,
     table: &[u8],
     rows: &[u8],
     event_type: EventType,
@@ -285,12 +219,7 @@ fn decode(
         post_header_len,
         write_rows_post_header_len: 10,
     };
-    decode_pairs(rt.alloc(), table, 8, rows, ctx)
-}
-
-/// The pairs of a WRITE_ROWS_EVENT.
-fn inserted(rt: &HostRuntime, table: &[u8], rows: &[u8]) -> Result<Decoded, Fault> {
-    decode(rt, table, rows, EventType::WRITE_ROWS_EVENT, 10)
+    decode_pairs(alloc, table, 8, rows, ctx)
 }
 
 /// Returns whether the value at an index is this number, or NULL if `number` is none.
@@ -298,23 +227,6 @@ fn is_number(row: &BinlogRow, index: usize, number: Option<i64>) -> bool {
     match row.as_ref(index) {
         Some(BinlogValue::Value(Value::Int(other))) => number == Some(*other),
         Some(BinlogValue::Value(Value::NULL)) => number.is_none(),
-        _ => false,
-    }
-}
-
-/// Returns whether the value at an index is this text, or NULL if `text` is none.
-fn is_text(row: &BinlogRow, index: usize, text: Option<&[u8]>) -> bool {
-    match row.as_ref(index) {
-        Some(BinlogValue::Value(Value::Bytes(other))) => text == Some(other.as_slice()),
-        Some(BinlogValue::Value(Value::NULL)) => text.is_none(),
-        _ => false,
-    }
-}
-
-/// Whether the pair is an inserted row of this number and this text.
-fn is_inserted(pair: &RowPair, number: Option<i64>, text: Option<&[u8]>) -> bool {
-    match pair {
-        (None, Some(row)) => row.len() == 2 && is_number(row, 0, number) && is_text(row, 1, text),
         _ => false,
     }
 }
@@ -327,128 +239,20 @@ fn ends(decoded: &Result<Decoded, Fault>, pairs: usize, fault: Option<Fault>) ->
     }
 }
 
-/// Whether the run is refused by this fault.
-fn refuses(decoded: &Result<Decoded, Fault>, fault: Fault) -> bool {
-    match decoded {
-        Ok(_) => false,
-        Err(other) => *other == fault,
-    }
-}
-
-/// Whether a column has this type and this name, of the table d.t.
-fn is_column(column: &Column, column_type: ColumnType, name: &[u8]) -> bool {
-    column.column_type() == column_type
-        && column.schema_ref() == b"d".as_slice()
-        && column.table_ref() == b"t".as_slice()
-        && column.org_table_ref() == b"t".as_slice()
-        && column.name_ref() == name
-}
-
-/// Whether the columns are those of d.t.
-fn are_columns(columns: &[Column]) -> bool {
-    match columns {
-        [first, second] => {
-            is_column(first, ColumnType::MYSQL_TYPE_LONG, b"@0")
-                && is_column(second, ColumnType::MYSQL_TYPE_VARCHAR, b"@1")
-        }
-        _ => false,
-    }
-}
-
-#[test]
-fn two_inserted_rows(rt: HostRuntime) -> Result<(), Fail> {
-    let decoded = inserted(&rt, TWO_COLUMNS, TWO_ROWS)?;
-    assert!(rt; decoded.fault.is_none());
-    match decoded.pairs.as_slice() {
-        [first, second] => {
-            assert!(rt;
-                all(&[
-                    is_inserted(first, Some(42), Some(b"ab")),
-                    is_inserted(second, Some(-1), None),
-                ])
-            );
-        }
-        _ => assert!(rt; false),
-    }
-    Ok(())
-}
-
-/// Whether the columns of an inserted row are those of d.t, also where they are shared.
-fn has_columns(alloc: Global, pair: &RowPair) -> Result<bool, Fault> {
-    match pair {
-        (None, Some(row)) => {
-            let shared = row.columns(alloc)?;
-            Ok(!row.is_empty() && are_columns(row.columns_ref()) && are_columns(shared.as_slice()))
-        }
-        _ => Ok(false),
-    }
-}
-
-/// Whether the rows after an insert are equal.
-fn are_equal(pair: &RowPair, other: &RowPair) -> bool {
-    match (pair, other) {
-        ((None, Some(row)), (None, Some(other))) => row == other,
-        _ => false,
-    }
-}
-
-#[test]
-fn equal_rows(rt: HostRuntime) -> Result<(), Fail> {
-    let decoded = inserted(&rt, TWO_COLUMNS, TWO_ROWS)?;
-    let again = inserted(&rt, TWO_COLUMNS, TWO_ROWS)?;
-    match (decoded.pairs.as_slice(), again.pairs.as_slice()) {
-        ([first, second], [other, _]) => {
-            assert!(rt; all(&[are_equal(first, other), !are_equal(second, other)]));
-        }
-        _ => assert!(rt; false),
-    }
-    Ok(())
-}
-
-#[test]
-fn columns_of_rows(rt: HostRuntime) -> Result<(), Fail> {
-    let decoded = inserted(&rt, TWO_COLUMNS, TWO_ROWS)?;
-    for pair in &decoded.pairs {
-        assert!(rt; has_columns(rt.alloc(), pair)?);
-    }
-    let none: RcSlice<Column> = RcSlice::from_vec(Vec::new(rt.alloc()))?;
-    assert!(rt; BinlogRow::new(Vec::new(rt.alloc()), none).is_empty());
-    pairs_are_unambiguous();
-    Ok(())
-}
-
-/// How many pairs the first `len` bytes of `TWO_ROWS` have, and the fault after them. There are at
-/// least the 12 bytes of the event before its rows data.
-fn pairs_of_prefix(len: usize) -> (usize, Option<Fault>) {
-    match len {
-        12 => (0, None),
-        13..=19 => (0, Some(Fault::UnexpectedEof)),
-        20 => (1, None),
-        21..=24 => (1, Some(Fault::UnexpectedEof)),
-        _ => (2, None),
-    }
-}
-
-#[test]
-fn cut_runs(rt: HostRuntime) {
-    for len in 0..=25 {
-        let decoded = inserted(&rt, TWO_COLUMNS, &TWO_ROWS[..len]);
-        if len < 12 {
-            assert!(rt; refuses(&decoded, Fault::UnexpectedEof), "{len}");
-        } else {
-            let (pairs, fault) = pairs_of_prefix(len);
-            assert!(rt; ends(&decoded, pairs, fault), "{len}");
-        }
-    }
-}
-
 #[test]
 fn four_thousand_pairs(rt: HostRuntime) -> Result<(), Fail> {
     let mut rows = TWO_ROWS[..12].to_vec(rt.alloc())?;
     for _ in 0..2000 {
         rows.extend_from_slice(&TWO_ROWS[12..])?;
     }
-    assert!(rt; ends(&inserted(&rt, TWO_COLUMNS, &rows), 4000, None));
+    let write = EventType::WRITE_ROWS_EVENT;
+    assert!(rt;
+        ends(
+            &decode(rt.alloc(), TWO_COLUMNS, &rows, write, 10),
+            4000,
+            None
+        )
+    );
     Ok(())
 }
 
@@ -464,102 +268,32 @@ fn row_of(alloc: Global, value: Option<Value>) -> Result<BinlogRow, Fault> {
     Ok(BinlogRow::new(values, columns))
 }
 
+/// The `Debug` text of a row.
+fn shown(alloc: Global, row: &BinlogRow) -> Result<String, AllocError> {
+    format!(in alloc; "{row:?}")
+}
+
+/// Whether two rows differ, and their texts.
+fn differ(alloc: Global, row: &BinlogRow, other: &BinlogRow) -> Result<bool, AllocError> {
+    Ok(row != other && shown(alloc, row)?.as_str() != shown(alloc, other)?.as_str())
+}
+
+/// Whether the row has NULL as its only value.
+fn is_null(row: &BinlogRow) -> bool {
+    row.len() == 1 && is_number(row, 0, None) && row.as_ref(1).is_none()
+}
+
 #[test]
 fn nulls_are_values(rt: HostRuntime) -> Result<(), Fail> {
     let null = row_of(rt.alloc(), Some(Value::NULL))?;
     let taken = row_of(rt.alloc(), None)?;
-    assert!(rt;
-        all(&[
-            matches!(null.as_ref(0), Some(BinlogValue::Value(Value::NULL))),
-            taken.as_ref(0).is_none(),
-            null.as_ref(1).is_none(),
-        ])
-    );
-    assert!(rt; null == row_of(rt.alloc(), Some(Value::NULL))?);
-    assert!(rt; null != taken);
-    let null_text = format!(in rt.alloc(); "{null:?}")?;
-    let taken_text = format!(in rt.alloc(); "{taken:?}")?;
-    assert!(rt; null_text.as_str() != taken_text.as_str());
+    assert!(rt; is_null(&null) && taken.as_ref(0).is_none() && differ(rt.alloc(), &null, &taken)?);
     Ok(())
-}
-
-/// Whether the only item of a WRITE_ROWS_EVENT is this fault, and a further `next` gives nothing.
-fn is_faulty(rt: &HostRuntime, table: &[u8], rows: &[u8], fault: Fault) -> Result<bool, Fault> {
-    let decoded = inserted(rt, table, rows);
-    let table: TableMapEvent<'_> = ParseBuf(table).parse(8)?;
-    let event = read(rows, EventType::WRITE_ROWS_EVENT, 10)?;
-    let mut items = event.rows(rt.alloc(), &table);
-    let is_first = matches!(items.next(), Some(Err(other)) if other == fault);
-    Ok(is_first && items.next().is_none() && ends(&decoded, 0, Some(fault)))
-}
-
-#[test]
-fn faults_of_pairs(rt: HostRuntime) -> Result<(), Fail> {
-    // No column is in the image, so a pair has no bytes.
-    let empty = &[1, 0, 0, 0, 0, 0, 1, 0, 2, 0, 2, 0, 5];
-    assert!(rt; is_faulty(&rt, TWO_COLUMNS, empty, Fault::EmptyPair)?);
-    // Nor in either image of an update.
-    let update = &[1, 0, 0, 0, 0, 0, 1, 0, 2, 0, 2, 0, 0, 5];
-    let decoded = decode(&rt, TWO_COLUMNS, update, EventType::UPDATE_ROWS_EVENT, 10);
-    assert!(rt; ends(&decoded, 0, Some(Fault::EmptyPair)));
-    // The event has three columns.
-    let three = [1, 0, 0, 0, 0, 0, 1, 0, 2, 0, 3, 7, 7];
-    assert!(rt; is_faulty(&rt, TWO_COLUMNS, &three, Fault::NoColumnType)?);
-    // VARCHAR without metadata.
-    let bare = &[
-        1, 0, 0, 0, 0, 0, 1, 0, 1, 0x64, 0, 1, 0x74, 0, 1, 0x0f, 0, 1,
-    ];
-    let text = &[1, 0, 0, 0, 0, 0, 1, 0, 2, 0, 1, 1, 0, 2, 0x61, 0x62];
-    assert!(rt; is_faulty(&rt, bare, text, Fault::MissingMetadata)?);
-    // LONG, LONG, LONG and an unknown type: the cell of the second is cut, or all three are whole.
-    let unknown = &[
-        1, 0, 0, 0, 0, 0, 1, 0, 1, 0x64, 0, 1, 0x74, 0, 4, 3, 3, 3, 244, 0, 0,
-    ];
-    let cut = &[1, 0, 0, 0, 0, 0, 1, 0, 2, 0, 4, 15, 0, 1, 0, 0, 0, 2];
-    assert!(rt; is_faulty(&rt, unknown, cut, Fault::UnexpectedEof)?);
-    let whole = &[
-        1, 0, 0, 0, 0, 0, 1, 0, 2, 0, 4, 15, 0, 1, 0, 0, 0, 2, 0, 0, 0, 3, 0, 0, 0,
-    ];
-    assert!(rt; is_faulty(&rt, unknown, whole, Fault::UnknownColumnType(244))?);
-    Ok(())
-}
-
-#[test]
-fn first_version_pairs(rt: HostRuntime) -> Result<(), Fail> {
-    let bytes = &[1, 0, 0, 0, 1, 0, 2, 3, 3];
-    let decoded = decode(&rt, TWO_COLUMNS, bytes, EventType::WRITE_ROWS_EVENT_V1, 6)?;
-    assert!(rt; decoded.fault.is_none());
-    match decoded.pairs.as_slice() {
-        [pair] => assert!(rt; is_inserted(pair, None, None)),
-        _ => assert!(rt; false),
-    }
-    Ok(())
-}
-
-#[test]
-fn refused_runs(rt: HostRuntime) {
-    let count = &[1, 0, 0, 0, 0, 0, 1, 0, 2, 0, 0xfb];
-    assert!(rt; refuses(&inserted(&rt, TWO_COLUMNS, count), Fault::BadLenEnc));
-    let long = &[
-        1, 0, 0, 0, 0, 0, 1, 0, 2, 0, 0xfe, 0xff, 0xff, 0xff, 0xff, 0xff, 0xff, 0xff, 0xff,
-    ];
-    assert!(rt;
-        all(&[
-            refuses(&inserted(&rt, TWO_COLUMNS, long), Fault::UnexpectedEof),
-            // Both events are refused: the fault is that of the table map event.
-            refuses(
-                &inserted(&rt, &TWO_COLUMNS[..20], count),
-                Fault::UnexpectedEof
-            ),
-        ])
-    );
 }
 
 /// What four calls of `next` give: a pair, a fault, or nothing.
-fn walk(rt: &HostRuntime, table: &[u8], bytes: &[u8]) -> Result<[char; 4], Fault> {
-    let table: TableMapEvent<'_> = ParseBuf(table).parse(8)?;
-    let event = read(bytes, EventType::WRITE_ROWS_EVENT, 10)?;
-    let mut rows = event.rows(rt.alloc(), &table);
+fn walk(alloc: Global, event: &RowsEvent<'_>, table: &TableMapEvent<'_>) -> [char; 4] {
+    let mut rows = event.rows(alloc, table);
     let mut items = ['?'; 4];
     for item in &mut items {
         *item = match rows.next() {
@@ -568,16 +302,55 @@ fn walk(rt: &HostRuntime, table: &[u8], bytes: &[u8]) -> Result<[char; 4], Fault
             None => '-',
         };
     }
-    Ok(items)
+    items
 }
+
+/// What four calls of `next` give for the bytes of a table map event and of a WRITE_ROWS_EVENT.
+fn items_of(alloc: Global, table: &[u8], bytes: &[u8]) -> Result<[char; 4], Fault> {
+    let table: TableMapEvent<'_> = ParseBuf(table).parse(8)?;
+    let event = read(bytes, EventType::WRITE_ROWS_EVENT, 10)?;
+    Ok(walk(alloc, &event, &table))
+}
+
+/// Tables and rows events, with what four calls of `next` give. The faults are `EmptyPair`,
+/// `NoColumnType`, `MissingMetadata`, `UnexpectedEof` and `UnknownColumnType`.
+const ITEMS: [(&[u8], &[u8], [char; 4]); 6] = [
+    (TWO_COLUMNS, TWO_ROWS, ['p', 'p', '-', '-']),
+    (
+        TWO_COLUMNS,
+        b"\x01\0\0\0\0\0\x01\0\x02\0\x02\0\x05",
+        ['f', '-', '-', '-'],
+    ),
+    (
+        TWO_COLUMNS,
+        b"\x01\0\0\0\0\0\x01\0\x02\0\x03\x07\x07",
+        ['f', '-', '-', '-'],
+    ),
+    // A VARCHAR without metadata.
+    (
+        b"\x01\0\0\0\0\0\x01\0\x01d\0\x01t\0\x01\x0f\0\x01",
+        b"\x01\0\0\0\0\0\x01\0\x02\0\x01\x01\0\x02ab",
+        ['f', '-', '-', '-'],
+    ),
+    // LONG, LONG, LONG and an unknown type: the second cell is cut, or all three are whole.
+    (
+        b"\x01\0\0\0\0\0\x01\0\x01d\0\x01t\0\x04\x03\x03\x03\xf4\0\0",
+        b"\x01\0\0\0\0\0\x01\0\x02\0\x04\x0f\0\x01\0\0\0\x02",
+        ['f', '-', '-', '-'],
+    ),
+    (
+        b"\x01\0\0\0\0\0\x01\0\x01d\0\x01t\0\x04\x03\x03\x03\xf4\0\0",
+        b"\x01\0\0\0\0\0\x01\0\x02\0\x04\x0f\0\x01\0\0\0\x02\0\0\0\x03\0\0\0",
+        ['f', '-', '-', '-'],
+    ),
+];
 
 #[test]
 fn pairs_one_by_one(rt: HostRuntime) {
+    pairs_are_unambiguous();
+    for (table, rows, items) in ITEMS {
+        assert!(rt; items_of(rt.alloc(), table, rows) == Ok(items));
+    }
     let cut = &TWO_ROWS[..24];
-    assert!(rt;
-        all(&[
-            walk(&rt, TWO_COLUMNS, TWO_ROWS) == Ok(['p', 'p', '-', '-']),
-            walk(&rt, TWO_COLUMNS, cut) == Ok(['p', 'f', '-', '-']),
-        ])
-    );
+    assert!(rt; items_of(rt.alloc(), TWO_COLUMNS, cut) == Ok(['p', 'f', '-', '-']));
 }

@@ -9,7 +9,9 @@ use binlog_base::fault::Fault;
 use binlog_values::decimal::Decimal;
 use std::alloc::Global;
 
-// Reads a NEWDECIMAL of this precision and scale, in the packed DECIMAL format, as text.
+// Reads a NEWDECIMAL of this precision and scale, in the packed DECIMAL format, as text. Not
+// inlined, so that a profiler can count the instructions of a cell.
+#[inline(never)]
 #[tactic(auto, unfolding(crate::specs::Cells::decimal_cell))]
 pub(super) fn read_decimal(
     alloc: Global,

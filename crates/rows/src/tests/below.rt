@@ -6,7 +6,7 @@ use binlog_base::below::{
     ColumnFlags, ColumnType, Const, EofBytes, Failed, GeometryType, I8, IntRepr, LeI16, LeI24,
     LeI32, LeI48, LeI64, LeU16, LeU24, LeU32, LeU48, LeU64, LenEnc, MyDeserialize, MySerialize,
     ParseBuf, RawBytes, RawFlags, RawInt, Row, Skip, Source, U8, U8Bytes, UnknownColumnType,
-    UnknownGeometryType, Value, VarLen, new_row_raw,
+    UnknownGeometryType, Value, VarLen, lenenc_int_len, new_row_raw,
 };
 use binlog_base::bits::{BitOrder, BitView, bitmap_len};
 use binlog_base::fault::{Fault, FaultKind, JsonbError};
@@ -91,6 +91,12 @@ fn numbers_of_each_kind(rt: HostRuntime) {
             is_spelled::<BeU48>(&rt, &[0x81, 0x88, 0x8f, 0x96, 0x9d, 0xa4], 142423524548004),
             is_spelled::<u8>(&rt, &[0x81], 129),
             is_spelled::<i8>(&rt, &[0x81], -127),
+            is_spelled::<LenEnc>(&rt, &[0xfa], 250),
+            is_spelled::<LenEnc>(&rt, b"\xfc\xfb\0", 251),
+            is_spelled::<LenEnc>(&rt, b"\xfd\0\0\x01", 0x1_0000),
+            is_spelled::<LenEnc>(&rt, b"\xfe\0\0\0\x01\0\0\0\0", 0x100_0000),
+            is_spelled::<VarLen>(&rt, b"\xac\x02", 300),
+            is_spelled::<VarLen>(&rt, b"\xff\xff\xff\xff\x0f", 0xffff_ffff),
         ])
     );
 }
@@ -400,32 +406,6 @@ fn writes(rt: &HostRuntime, value: &impl MySerialize, bytes: &[u8]) -> bool {
 }
 
 #[test]
-fn numbers_are_written(rt: HostRuntime) {
-    assert!(rt;
-        all(&[
-            writes(&rt, &RawInt::<LeU48>::new(0x201), b"\x07\x01\x02\0\0\0\0"),
-            writes(&rt, &RawInt::<LeI24>::new(-2), b"\x07\xfe\xff\xff"),
-            writes(&rt, &RawInt::<BeI16>::new(-2), b"\x07\xff\xfe"),
-            writes(&rt, &RawInt::<LenEnc>::new(250), b"\x07\xfa"),
-            writes(&rt, &RawInt::<LenEnc>::new(251), b"\x07\xfc\xfb\0"),
-            writes(&rt, &RawInt::<LenEnc>::new(0x1_0000), b"\x07\xfd\0\0\x01"),
-            writes(
-                &rt,
-                &RawInt::<LenEnc>::new(0x100_0000),
-                b"\x07\xfe\0\0\0\x01\0\0\0\0"
-            ),
-            writes(&rt, &RawInt::<VarLen>::new(300), b"\x07\xac\x02"),
-            writes(
-                &rt,
-                &RawInt::<VarLen>::new(0xffff_ffff),
-                b"\x07\xff\xff\xff\xff\x0f"
-            ),
-            writes(&rt, &Skip::<1>, b"\x07\0"),
-        ])
-    );
-}
-
-#[test]
 fn strings_are_read(rt: HostRuntime) -> Result<(), Fail> {
     let mut buf = ParseBuf(b"\x02ab\x01c\x81\0defg");
     let short: RawBytes<U8Bytes> = buf.parse(())?;
@@ -462,6 +442,7 @@ fn strings_are_refused(rt: HostRuntime) {
             refuses::<RawBytes<U8Bytes>>(&[2, 97], Fault::UnexpectedEof),
             refuses::<RawBytes<LenEnc>>(&[0xfb], Fault::BadLenEnc),
             refuses::<Skip<1>>(&[], Fault::UnexpectedEof),
+            (lenenc_int_len(250), lenenc_int_len(251)) == (1, 3),
             ParseBuf(&[9]).parse::<Skip<1>>(()).is_ok(),
             <Skip<1> as MyDeserialize>::SIZE.is_none(),
             <RawInt<BeU24> as MyDeserialize>::SIZE == Some(3),
@@ -483,28 +464,27 @@ fn bytes_are_eaten(rt: HostRuntime) {
     );
 }
 
+/// Whether these bytes are what a string is written as, after a byte that is there already.
+fn is_written<T: BytesRepr>(rt: &HostRuntime, text: &[u8], bytes: &[u8]) -> bool {
+    writes(rt, &RawBytes::<T>::new(CowSlice::Borrowed(text)), bytes)
+}
+
+/// Whether these are the bytes of a string.
+fn has_bytes(text: RawBytes<'_, U8Bytes>, bytes: &[u8]) -> bool {
+    text.into_bytes().as_slice() == bytes
+}
+
 #[test]
-fn strings_are_written(rt: HostRuntime) -> Result<(), Fail> {
-    let alloc = rt.alloc();
-    let text = RawBytes::<U8Bytes>::new(CowSlice::Borrowed(b"a\xffb"));
-    assert!(rt; text.as_str(alloc)?.as_str() == "a\u{fffd}b");
-    let owned = text.into_owned(alloc)?;
+fn strings_are_written(rt: HostRuntime) {
     assert!(rt;
         all(&[
-            writes(&rt, &owned, b"\x07\x03a\xffb"),
-            owned.into_bytes().as_slice() == b"a\xffb".as_slice(),
+            is_written::<U8Bytes>(&rt, b"a\xffb", b"\x07\x03a\xffb"),
+            is_written::<BareBytes<4>>(&rt, b"abcde", b"\x07abcd"),
+            is_written::<EofBytes>(&rt, b"xy", b"\x07xy"),
+            writes(&rt, &RawInt::<LeU24>::new(0x3_0201), b"\x07\x01\x02\x03"),
+            has_bytes(RawBytes::new(CowSlice::Borrowed(b"a\xffb")), b"a\xffb"),
         ])
     );
-    let bare = RawBytes::<BareBytes<4>>::new(CowSlice::Borrowed(b"abcde"));
-    assert!(rt; writes(&rt, &bare, b"\x07abcd"));
-    let rest = RawBytes::<EofBytes>::new(CowSlice::Borrowed(b"xy"));
-    assert!(rt;
-        all(&[
-            writes(&rt, &rest, b"\x07xy"),
-            rest == RawBytes::new(CowSlice::Borrowed(b"xy")),
-        ])
-    );
-    Ok(())
 }
 
 /// Whether a byte is followed by so many bytes where a value is written after it.
@@ -524,21 +504,24 @@ fn adds_short(rt: &HostRuntime, text: &[u8], count: usize) -> bool {
         && buf.len().checked_sub(1) == Some(count)
 }
 
+/// A string of 300 bytes.
+const LONG: &[u8] = &[5; 300];
+
+/// Whether so many bytes are added for the long string.
+fn adds_long<T: BytesRepr>(rt: &HostRuntime, count: usize) -> bool {
+    adds(rt, &RawBytes::<T>::new(CowSlice::Borrowed(LONG)), count)
+}
+
 #[test]
-fn long_strings_are_written(rt: HostRuntime) -> Result<(), Fail> {
-    let long = vec![in rt.alloc(); 5u8; 300]?;
-    let cut = RawBytes::<U8Bytes>::new(CowSlice::Borrowed(&long));
-    let whole = RawBytes::<LenEnc>::new(CowSlice::Borrowed(&long));
-    let groups = RawBytes::<VarLen>::new(CowSlice::Borrowed(&long));
+fn long_strings_are_written(rt: HostRuntime) {
     assert!(rt;
         all(&[
-            adds(&rt, &cut, 1 + 255),
-            adds(&rt, &whole, 3 + 300),
-            adds(&rt, &groups, 2 + 300),
-            adds_short(&rt, &long, 1 + 255),
+            adds_long::<U8Bytes>(&rt, 1 + 255),
+            adds_long::<LenEnc>(&rt, 3 + 300),
+            adds_long::<VarLen>(&rt, 2 + 300),
+            adds_short(&rt, LONG, 1 + 255),
         ])
     );
-    Ok(())
 }
 
 #[test]

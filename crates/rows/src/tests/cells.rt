@@ -83,14 +83,8 @@ fn numbers(rt: HostRuntime) {
     ];
     for (column_type, width, signed, unsigned) in cases {
         let bytes = &ff[..width];
-        assert!(rt;
-            is_value(&rt, column_type, &[], false, bytes, Value::Int(signed)),
-            "{width}"
-        );
-        assert!(rt;
-            is_value(&rt, column_type, &[], true, bytes, Value::Int(unsigned)),
-            "{width}"
-        );
+        assert!(rt; is_value(&rt, column_type, &[], false, bytes, Value::Int(signed)));
+        assert!(rt; is_value(&rt, column_type, &[], true, bytes, Value::Int(unsigned)));
     }
     let long = ColumnType::MYSQL_TYPE_LONGLONG;
     assert!(rt;
@@ -98,6 +92,13 @@ fn numbers(rt: HostRuntime) {
             is_value(&rt, long, &[], false, &ff, Value::Int(-1)),
             is_value(&rt, long, &[], true, &ff, Value::UInt(18446744073709551615)),
             is_refused(&rt, long, &[], &ff[..7], Fault::UnexpectedEof),
+            is_refused(
+                &rt,
+                ColumnType::MYSQL_TYPE_LONG,
+                &[],
+                &ff[..3],
+                Fault::UnexpectedEof
+            ),
         ])
     );
 }
@@ -215,10 +216,25 @@ fn old_datetimes(rt: HostRuntime) {
 
 #[test]
 fn times_with_fractions(rt: HostRuntime) {
-    let time = ColumnType::MYSQL_TYPE_TIME2;
-    let bytes = [0x7f, 0xff, 0xff, 0xf6];
-    let value = Value::Time(true, 0, 0, 0, 0, 100_000);
-    assert!(rt; is_value(&rt, time, &[2], false, &bytes, value));
+    let times: [(&[u8], &[u8], bool, u32, u8, u32); 4] = [
+        (&[2], b"\x7f\xff\xff\xf6", true, 0, 0, 100_000),
+        (&[4], b"\x7f\xff\xff\xff\x9c", true, 0, 0, 10_000),
+        (&[6], b"\x80\0\0\0\0\x01", false, 0, 0, 1),
+        (&[0], b"\x81\x90\0", false, 1, 1, 0),
+    ];
+    for (decimals, bytes, negative, days, hours, micros) in times {
+        let value = Value::Time(negative, days, hours, 0, 0, micros);
+        assert!(rt;
+            is_value(
+                &rt,
+                ColumnType::MYSQL_TYPE_TIME2,
+                decimals,
+                false,
+                bytes,
+                value
+            )
+        );
+    }
     let datetime = ColumnType::MYSQL_TYPE_DATETIME2;
     let bytes = &[0x99, 0xa4, 0xb6, 0xc7, 0x80];
     let value = Value::Date(2019, 11, 27, 12, 30, 0, 0);
@@ -261,18 +277,9 @@ fn bytes_by_their_metadata(rt: HostRuntime) {
         ColumnType::MYSQL_TYPE_VECTOR,
     ];
     for blob in blobs {
-        assert!(rt;
-            is_bytes(&rt, blob, &[2], &[2, 0, 0xff, 0], &[0xff, 0]),
-            "{blob:?}"
-        );
-        assert!(rt;
-            is_refused(&rt, blob, &[5], &[2, 0], Fault::UnknownBlob),
-            "{blob:?}"
-        );
-        assert!(rt;
-            is_refused(&rt, blob, &[0], &[], Fault::UnknownBlob),
-            "{blob:?}"
-        );
+        assert!(rt; is_bytes(&rt, blob, &[2], &[2, 0, 0xff, 0], &[0xff, 0]));
+        assert!(rt; is_refused(&rt, blob, &[5], &[2, 0], Fault::UnknownBlob));
+        assert!(rt; is_refused(&rt, blob, &[0], &[], Fault::UnknownBlob));
     }
     let bit = ColumnType::MYSQL_TYPE_BIT;
     assert!(rt; is_bytes(&rt, bit, &[2, 1], &[3, 0xff], &[3, 0xff]));
@@ -296,8 +303,8 @@ fn texts_by_their_metadata(rt: HostRuntime) {
         ColumnType::MYSQL_TYPE_VARCHAR,
         ColumnType::MYSQL_TYPE_VAR_STRING,
     ] {
-        assert!(rt; is_bytes(&rt, text, &[255, 0], &short, b"ab"), "{text:?}");
-        assert!(rt; is_bytes(&rt, text, &[0, 1], long, b"ab"), "{text:?}");
+        assert!(rt; is_bytes(&rt, text, &[255, 0], &short, b"ab"));
+        assert!(rt; is_bytes(&rt, text, &[0, 1], long, b"ab"));
     }
     let text = ColumnType::MYSQL_TYPE_STRING;
     assert!(rt;
@@ -307,6 +314,13 @@ fn texts_by_their_metadata(rt: HostRuntime) {
             is_bytes(&rt, text, &[0, 1], long, b"ab"),
             is_bytes(&rt, text, &[0, 0], &short, b"ab"),
             is_refused(&rt, text, &[0xfe, 10], &short[..2], Fault::UnexpectedEof),
+            is_refused(
+                &rt,
+                ColumnType::MYSQL_TYPE_VARCHAR,
+                &[10, 0],
+                &short[..2],
+                Fault::UnexpectedEof
+            ),
         ])
     );
 }
@@ -340,10 +354,7 @@ fn missing_metadata(rt: HostRuntime) {
         ColumnType::MYSQL_TYPE_TYPED_ARRAY,
     ];
     for column_type in one {
-        assert!(rt;
-            is_refused(&rt, column_type, &[], &[], Fault::MissingMetadata),
-            "{column_type:?}"
-        );
+        assert!(rt; is_refused(&rt, column_type, &[], &[], Fault::MissingMetadata));
     }
     let two = [
         ColumnType::MYSQL_TYPE_VARCHAR,
@@ -355,14 +366,8 @@ fn missing_metadata(rt: HostRuntime) {
         ColumnType::MYSQL_TYPE_NEWDECIMAL,
     ];
     for column_type in two {
-        assert!(rt;
-            is_refused(&rt, column_type, &[], &[], Fault::MissingMetadata),
-            "{column_type:?}"
-        );
-        assert!(rt;
-            is_refused(&rt, column_type, &[1], &[], Fault::MissingMetadata),
-            "{column_type:?}"
-        );
+        assert!(rt; is_refused(&rt, column_type, &[], &[], Fault::MissingMetadata));
+        assert!(rt; is_refused(&rt, column_type, &[1], &[], Fault::MissingMetadata));
     }
 }
 
@@ -375,10 +380,7 @@ fn unhandled_types(rt: HostRuntime) {
         ColumnType::MYSQL_TYPE_UNKNOWN,
     ];
     for column_type in types {
-        assert!(rt;
-            is_refused(&rt, column_type, &[], &[], Fault::Unhandled),
-            "{column_type:?}"
-        );
+        assert!(rt; is_refused(&rt, column_type, &[], &[], Fault::Unhandled));
     }
 }
 

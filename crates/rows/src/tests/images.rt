@@ -1,6 +1,6 @@
 //! Tests of images: the columns of rows, updates and deletes, and what is found out once.
 
-use super::{TWO_COLUMNS, TWO_ROWS, all, decode, inserted, is_faulty, is_number, read, row_of};
+use super::{TWO_COLUMNS, TWO_ROWS, all, decode, is_number, read, row_of};
 use binlog_base::below::{Column, ColumnType, ParseBuf, Value};
 use binlog_base::fault::Fault;
 use binlog_consts::consts::{BinlogVersion, EventType, Flags};
@@ -8,47 +8,11 @@ use binlog_table::table_map::TableMapEvent;
 use mysql_binlog_rows::row::{
     BinlogRow, BinlogRowToRowError, BinlogRowValueOptions, UnknownBinlogRowValueOptions,
 };
-use mysql_binlog_rows::rows_event::{Decoded, RowPair, RowsEvent, RowsEventRows};
+use mysql_binlog_rows::rows_event::{RowPair, RowsEvent, RowsEventRows};
 use mysql_binlog_rows::value::BinlogValue;
 use std::alloc::{AllocError, Global};
 use std::rc::RcSlice;
 use std::test::Fail;
-
-/// The table d.t with this optional metadata.
-fn with_metadata(rt: &HostRuntime, optional_metadata: &[u8]) -> Result<Vec<u8>, Fail> {
-    let mut bytes = TWO_COLUMNS.to_vec(rt.alloc())?;
-    bytes.extend_from_slice(optional_metadata)?;
-    Ok(bytes)
-}
-
-/// A rows event of the table d.t without extra data, with these bytes from the count of the columns
-/// on.
-fn with_rows(rt: &HostRuntime, rows: &[u8]) -> Result<Vec<u8>, Fail> {
-    let mut bytes = TWO_ROWS[..10].to_vec(rt.alloc())?;
-    bytes.extend_from_slice(rows)?;
-    Ok(bytes)
-}
-
-/// Whether the row has one column of this name, and this value.
-fn is_one_cell(row: &Option<BinlogRow>, name: &[u8], number: Option<i64>) -> bool {
-    match row {
-        Some(row) => match row.columns_ref() {
-            [column] => column.name_ref() == name && row.len() == 1 && is_number(row, 0, number),
-            _ => false,
-        },
-        None => false,
-    }
-}
-
-/// Whether the only pair is the update of column 0, which was 7, to column 1, which is NULL.
-fn is_update(decoded: &Decoded) -> bool {
-    match decoded.pairs.as_slice() {
-        [(before, after)] => {
-            is_one_cell(before, b"@0", Some(7)) && is_one_cell(after, b"@1", None)
-        }
-        _ => false,
-    }
-}
 
 /// The update of column 0, which was 7, to column 1, which is NULL.
 pub(super) const UPDATED: &[u8] = b"\x01\0\0\0\0\0\x01\0\x02\0\x02\x01\x02\0\x07\0\0\0\x01";
@@ -57,136 +21,102 @@ pub(super) const UPDATED: &[u8] = b"\x01\0\0\0\0\0\x01\0\x02\0\x02\x01\x02\0\x07
 fn an_update_with_other_columns_in_each_image(rt: HostRuntime) -> Result<(), Fail> {
     let event = read(UPDATED, EventType::UPDATE_ROWS_EVENT, 10)?;
     assert!(rt; event.len(BinlogVersion::Version4) == 19);
-    let decoded = decode(&rt, TWO_COLUMNS, UPDATED, EventType::UPDATE_ROWS_EVENT, 10)?;
-    assert!(rt; decoded.fault.is_none() && is_update(&decoded));
     Ok(())
 }
 
-/// Whether the pair is a deleted row of this number.
-fn is_deleted(pair: &RowPair, number: i64) -> bool {
-    match pair {
-        (Some(row), None) => row.len() == 2 && is_number(row, 0, Some(number)),
-        _ => false,
-    }
-}
+/// A column by its type, its name, its flags and its character set.
+type Described<'a> = (ColumnType, &'a [u8], u16, u16);
 
-/// Whether these are the two deleted rows.
-fn are_deleted(pairs: &[RowPair]) -> bool {
-    match pairs {
-        [first, second] => is_deleted(first, 42) && is_deleted(second, -1),
-        _ => false,
-    }
-}
-
-/// Whether an event of this type deletes the two rows.
-fn deletes(rt: &HostRuntime, event_type: EventType) -> Result<bool, Fault> {
-    let decoded = decode(rt, TWO_COLUMNS, TWO_ROWS, event_type, 10)?;
-    Ok(are_deleted(&decoded.pairs))
-}
-
-#[test]
-fn deleted_rows(rt: HostRuntime) -> Result<(), Fail> {
-    assert!(rt; deletes(&rt, EventType::DELETE_ROWS_EVENT)?);
-    assert!(rt; deletes(&rt, EventType::DELETE_ROWS_EVENT_V1)?);
-    Ok(())
-}
-
-/// A column by its name, its flags and its character set.
-type Described<'a> = (&'a [u8], u16, u16);
-
+/// Whether a column of the table d.t is the one that is described.
 fn is_described(column: &Column, described: Described<'_>) -> bool {
-    let (name, flags, character_set) = described;
-    column.name_ref() == name
+    let (column_type, name, flags, character_set) = described;
+    column.column_type() == column_type
+        && column.schema_ref() == b"d".as_slice()
+        && column.table_ref() == b"t".as_slice()
+        && column.org_table_ref() == b"t".as_slice()
+        && column.name_ref() == name
         && column.flags().bits() == flags
         && column.character_set() == character_set
 }
 
-/// Whether the pair is an inserted row with these columns, and this number in the first.
-fn has_columns(pair: &RowPair, first: Described<'_>, second: Described<'_>, number: i64) -> bool {
-    match pair {
-        (None, Some(row)) => match row.columns_ref() {
-            [a, b] => {
-                is_described(a, first) && is_described(b, second) && is_number(row, 0, Some(number))
-            }
-            _ => false,
-        },
+/// Whether the columns are those that are described.
+fn are_described(columns: &[Column], described: [Described<'_>; 2]) -> bool {
+    match columns {
+        [first, second] => {
+            is_described(first, described[0]) && is_described(second, described[1])
+        }
         _ => false,
     }
 }
 
-/// Whether the two inserted rows have these columns, and the number 42 and this one.
-fn describes(
-    rt: &HostRuntime,
-    optional_metadata: &[u8],
-    first: Described<'_>,
-    second: Described<'_>,
-    number: i64,
-) -> Result<bool, Fail> {
-    let table = with_metadata(rt, optional_metadata)?;
-    let decoded = inserted(rt, &table, TWO_ROWS)?;
+/// Whether the pair is an inserted row with these columns.
+fn has_columns(pair: &RowPair, described: [Described<'_>; 2]) -> bool {
+    match pair {
+        (None, Some(row)) => are_described(row.columns_ref(), described),
+        _ => false,
+    }
+}
+
+/// Whether each of the two inserted rows has these columns.
+fn describes(alloc: Global, table: &[u8], described: [Described<'_>; 2]) -> Result<bool, Fault> {
+    let decoded = decode(alloc, table, TWO_ROWS, EventType::WRITE_ROWS_EVENT, 10)?;
     match decoded.pairs.as_slice() {
         [one, other] => Ok(
-            decoded.fault.is_none()
-                && has_columns(one, first, second, 42)
-                && has_columns(other, first, second, number),
+            decoded.fault.is_none() && has_columns(one, described) && has_columns(other, described),
         ),
         _ => Ok(false),
     }
 }
 
+/// The table d.t without and with optional metadata, and its columns.
+const TABLES: [(&[u8], [Described<'static>; 2]); 5] = [
+    (
+        TWO_COLUMNS,
+        [
+            (ColumnType::MYSQL_TYPE_LONG, b"@0", 0, 0),
+            (ColumnType::MYSQL_TYPE_VARCHAR, b"@1", 0, 0),
+        ],
+    ),
+    // A sign bit, two names, a key column, and a default character set.
+    (
+        b"\x01\0\0\0\0\0\x01\0\x01d\0\x01t\0\x02\x03\x0f\x02\x0a\0\x02\
+          \x01\x01\x80\x04\x04\x01a\x01b\x08\x01\0\x02\x01\x21",
+        [
+            (ColumnType::MYSQL_TYPE_LONG, b"a", 34, 0),
+            (ColumnType::MYSQL_TYPE_VARCHAR, b"b", 0, 33),
+        ],
+    ),
+    // One name for two columns.
+    (
+        b"\x01\0\0\0\0\0\x01\0\x01d\0\x01t\0\x02\x03\x0f\x02\x0a\0\x02\x04\x02\x01a",
+        [
+            (ColumnType::MYSQL_TYPE_LONG, b"a", 0, 0),
+            (ColumnType::MYSQL_TYPE_VARCHAR, b"@1", 0, 0),
+        ],
+    ),
+    // Column 0 is a key column twice, and then comes a fault that belongs to no column.
+    (
+        b"\x01\0\0\0\0\0\x01\0\x01d\0\x01t\0\x02\x03\x0f\x02\x0a\0\x02\x08\x03\0\0\xfb",
+        [
+            (ColumnType::MYSQL_TYPE_LONG, b"@0", 2, 0),
+            (ColumnType::MYSQL_TYPE_VARCHAR, b"@1", 0, 0),
+        ],
+    ),
+    // A key column with a prefix.
+    (
+        b"\x01\0\0\0\0\0\x01\0\x01d\0\x01t\0\x02\x03\x0f\x02\x0a\0\x02\x09\x02\x01\x03",
+        [
+            (ColumnType::MYSQL_TYPE_LONG, b"@0", 0, 0),
+            (ColumnType::MYSQL_TYPE_VARCHAR, b"@1", 2, 0),
+        ],
+    ),
+];
+
 #[test]
 fn columns_with_metadata(rt: HostRuntime) -> Result<(), Fail> {
-    // A sign bit, two names, a key column, and a default character set.
-    let full = &[1, 1, 0x80, 4, 4, 1, 0x61, 1, 0x62, 8, 1, 0, 2, 1, 0x21];
-    assert!(rt; describes(&rt, full, (b"a", 34, 0), (b"b", 0, 33), 4294967295)?);
-    // One name for two columns.
-    let name = &[4, 2, 1, 0x61];
-    assert!(rt; describes(&rt, name, (b"a", 0, 0), (b"@1", 0, 0), -1)?);
-    // Column 0 is a key column twice, and then comes a fault that belongs to no column.
-    let key = [8, 3, 0, 0, 0xfb];
-    assert!(rt; describes(&rt, &key, (b"@0", 2, 0), (b"@1", 0, 0), -1)?);
-    // A key column with a prefix.
-    let prefixed = &[9, 2, 1, 3];
-    assert!(rt; describes(&rt, prefixed, (b"@0", 0, 0), (b"@1", 2, 0), -1)?);
-    Ok(())
-}
-
-/// Whether the inserted rows of the table with this optional metadata give no pair and this fault.
-fn is_refused(
-    rt: &HostRuntime,
-    optional_metadata: &[u8],
-    rows: &[u8],
-    fault: Fault,
-) -> Result<bool, Fail> {
-    let table = with_metadata(rt, optional_metadata)?;
-    let rows = with_rows(rt, rows)?;
-    Ok(is_faulty(rt, &table, &rows, fault)?)
-}
-
-#[test]
-fn faults_in_their_order(rt: HostRuntime) -> Result<(), Fail> {
-    // The key's fault belongs to column 1. The cell of column 0 comes before it.
-    let key = [8, 2, 0, 0xfb];
-    assert!(rt; is_refused(&rt, &key, &[2, 3, 0, 0x2a], Fault::UnexpectedEof)?);
-    let whole = &[2, 3, 0, 0x2a, 0, 0, 0, 2, 0x61, 0x62];
-    assert!(rt; is_refused(&rt, &key, whole, Fault::BadLenEnc)?);
-    // Column 0 takes its key, although it isn't in the image.
-    let second = &[2, 2, 0, 2, 0x61, 0x62];
-    assert!(rt; is_refused(&rt, &key, second, Fault::BadLenEnc)?);
-    // An unknown field comes before the cells, and after the null bits.
-    let unknown = &[14, 0];
-    assert!(rt;
-        is_refused(
-            &rt,
-            unknown,
-            &[2, 3, 0, 0x2a],
-            Fault::UnknownOptionalField(14)
-        )?
-    );
-    assert!(rt; is_refused(&rt, unknown, &[9, 0xff, 1, 0], Fault::UnexpectedEof)?);
-    // No column is in the image, and none at all is in the event.
-    assert!(rt; is_refused(&rt, unknown, &[2, 0, 5], Fault::UnknownOptionalField(14))?);
-    assert!(rt; is_refused(&rt, unknown, &[0, 5], Fault::UnknownOptionalField(14))?);
+    for (table, described) in TABLES {
+        assert!(rt; describes(rt.alloc(), table, described)?);
+    }
     Ok(())
 }
 
@@ -197,8 +127,8 @@ fn next_steps(rows: &mut RowsEventRows<'_>) -> u128 {
 }
 
 /// The steps before the first call of `next`, after it, and after the fourth.
-fn steps(rt: &HostRuntime, event: &RowsEvent<'_>, table: &TableMapEvent<'_>) -> (u128, u128, u128) {
-    let mut rows = event.rows(rt.alloc(), table);
+fn steps(alloc: Global, event: &RowsEvent<'_>, table: &TableMapEvent<'_>) -> (u128, u128, u128) {
+    let mut rows = event.rows(alloc, table);
     let before = rows.metadata_steps();
     let after = next_steps(&mut rows);
     for _ in 0..2 {
@@ -207,48 +137,63 @@ fn steps(rt: &HostRuntime, event: &RowsEvent<'_>, table: &TableMapEvent<'_>) -> 
     (before, after, next_steps(&mut rows))
 }
 
-/// The steps for the rows of an event over a table whose metadata has one field, two names and two
-/// columns.
+/// The table d.t, whose metadata has one field, two names and two columns.
+const NAMED: &[u8] =
+    b"\x01\0\0\0\0\0\x01\0\x01d\0\x01t\0\x02\x03\x0f\x02\x0a\0\x02\x04\x04\x01a\x01b";
+
+/// The steps for the rows of an event over the table `NAMED`.
 fn steps_of(
-    rt: &HostRuntime,
-    body: &[u8],
+    alloc: Global,
+    rows: &[u8],
     event_type: EventType,
-) -> Result<(u128, u128, u128), Fail> {
-    let bytes = with_metadata(rt, &[4, 4, 1, 0x61, 1, 0x62])?;
-    let table: TableMapEvent<'_> = ParseBuf(&bytes).parse(8)?;
-    let event = read(body, event_type, 10)?;
-    Ok(steps(rt, &event, &table))
+) -> Result<(u128, u128, u128), Fault> {
+    let table: TableMapEvent<'_> = ParseBuf(NAMED).parse(8)?;
+    let event = read(rows, event_type, 10)?;
+    Ok(steps(alloc, &event, &table))
 }
 
 #[test]
-fn steps_of_a_plan(rt: HostRuntime) -> Result<(), Fail> {
-    assert!(rt; steps_of(&rt, TWO_ROWS, EventType::WRITE_ROWS_EVENT)? == (0, 5, 5));
-    Ok(())
+fn steps_of_plans(rt: HostRuntime) {
+    let alloc = rt.alloc();
+    let write = EventType::WRITE_ROWS_EVENT;
+    assert!(rt;
+        all(&[
+            steps_of(alloc, TWO_ROWS, write) == Ok((0, 5, 5)),
+            // An update has two images, and so two plans.
+            steps_of(alloc, UPDATED, EventType::UPDATE_ROWS_EVENT) == Ok((0, 10, 10)),
+            // There are no rows.
+            steps_of(alloc, &TWO_ROWS[..12], write) == Ok((0, 0, 0)),
+        ])
+    );
 }
 
-#[test]
-fn steps_of_two_plans(rt: HostRuntime) -> Result<(), Fail> {
-    // An update has two images.
-    let updated = with_rows(&rt, &[2, 1, 2, 0, 7, 0, 0, 0, 1])?;
-    assert!(rt; steps_of(&rt, &updated, EventType::UPDATE_ROWS_EVENT)? == (0, 10, 10));
-    Ok(())
+/// Whether what is taken out at an index is this number, or nothing.
+fn takes(row: &mut BinlogRow, index: usize, number: Option<i64>) -> bool {
+    match row.take(index) {
+        Some(BinlogValue::Value(Value::Int(found))) => number == Some(found),
+        Some(_) => false,
+        None => number.is_none(),
+    }
 }
 
-#[test]
-fn steps_without_rows(rt: HostRuntime) -> Result<(), Fail> {
-    assert!(rt; steps_of(&rt, &TWO_ROWS[..12], EventType::WRITE_ROWS_EVENT)? == (0, 0, 0));
-    Ok(())
+/// Whether a number is the first value once it was placed there.
+fn places(row: &mut BinlogRow, number: i64) -> bool {
+    if row.is_empty() {
+        return false;
+    }
+    row.place(0, BinlogValue::Value(Value::Int(number)));
+    is_number(row, 0, Some(number))
 }
 
 #[test]
 fn values_taken_out_of_a_row(rt: HostRuntime) -> Result<(), Fail> {
     let mut row = row_of(rt.alloc(), Some(Value::Int(7)))?;
-    assert!(rt; row.take(1).is_none());
-    // That there was a value says that place 0 is in range, which `place` asks.
-    assert!(rt; matches!(row.take(0), Some(BinlogValue::Value(Value::Int(7)))));
-    assert!(rt; row.take(0).is_none());
-    row.place(0, BinlogValue::Value(Value::Int(8)));
-    assert!(rt; is_number(&row, 0, Some(8)));
+    assert!(rt;
+        takes(&mut row, 1, None)
+            && takes(&mut row, 0, Some(7))
+            && takes(&mut row, 0, None)
+            && places(&mut row, 8)
+    );
     Ok(())
 }
 
@@ -273,8 +218,8 @@ fn all_values_of_a_row(rt: HostRuntime) -> Result<(), Fail> {
 }
 
 /// Whether the row is converted to a row of this number, or of no value.
-fn converts(rt: &HostRuntime, row: BinlogRow, number: Option<i64>) -> bool {
-    match row.into_row(rt.alloc()) {
+fn converts(alloc: Global, row: BinlogRow, number: Option<i64>) -> bool {
+    match row.into_row(alloc) {
         Ok(row) => match row.as_ref(0) {
             Some(Value::Int(found)) => row.len() == 1 && number == Some(*found),
             Some(_) => false,
@@ -286,10 +231,13 @@ fn converts(rt: &HostRuntime, row: BinlogRow, number: Option<i64>) -> bool {
 
 #[test]
 fn rows_of_plain_values(rt: HostRuntime) -> Result<(), Fail> {
-    assert!(rt; converts(&rt, row_of(rt.alloc(), Some(Value::Int(7)))?, Some(7)));
-    assert!(rt; converts(&rt, row_of(rt.alloc(), None)?, None));
+    let alloc = rt.alloc();
     let error: BinlogRowToRowError = AllocError.into();
     assert!(rt; matches!(error, BinlogRowToRowError::Memory));
+    assert!(rt;
+        converts(alloc, row_of(alloc, Some(Value::Int(7)))?, Some(7))
+            && converts(alloc, row_of(alloc, None)?, None)
+    );
     Ok(())
 }
 

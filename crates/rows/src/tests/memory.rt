@@ -4,11 +4,14 @@
 //! error of the call that was refused memory; where none was, it asserts the answer. The tests whose
 //! names begin with `nothing` ask for no more memory than the test program itself does.
 
+ghost use Rattle.std.specs.Prelude.{◌≤◌};
+
 use super::jsonb::{has_element, has_key_a};
-use super::{TWO_COLUMNS, TWO_ROWS, all, decode, images, partial, read, trees};
+use super::{TWO_COLUMNS, TWO_ROWS, decode, has_parts, image_counts, images, partial, read, trees};
 use binlog_base::below::{
-    BareBytes, Column, ColumnFlags, ColumnType, Const, EofBytes, LeU16, LeU24, LenEnc, MySerialize,
-    ParseBuf, RawBytes, RawFlags, RawInt, Skip, U8, U8Bytes, Value, VarLen,
+    BareBytes, Column, ColumnFlags, ColumnType, Const, EofBytes, LeU16, LeU24, LenEnc,
+    MyDeserialize, MySerialize, ParseBuf, RawBytes, RawFlags, RawInt, Skip, U8, U8Bytes, Value,
+    VarLen,
 };
 use binlog_base::fault::Fault;
 use binlog_base::misc::my_time_packed_from_binary;
@@ -24,32 +27,31 @@ use binlog_values::jsonb::{
     Value as Json,
 };
 use binlog_values::jsondiff::JsonDiff;
-use mysql_binlog_rows::row::BinlogRow;
-use mysql_binlog_rows::rows_event::{RowPair, RowsEvent, RowsEventRows};
+use mysql_binlog_rows::row::{BinlogRow, BinlogRowToRowError};
+use mysql_binlog_rows::rows_event::{RowPair, RowsEvent, RowsEventCtx, RowsEventRows};
 use mysql_binlog_rows::value::BinlogValue;
 use std::alloc::{AllocError, Global};
 use std::borrow::{CowSlice, CowStr};
 use std::cmp::Ordering;
-use std::fmt::{InlineText, Write};
 use std::rc::RcSlice;
 use std::test::Fail;
 
 #[test]
 fn nothing(_rt: HostRuntime) {}
 
+/// Whether an event of two columns over a table with one column that may be NULL begins without
+/// steps.
+fn begins(alloc: Global, event: &RowsEvent<'_>, table: &TableMapEvent<'_>) -> bool {
+    event.rows(alloc, table).metadata_steps() == 0
+        && table.null_bitmask().count_ones() == 1
+        && image_counts(event) == (None, Some(2))
+}
+
 #[test]
 fn nothing_for_events(rt: HostRuntime) -> Result<(), Fail> {
     let table: TableMapEvent<'_> = ParseBuf(TWO_COLUMNS).parse(8)?;
     let event = read(TWO_ROWS, EventType::WRITE_ROWS_EVENT, 10)?;
-    let after = event.columns_after_image();
-    let rows = event.rows(rt.alloc(), &table);
-    assert!(rt;
-        all(&[
-            rows.metadata_steps() == 0,
-            table.null_bitmask().count_ones() == 1,
-            after.map(|bits| bits.count_ones()) == Some(2),
-        ])
-    );
+    assert!(rt; begins(rt.alloc(), &event, &table));
     Ok(())
 }
 
@@ -64,18 +66,25 @@ fn is_scalar(alloc: Global, bytes: &[u8]) -> Result<bool, Fault> {
 
 #[test]
 fn nothing_for_json(rt: HostRuntime) -> Result<(), Fail> {
-    assert!(rt; has_element(&[2, 2, 0, 10, 0, 5, 1, 0, 5, 2, 0], 1, &Json::I16(2)));
-    assert!(rt; has_element(trees::OVERLAPPING, 1, &Json::Bool(true)));
-    assert!(rt; has_key_a(b"\0\x01\0\x0c\0\x0b\0\x01\0\x04\0\0a"));
-    assert!(rt; is_scalar(rt.alloc(), &[4, 1])? && is_scalar(rt.alloc(), &[5, 7, 0])?);
+    assert!(rt;
+        has_element(&[2, 2, 0, 10, 0, 5, 1, 0, 5, 2, 0], 1, "I16 2")
+            && has_element(trees::OVERLAPPING, 1, "Bool true")
+            && has_key_a(OBJECT)
+            && is_scalar(rt.alloc(), &[4, 1])?
+            && is_scalar(rt.alloc(), &[5, 7, 0])?
+    );
     Ok(())
 }
 
+/// Whether the bytes are a diff with the path `$.a` and a value.
+fn replaces(bytes: &[u8]) -> Result<bool, Fault> {
+    let found: JsonDiff<'_> = ParseBuf(bytes).parse(())?;
+    Ok(found.path() == b"$.a".as_slice() && found.value().is_some())
+}
+
 #[test]
-fn nothing_for_diffs(rt: HostRuntime) -> Result<(), Fail> {
-    let found: JsonDiff<'_> = ParseBuf(partial::REPLACED).parse(())?;
-    assert!(rt; found.path() == b"$.a".as_slice() && found.value().is_some());
-    Ok(())
+fn nothing_for_diffs(rt: HostRuntime) {
+    assert!(rt; replaces(partial::REPLACED) == Ok(true));
 }
 
 #[test]
@@ -108,24 +117,27 @@ fn two_decimals_compared(rt: HostRuntime) -> Result<(), Fail> {
 
 /// Whether a run has so many pairs, and no fault.
 fn decodes(
-    rt: &HostRuntime,
+    alloc: Global,
     table: &[u8],
     rows: &[u8],
     event_type: EventType,
     pairs: usize,
 ) -> Result<bool, Fault> {
-    let decoded = decode(rt, table, rows, event_type, 10)?;
+    let decoded = decode(alloc, table, rows, event_type, 10)?;
     Ok(decoded.fault.is_none() && decoded.pairs.len() == pairs)
 }
 
 #[test]
 fn runs(rt: HostRuntime) -> Result<(), Fail> {
+    let alloc = rt.alloc();
     let write = EventType::WRITE_ROWS_EVENT;
-    assert!(rt; decodes(&rt, TWO_COLUMNS, TWO_ROWS, write, 2)?);
     let update = EventType::UPDATE_ROWS_EVENT;
-    assert!(rt; decodes(&rt, TWO_COLUMNS, images::UPDATED, update, 1)?);
     let partial = EventType::PARTIAL_UPDATE_ROWS_EVENT;
-    assert!(rt; decodes(&rt, partial::TABLE, partial::DIFF, partial, 1)?);
+    assert!(rt;
+        decodes(alloc, TWO_COLUMNS, TWO_ROWS, write, 2)?
+            && decodes(alloc, TWO_COLUMNS, images::UPDATED, update, 1)?
+            && decodes(alloc, partial::TABLE, partial::DIFF, partial, 1)?
+    );
     Ok(())
 }
 
@@ -170,23 +182,26 @@ fn walks(
 
 /// Whether the items of an event are the pairs that `decode_pairs` gives.
 fn walks_alike(
-    rt: &HostRuntime,
+    alloc: Global,
     table: &[u8],
     rows: &[u8],
     event_type: EventType,
 ) -> Result<bool, Fault> {
-    let decoded = decode(rt, table, rows, event_type, 10)?;
-    walks(rt.alloc(), table, rows, event_type, &decoded.pairs)
+    let decoded = decode(alloc, table, rows, event_type, 10)?;
+    walks(alloc, table, rows, event_type, &decoded.pairs)
 }
 
 #[test]
 fn pairs_one_by_one(rt: HostRuntime) -> Result<(), Fail> {
+    let alloc = rt.alloc();
     let write = EventType::WRITE_ROWS_EVENT;
-    assert!(rt; walks_alike(&rt, TWO_COLUMNS, TWO_ROWS, write)?);
     let update = EventType::UPDATE_ROWS_EVENT;
-    assert!(rt; walks_alike(&rt, TWO_COLUMNS, images::UPDATED, update)?);
     let partial = EventType::PARTIAL_UPDATE_ROWS_EVENT;
-    assert!(rt; walks_alike(&rt, partial::TABLE, partial::DIFF, partial)?);
+    assert!(rt;
+        walks_alike(alloc, TWO_COLUMNS, TWO_ROWS, write)?
+            && walks_alike(alloc, TWO_COLUMNS, images::UPDATED, update)?
+            && walks_alike(alloc, partial::TABLE, partial::DIFF, partial)?
+    );
     Ok(())
 }
 
@@ -208,20 +223,39 @@ fn has_tree(alloc: Global, bytes: &[u8], count: u64) -> Result<bool, Fault> {
     Ok(matches!(dom, JsonDom::Container(_)) && read == count)
 }
 
+/// Whether nested arrays are a tree of so many values.
+fn nest(alloc: Global, depth: u16, entries: u8, count: u64) -> Result<bool, Fault>
+    requires some { 1 ≤ depth }
+    requires depth { depth ≤ 200 }
+    requires entries { entries ≤ 2 }
+{
+    has_tree(alloc, &trees::nested(alloc, depth, entries)?, count)
+}
+
+/// Whether nested arrays are refused as a tree with this fault.
+fn nest_too_much(alloc: Global, depth: u16, entries: u8, fault: Fault) -> Result<bool, Fault>
+    requires some { 1 ≤ depth }
+    requires depth { depth ≤ 200 }
+    requires entries { entries ≤ 2 }
+{
+    has_no_tree(alloc, &trees::nested(alloc, depth, entries)?, fault)
+}
+
 #[test]
 fn trees_of_documents(rt: HostRuntime) -> Result<(), Fail> {
     let alloc = rt.alloc();
-    assert!(rt; has_tree(alloc, trees::OVERLAPPING, 2)?);
-    assert!(rt; has_tree(alloc, &trees::nested(alloc, 3, 2)?, 6)?);
-    assert!(rt; has_no_tree(alloc, &trees::nested(alloc, 4, 2)?, Fault::TooManyValues)?);
+    assert!(rt;
+        has_tree(alloc, trees::OVERLAPPING, 2)?
+            && nest(alloc, 3, 2, 6)?
+            && nest_too_much(alloc, 4, 2, Fault::TooManyValues)?
+    );
     Ok(())
 }
 
 #[test]
 fn deep_trees(rt: HostRuntime) -> Result<(), Fail> {
     let alloc = rt.alloc();
-    assert!(rt; has_tree(alloc, &trees::nested(alloc, 100, 1)?, 99)?);
-    assert!(rt; has_no_tree(alloc, &trees::nested(alloc, 101, 1)?, Fault::NestingTooDeep)?);
+    assert!(rt; nest(alloc, 100, 1, 99)? && nest_too_much(alloc, 101, 1, Fault::NestingTooDeep)?);
     Ok(())
 }
 
@@ -241,87 +275,71 @@ fn is_appended(alloc: Global, value: &impl MySerialize, bytes: &[u8]) -> Result<
     Ok(buf.len() == 3 + bytes.len())
 }
 
+/// Whether the bytes are read as a value, which is appended to `old` as the same bytes.
+fn is_rewritten<'a, T: MyDeserialize<'a> + MySerialize + Drop>(
+    alloc: Global,
+    ctx: T::Ctx,
+    bytes: &'a [u8],
+) -> Result<bool, Fault> {
+    let value: T = ParseBuf(bytes).parse(ctx)?;
+    Ok(is_appended(alloc, &value, bytes)?)
+}
+
 #[test]
 fn written_events(rt: HostRuntime) -> Result<(), Fail> {
-    let table: TableMapEvent<'_> = ParseBuf(TWO_COLUMNS).parse(8)?;
-    assert!(rt; is_appended(rt.alloc(), &table, TWO_COLUMNS)?);
-    let event = read(TWO_ROWS, EventType::WRITE_ROWS_EVENT, 10)?;
-    assert!(rt; is_appended(rt.alloc(), &event, TWO_ROWS)?);
+    let ctx = RowsEventCtx {
+        event_type: EventType::WRITE_ROWS_EVENT,
+        post_header_len: 10,
+        write_rows_post_header_len: 10,
+    };
+    assert!(rt;
+        is_rewritten::<TableMapEvent<'_>>(rt.alloc(), 8, TWO_COLUMNS)?
+            && is_rewritten::<RowsEvent<'_>>(rt.alloc(), ctx, TWO_ROWS)?
+    );
     Ok(())
 }
 
 #[test]
 fn written_strings(rt: HostRuntime) -> Result<(), Fail> {
     let alloc = rt.alloc();
-    let raw: RawBytes<'_, EofBytes> = RawBytes::new(CowSlice::Borrowed(b"ab"));
-    assert!(rt; is_appended(alloc, &raw, b"ab")?);
-    let name = ColumnName::new(CowSlice::Borrowed(b"ab"));
-    assert!(rt; is_appended(alloc, &name, b"\x02ab")?);
-    let value = SetStrValue::new(CowSlice::Borrowed(b"ab"));
-    assert!(rt; is_appended(alloc, &value, b"\x02ab")?);
-    let string = JsonbString::new(CowSlice::Borrowed(b"ab"));
-    assert!(rt; is_appended(alloc, &string, b"\x02ab")?);
+    assert!(rt;
+        is_rewritten::<RawBytes<'_, EofBytes>>(alloc, (), b"ab")?
+            && is_rewritten::<RawBytes<'_, U8Bytes>>(alloc, (), b"\x02ab")?
+            && is_rewritten::<RawBytes<'_, LenEnc>>(alloc, (), b"\x02ab")?
+            && is_rewritten::<RawBytes<'_, VarLen>>(alloc, (), b"\x02ab")?
+            && is_rewritten::<RawBytes<'_, BareBytes<2>>>(alloc, 2, b"ab")?
+            && is_rewritten::<ColumnName<'_>>(alloc, (), b"\x02ab")?
+            && is_rewritten::<SetStrValue<'_>>(alloc, (), b"\x02ab")?
+            && is_rewritten::<JsonbString<'_>>(alloc, (), b"\x02ab")?
+    );
     Ok(())
-}
-
-#[test]
-fn written_strings_of_each_kind(rt: HostRuntime) -> Result<(), Fail> {
-    let alloc = rt.alloc();
-    let short: RawBytes<'_, U8Bytes> = RawBytes::new(CowSlice::Borrowed(b"ab"));
-    assert!(rt; is_appended(alloc, &short, b"\x02ab")?);
-    let lenenc: RawBytes<'_, LenEnc> = RawBytes::new(CowSlice::Borrowed(b"ab"));
-    assert!(rt; is_appended(alloc, &lenenc, b"\x02ab")?);
-    let varlen: RawBytes<'_, VarLen> = RawBytes::new(CowSlice::Borrowed(b"ab"));
-    assert!(rt; is_appended(alloc, &varlen, b"\x02ab")?);
-    let bare: RawBytes<'_, BareBytes<2>> = RawBytes::new(CowSlice::Borrowed(b"ab"));
-    assert!(rt; is_appended(alloc, &bare, b"ab")?);
-    Ok(())
-}
-
-/// Whether numbers of each kind are appended.
-fn are_numbers_appended(alloc: Global) -> Result<bool, AllocError> {
-    Ok(
-        is_appended(alloc, &RawInt::<LeU24>::new(0x3_0201), b"\x01\x02\x03")?
-            && is_appended(alloc, &RawInt::<LenEnc>::new(251), b"\xfc\xfb\0")?
-            && is_appended(alloc, &RawInt::<VarLen>::new(300), b"\xac\x02")?,
-    )
 }
 
 #[test]
 fn written_numbers(rt: HostRuntime) -> Result<(), Fail> {
     let alloc = rt.alloc();
-    assert!(rt; are_numbers_appended(alloc)?);
-    let flags = RawFlags::<ColumnFlags, LeU16>::new(0x22);
-    assert!(rt; is_appended(alloc, &flags, b"\x22\0")?);
-    let long = Const::<ColumnType, U8>::new(ColumnType::MYSQL_TYPE_LONG);
-    assert!(rt; is_appended(alloc, &long, &[3])?);
-    assert!(rt; is_appended(alloc, &Skip::<2>, &[0, 0])?);
-    let id: TableId = ParseBuf(&[1, 0, 0, 0]).parse(6)?;
-    assert!(rt; is_appended(alloc, &id, &[1, 0, 0, 0, 0, 0])?);
+    assert!(rt;
+        is_rewritten::<RawInt<LeU24>>(alloc, (), b"\x01\x02\x03")?
+            && is_rewritten::<RawInt<LenEnc>>(alloc, (), b"\xfc\xfb\0")?
+            && is_rewritten::<RawInt<VarLen>>(alloc, (), b"\xac\x02")?
+            && is_rewritten::<RawFlags<ColumnFlags, LeU16>>(alloc, (), b"\x22\0")?
+            && is_rewritten::<Const<ColumnType, U8>>(alloc, (), &[3])?
+            && is_rewritten::<Skip<2>>(alloc, (), &[0, 0])?
+            && is_rewritten::<TableId>(alloc, 8, &[1, 0, 0, 0, 0, 0])?
+    );
     Ok(())
 }
 
 #[test]
 fn written_fields(rt: HostRuntime) -> Result<(), Fail> {
     let alloc = rt.alloc();
-    let charsets: ColumnCharsets<'_> = ListOf::new(&[8, 0x21]);
-    assert!(rt; is_appended(alloc, &charsets, &[8, 0x21])?);
-    let default = DefaultCharset::new(45, ListOf::new(&[1, 0x21]));
-    assert!(rt; is_appended(alloc, &default, &[0x2d, 1, 0x21])?);
-    assert!(rt; is_appended(alloc, &NonDefaultCharset::new(1, 33), &[1, 0x21])?);
-    assert!(rt; is_appended(alloc, &PrimaryKeyWithPrefix::new(2, 10), &[2, 10])?);
-    Ok(())
-}
-
-/// Whether the bytes are read as string values, which are appended as the same bytes.
-fn are_values_appended(alloc: Global, bytes: &[u8]) -> Result<bool, Fault> {
-    let values: SetStrValues<'_> = ParseBuf(bytes).parse(alloc)?;
-    Ok(is_appended(alloc, &values, bytes)?)
-}
-
-#[test]
-fn values_of_a_set(rt: HostRuntime) -> Result<(), Fail> {
-    assert!(rt; are_values_appended(rt.alloc(), b"\x02\x01a\x01b")?);
+    assert!(rt;
+        is_rewritten::<ColumnCharsets<'_>>(alloc, (), &[8, 0x21])?
+            && is_rewritten::<DefaultCharset<'_>>(alloc, (), &[0x2d, 1, 0x21])?
+            && is_rewritten::<NonDefaultCharset>(alloc, (), &[1, 0x21])?
+            && is_rewritten::<PrimaryKeyWithPrefix>(alloc, (), &[2, 10])?
+            && is_rewritten::<SetStrValues<'_>>(alloc, alloc, b"\x02\x01a\x01b")?
+    );
     Ok(())
 }
 
@@ -401,9 +419,11 @@ fn is_text(alloc: Global, bytes: &[u8], expected: &str) -> Result<bool, Fault> {
 #[test]
 fn written_texts(rt: HostRuntime) -> Result<(), Fail> {
     let time = &[15, 12, 8, 0, 0, 0, 0x80, 0xc7, 0xb6, 0xa4, 0x19];
-    assert!(rt; is_text(rt.alloc(), time, "2019-11-27 12:30:00")?);
     let opaque = &[15, 252, 1, 0x61];
-    assert!(rt; is_text(rt.alloc(), opaque, "base64:type252:YQ==")?);
+    assert!(rt;
+        is_text(rt.alloc(), time, "2019-11-27 12:30:00")?
+            && is_text(rt.alloc(), opaque, "base64:type252:YQ==")?
+    );
     Ok(())
 }
 
@@ -440,106 +460,154 @@ fn copies_of_tables(rt: HostRuntime) -> Result<(), Fail> {
     Ok(())
 }
 
+/// Whether an event that owns its bytes has the same parts.
+fn is_owned_event(alloc: Global, event: RowsEvent<'_>) -> Result<bool, AllocError> {
+    let owned = event.into_owned(alloc)?;
+    Ok(has_parts(&owned, 1, 2, &TWO_ROWS[12..]))
+}
+
+/// Whether a table map event that owns its bytes is equal to this one.
+fn is_owned_table(
+    alloc: Global,
+    table: TableMapEvent<'_>,
+    other: &TableMapEvent<'_>,
+) -> Result<bool, AllocError> {
+    Ok(table.into_owned(alloc)? == *other)
+}
+
 #[test]
 fn owned_events(rt: HostRuntime) -> Result<(), Fail> {
-    let event = read(TWO_ROWS, EventType::WRITE_ROWS_EVENT, 10)?.into_owned(rt.alloc())?;
-    assert!(rt; event.table_id() == 1);
+    let event = read(TWO_ROWS, EventType::WRITE_ROWS_EVENT, 10)?;
+    assert!(rt; is_owned_event(rt.alloc(), event)?);
     Ok(())
 }
 
 #[test]
 fn an_owned_table(rt: HostRuntime) -> Result<(), Fail> {
     let table: TableMapEvent<'_> = ParseBuf(TWO_COLUMNS).parse(8)?;
-    let owned = table.into_owned(rt.alloc())?;
-    assert!(rt; owned.table_id() == 1);
+    let other: TableMapEvent<'_> = ParseBuf(TWO_COLUMNS).parse(8)?;
+    assert!(rt; is_owned_table(rt.alloc(), table, &other)?);
     Ok(())
 }
 
-/// Whether the text stands for a byte that isn't UTF-8.
-fn is_lossy(text: Result<CowStr<'_>, AllocError>) -> Result<bool, AllocError> {
-    Ok(text?.as_str() == "\u{fffd}")
+/// Whether it is this text.
+fn is_lossy(found: Result<CowStr<'_>, AllocError>, text: &str) -> Result<bool, AllocError> {
+    Ok(found?.as_str() == text)
 }
 
 /// A table whose database and name are a byte that isn't UTF-8, without columns.
 const LOSSY: &[u8] = b"\x01\0\0\0\0\0\x01\0\x01\xff\0\x01\xff\0\0\0";
 
-/// Whether the names of a table are lossy.
-fn has_lossy_names(alloc: Global, table: &TableMapEvent<'_>) -> Result<bool, AllocError> {
-    Ok(is_lossy(table.database_name(alloc))? && is_lossy(table.table_name(alloc))?)
+/// Whether the names of a table are these.
+fn has_names(
+    alloc: Global,
+    table: &TableMapEvent<'_>,
+    database: &str,
+    name: &str,
+) -> Result<bool, AllocError> {
+    Ok(is_lossy(table.database_name(alloc), database)? && is_lossy(table.table_name(alloc), name)?)
 }
 
 #[test]
-fn lossy_names(rt: HostRuntime) -> Result<(), Fail> {
-    let table: TableMapEvent<'_> = ParseBuf(LOSSY).parse(8)?;
-    assert!(rt; has_lossy_names(rt.alloc(), &table)?);
+fn names_of_tables(rt: HostRuntime) -> Result<(), Fail> {
+    for (bytes, database, name) in [(LOSSY, "\u{fffd}", "\u{fffd}"), (TWO_COLUMNS, "d", "t")] {
+        let table: TableMapEvent<'_> = ParseBuf(bytes).parse(8)?;
+        assert!(rt; has_names(rt.alloc(), &table, database, name)?);
+    }
     Ok(())
 }
 
-/// Whether each kind of text is lossy where its byte isn't UTF-8.
-fn name_is_lossy(alloc: Global) -> Result<bool, AllocError> {
-    is_lossy(ColumnName::new(CowSlice::Borrowed(b"\xff")).name(alloc))
+/// Whether each kind of bytes has this text.
+fn name_is(alloc: Global, bytes: &[u8], text: &str) -> Result<bool, AllocError> {
+    is_lossy(ColumnName::new(CowSlice::Borrowed(bytes)).name(alloc), text)
 }
 
-fn value_is_lossy(alloc: Global) -> Result<bool, AllocError> {
-    is_lossy(SetStrValue::new(CowSlice::Borrowed(b"\xff")).value(alloc))
+fn value_is(alloc: Global, bytes: &[u8], text: &str) -> Result<bool, AllocError> {
+    is_lossy(
+        SetStrValue::new(CowSlice::Borrowed(bytes)).value(alloc),
+        text,
+    )
 }
 
-fn bytes_are_lossy(alloc: Global) -> Result<bool, AllocError> {
-    is_lossy(RawBytes::<'_, EofBytes>::new(CowSlice::Borrowed(b"\xff")).as_str(alloc))
+fn bytes_are(alloc: Global, bytes: &[u8], text: &str) -> Result<bool, AllocError> {
+    is_lossy(
+        RawBytes::<'_, EofBytes>::new(CowSlice::Borrowed(bytes)).as_str(alloc),
+        text,
+    )
 }
 
-fn string_is_lossy(alloc: Global) -> Result<bool, AllocError> {
-    is_lossy(JsonbString::new(CowSlice::Borrowed(b"\xff")).str(alloc))
+fn string_is(alloc: Global, bytes: &[u8], text: &str) -> Result<bool, AllocError> {
+    is_lossy(JsonbString::new(CowSlice::Borrowed(bytes)).str(alloc), text)
 }
 
-fn key_is_lossy(alloc: Global) -> Result<bool, AllocError> {
-    is_lossy(ObjectKey::new(CowSlice::Borrowed(b"\xff")).value(alloc))
+fn key_is(alloc: Global, bytes: &[u8], text: &str) -> Result<bool, AllocError> {
+    is_lossy(ObjectKey::new(CowSlice::Borrowed(bytes)).value(alloc), text)
 }
 
-fn opaque_is_lossy(alloc: Global) -> Result<bool, AllocError> {
-    let bytes = CowSlice::Borrowed(b"\xff");
-    is_lossy(OpaqueValue::new(ColumnType::MYSQL_TYPE_BLOB, bytes).data(alloc))
+fn opaque_is(alloc: Global, bytes: &[u8], text: &str) -> Result<bool, AllocError> {
+    let bytes = CowSlice::Borrowed(bytes);
+    is_lossy(
+        OpaqueValue::new(ColumnType::MYSQL_TYPE_BLOB, bytes).data(alloc),
+        text,
+    )
 }
 
-fn path_is_lossy(alloc: Global) -> Result<bool, Fault> {
-    // The operation REMOVE and the path.
-    let diff: JsonDiff<'_> = ParseBuf(b"\x02\x01\xff").parse(())?;
-    Ok(is_lossy(diff.path_str(alloc))?)
-}
-
-#[test]
-fn a_lossy_path(rt: HostRuntime) -> Result<(), Fail> {
-    assert!(rt; path_is_lossy(rt.alloc())?);
-    Ok(())
-}
+/// Bytes and their texts: a byte that isn't UTF-8 is replaced.
+const TEXTS: [(&[u8], &str); 2] = [(b"ab", "ab"), (b"a\xffb", "a\u{fffd}b")];
 
 #[test]
 fn lossy_texts(rt: HostRuntime) -> Result<(), Fail> {
     let alloc = rt.alloc();
-    assert!(rt; name_is_lossy(alloc)? && value_is_lossy(alloc)? && bytes_are_lossy(alloc)?);
-    assert!(rt; string_is_lossy(alloc)? && key_is_lossy(alloc)? && opaque_is_lossy(alloc)?);
+    for (bytes, text) in TEXTS {
+        assert!(rt;
+            name_is(alloc, bytes, text)?
+                && value_is(alloc, bytes, text)?
+                && bytes_are(alloc, bytes, text)?
+                && string_is(alloc, bytes, text)?
+                && key_is(alloc, bytes, text)?
+                && opaque_is(alloc, bytes, text)?
+        );
+    }
     Ok(())
 }
 
-/// Whether a decimal has this text, which is written without memory.
-fn shows(decimal: &Decimal, text: &str) -> bool {
-    let mut room = InlineText::<16>::new();
-    write!(room, "{decimal}").is_ok() && room.as_str() == text
+/// Whether the path of a diff has this text.
+fn path_is(alloc: Global, bytes: &[u8], text: &str) -> Result<bool, Fault> {
+    let diff: JsonDiff<'_> = ParseBuf(bytes).parse(())?;
+    Ok(is_lossy(diff.path_str(alloc), text)?)
+}
+
+#[test]
+fn lossy_paths(rt: HostRuntime) -> Result<(), Fail> {
+    // The operation REMOVE and the path.
+    assert!(rt;
+        path_is(rt.alloc(), b"\x02\x01\xff", "\u{fffd}")?
+            && path_is(rt.alloc(), b"\x02\x03$.a", "$.a")?
+    );
+    Ok(())
+}
+
+/// Whether a decimal has this text.
+fn shows<E>(decimal: Result<Decimal, E>, text: &str) -> Result<bool, E> {
+    Ok(super::has_text(&decimal?, text))
+}
+
+/// Whether a copy of a packed decimal has this text.
+fn copy_shows(alloc: Global, mut bytes: &[u8], text: &str) -> Result<bool, Fault> {
+    let decimal = Decimal::read_packed(alloc, &mut bytes, true)?;
+    Ok(shows(decimal.clone(alloc), text)?)
 }
 
 #[test]
 fn decimals(rt: HostRuntime) -> Result<(), Fail> {
     let alloc = rt.alloc();
-    assert!(rt; shows(&Decimal::from_str(alloc, "-1.5")?, "-1.5"));
-    assert!(rt; shows(&Decimal::parse_bytes(alloc, b"1.5")?, "1.5"));
-    assert!(rt; shows(&Decimal::default(alloc)?, "0"));
-    assert!(rt; shows(&decimal(alloc, &[0x7f, 0xfe])?, "-0.01"));
-    let mut bytes: &[u8] = &[4, 2, 0x7f, 0xfe];
     assert!(rt;
-        shows(
-            &Decimal::read_packed(alloc, &mut bytes, true)?.clone(alloc)?,
-            "-0.01"
-        )
+        shows(Decimal::from_str(alloc, "-1.5"), "-1.5")?
+            && shows(Decimal::parse_bytes(alloc, b"1.5"), "1.5")?
+            && shows(Decimal::parse_str_bytes(alloc, b"1.5"), "1.5")?
+            && shows(Decimal::default(alloc), "0")?
+            && shows(decimal(alloc, &[0x7f, 0xfe]), "-0.01")?
+            && copy_shows(alloc, &[4, 2, 0x7f, 0xfe], "-0.01")?
     );
     Ok(())
 }
@@ -552,7 +620,6 @@ fn has_text(alloc: Global, bytes: &[u8], text: &[u8]) -> Result<bool, Fault> {
 
 #[test]
 fn texts_of_decimals(rt: HostRuntime) -> Result<(), Fail> {
-    assert!(rt; shows(&Decimal::parse_str_bytes(rt.alloc(), b"1.5")?, "1.5"));
     assert!(rt; has_text(rt.alloc(), &[0x7f, 0xfe], b"-0.01")?);
     Ok(())
 }
@@ -601,36 +668,53 @@ fn text_row(alloc: Global) -> Result<BinlogRow, Fault> {
     Ok(BinlogRow::new(vec![in alloc; Some(text_cell(alloc)?)]?, columns))
 }
 
+/// Whether a row of one column has an equal copy.
+fn has_row_copy(alloc: Global, row: &BinlogRow) -> Result<bool, AllocError> {
+    Ok(row.columns(alloc)?.len() == 1 && row.clone(alloc)? == *row)
+}
+
+/// How many values a row has once it is converted to plain values.
+fn plain_len(alloc: Global, row: BinlogRow) -> Result<usize, BinlogRowToRowError> {
+    Ok(row.into_row(alloc)?.len())
+}
+
 #[test]
 fn copies_of_rows(rt: HostRuntime) -> Result<(), Fail> {
-    let row = text_row(rt.alloc())?;
-    assert!(rt; row.columns(rt.alloc())?.len() == 1);
-    assert!(rt; row.clone(rt.alloc())? == row);
+    assert!(rt; has_row_copy(rt.alloc(), &text_row(rt.alloc())?)?);
     Ok(())
 }
 
 #[test]
 fn values_of_rows(rt: HostRuntime) -> Result<(), Fail> {
     assert!(rt; images::unwrapped(rt.alloc(), 8)?.len() == 1);
-    assert!(rt; text_row(rt.alloc())?.into_row(rt.alloc())?.len() == 1);
+    assert!(rt; plain_len(rt.alloc(), text_row(rt.alloc())?)? == 1);
     Ok(())
 }
 
-/// Whether a JSON value has an equal copy.
-fn has_json_copy(alloc: Global, value: &Json<'_>) -> Result<bool, AllocError> {
-    Ok(value.clone(alloc)? == *value)
+/// Whether a copy of a JSON value is equal to the other one.
+fn has_json_copy(alloc: Global, value: &Json<'_>, other: &Json<'_>) -> Result<bool, AllocError> {
+    Ok(value.clone(alloc)? == *other)
 }
 
-/// Whether a JSON value that owns its bytes has an equal copy.
+/// Whether a copy of a JSON value that owns its bytes is equal to what the bytes are.
 fn is_owned(alloc: Global, bytes: &[u8]) -> Result<bool, Fault> {
+    let other: Json<'_> = ParseBuf(bytes).parse(())?;
     let value: Json<'_> = ParseBuf(bytes).parse(())?;
-    Ok(has_json_copy(alloc, &value.into_owned(alloc)?)?)
+    Ok(has_json_copy(alloc, &value.into_owned(alloc)?, &other)?)
 }
+
+/// An object of the key `a` and the literal null.
+const OBJECT: &[u8] = b"\0\x01\0\x0c\0\x0b\0\x01\0\x04\0\0a";
 
 #[test]
 fn copies_of_json(rt: HostRuntime) -> Result<(), Fail> {
-    assert!(rt; is_owned(rt.alloc(), trees::OVERLAPPING)? && is_owned(rt.alloc(), &[12, 1, 0x61])?);
-    assert!(rt; is_owned(rt.alloc(), &[15, 252, 1, 0x61])?);
+    let alloc = rt.alloc();
+    assert!(rt;
+        is_owned(alloc, trees::OVERLAPPING)?
+            && is_owned(alloc, OBJECT)?
+            && is_owned(alloc, &[12, 1, 0x61])?
+            && is_owned(alloc, &[15, 252, 1, 0x61])?
+    );
     Ok(())
 }
 
@@ -664,8 +748,13 @@ fn opaque_is_owned(alloc: Global) -> Result<bool, AllocError> {
 #[test]
 fn owned_strings(rt: HostRuntime) -> Result<(), Fail> {
     let alloc = rt.alloc();
-    assert!(rt; name_is_owned(alloc)? && bytes_are_owned(alloc)? && bytes_are_copied(alloc)?);
-    assert!(rt; string_is_owned(alloc)? && opaque_is_owned(alloc)?);
+    assert!(rt;
+        name_is_owned(alloc)?
+            && bytes_are_owned(alloc)?
+            && bytes_are_copied(alloc)?
+            && string_is_owned(alloc)?
+            && opaque_is_owned(alloc)?
+    );
     Ok(())
 }
 
@@ -689,19 +778,26 @@ fn has_tree_copy(alloc: Global, dom: &JsonDom) -> Result<bool, AllocError> {
 
 #[test]
 fn copies_of_trees(rt: HostRuntime) -> Result<(), Fail> {
-    let value: Json<'_> = ParseBuf(trees::OVERLAPPING).parse(())?;
-    assert!(rt; has_tree_copy(rt.alloc(), &value.parse(rt.alloc())?)?);
+    for bytes in [trees::OVERLAPPING, OBJECT] {
+        let value: Json<'_> = ParseBuf(bytes).parse(())?;
+        assert!(rt; has_tree_copy(rt.alloc(), &value.parse(rt.alloc())?)?);
+    }
     Ok(())
 }
 
-/// Whether a diff has an equal copy.
-fn has_diff_copy(alloc: Global, diff: &JsonDiff<'_>) -> Result<bool, AllocError> {
-    Ok(diff.clone(alloc)? == *diff)
+/// Whether a copy of a diff is equal to the other one.
+fn has_diff_copy(
+    alloc: Global,
+    diff: &JsonDiff<'_>,
+    other: &JsonDiff<'_>,
+) -> Result<bool, AllocError> {
+    Ok(diff.clone(alloc)? == *other)
 }
 
 #[test]
 fn copies_of_diffs(rt: HostRuntime) -> Result<(), Fail> {
+    let other: JsonDiff<'_> = ParseBuf(partial::REPLACED).parse(())?;
     let diff: JsonDiff<'_> = ParseBuf(partial::REPLACED).parse(())?;
-    assert!(rt; has_diff_copy(rt.alloc(), &diff.into_owned(rt.alloc())?)?);
+    assert!(rt; has_diff_copy(rt.alloc(), &diff.into_owned(rt.alloc())?, &other)?);
     Ok(())
 }

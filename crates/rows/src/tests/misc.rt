@@ -10,10 +10,10 @@ use binlog_base::below::{Counted, Failed, ParseBuf, Sink, Source, Value, read_ex
 use binlog_base::fault::Fault;
 use binlog_base::laws;
 use binlog_base::misc::{
-    DATETIMEF_INT_OFS, LimitWrite, LimitedWrite, TIMEF_INT_OFS, TIMEF_OFS, datetime_from_packed,
-    my_datetime_packed_from_binary, my_packed_time_get_frac_part, my_packed_time_get_int_part,
-    my_packed_time_make, my_packed_time_make_int, my_time_packed_from_binary,
-    my_timestamp_from_binary, time_from_packed,
+    DATETIMEF_INT_OFS, DateTimeFields, LimitWrite, LimitedWrite, TIMEF_INT_OFS, TIMEF_OFS,
+    TimeFields, datetime_from_packed, my_datetime_packed_from_binary, my_packed_time_get_frac_part,
+    my_packed_time_get_int_part, my_packed_time_make, my_packed_time_make_int,
+    my_time_packed_from_binary, my_timestamp_from_binary, time_from_packed,
 };
 use std::io::{self, ErrorKind, Read, Write};
 use std::test::Fail;
@@ -97,6 +97,7 @@ fn values_of_times(rt: HostRuntime) {
             time_from_packed(-100_000) == Value::Time(true, 0, 0, 0, 0, 100_000),
             time_from_packed(0x1_9000 << 24) == Value::Time(false, 1, 1, 0, 0, 0),
             time_from_packed(i64::MIN) == Value::Time(true, 0, 0, 0, 0, 0),
+            TimeFields::of_packed(-100_000).microsecond == 100_000,
         ])
     );
 }
@@ -109,6 +110,7 @@ fn datetimes_of_bytes(rt: HostRuntime) {
             datetime2(&[0x99, 0xa4, 0xb6, 0xc7, 0x80], 0) == Ok(packed),
             datetime_from_packed(packed) == Value::Date(2019, 11, 27, 12, 30, 0, 0),
             datetime_from_packed(i64::MIN) == Value::Date(10082, 6, 0, 0, 0, 0, 0),
+            DateTimeFields::of_packed(packed).year == 2019,
             datetime2(&[0, 0, 0, 0, 0, 0xff], 2) == Err(Fault::TimeRange),
         ])
     );

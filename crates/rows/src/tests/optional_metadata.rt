@@ -1,17 +1,16 @@
 //! Tests of optional metadata: its fields, the lists in them, and what is extracted for rows.
 
-use super::{TWO_COLUMNS, all};
-use binlog_base::below::{ColumnType, GeometryType, MyDeserialize, MySerialize, ParseBuf};
+use super::all;
+use binlog_base::below::{ColumnType, GeometryType, ParseBuf};
 use binlog_base::fault::Fault;
 use binlog_table::laws::columns_are_in_place;
 use binlog_table::table_map::TableMapEvent;
 use binlog_table::table_map::optional::{
     ColumnCharsets, ColumnName, ColumnNames, DefaultCharset, GeometryTypes, ListOf,
     NonDefaultCharset, OptionalMetaExtractor, OptionalMetadataField, OptionalMetadataIter,
-    PrimaryKeyWithPrefix, PrimaryKeysWithPrefix, SetStrValue, SetStrValues, SetsStrValues,
-    SimplePrimaryKey, TableColumn, TableColumns, VectorDimensionalities,
+    PrimaryKeyWithPrefix, PrimaryKeysWithPrefix, SetStrValues, SetsStrValues, SimplePrimaryKey,
+    TableColumn, TableColumns, VectorDimensionalities,
 };
-use std::borrow::CowSlice;
 use std::test::Fail;
 
 type Item<'a> = Option<Result<OptionalMetadataField<'a>, Fault>>;
@@ -179,14 +178,6 @@ fn names_of_columns(rt: HostRuntime) {
     );
 }
 
-#[test]
-fn a_name(rt: HostRuntime) -> Result<(), Fail> {
-    let name = ColumnName::new(CowSlice::Borrowed(b"a"));
-    assert!(rt; name.name(rt.alloc())?.as_str() == "a");
-    assert!(rt; name.into_owned(rt.alloc())?.name_raw() == b"a".as_slice());
-    Ok(())
-}
-
 /// Whether an item is the values of one column, `a` and `b`.
 fn are_a_and_b(
     rt: &HostRuntime,
@@ -207,9 +198,11 @@ fn are_a_and_b(
 
 #[test]
 fn values_of_sets(rt: HostRuntime) -> Result<(), Fail> {
-    let sets: SetsStrValues<'_> = ListOf::new(&[2, 1, 0x61, 1, 0x62, 0xfc, 0xff, 0xff]);
+    let sets: SetsStrValues<'_> = ListOf::new(&[2, 1, 0x61, 1, 0x62]);
     let mut columns = sets.iter_values(rt.alloc());
-    assert!(rt; are_a_and_b(&rt, &columns.next())?);
+    assert!(rt; are_a_and_b(&rt, &columns.next())? && columns.next().is_none());
+    let cut: SetsStrValues<'_> = ListOf::new(&[0xfc, 0xff, 0xff]);
+    let mut columns = cut.iter_values(rt.alloc());
     assert!(rt;
         all(&[
             matches!(columns.next(), Some(Err(Fault::UnexpectedEof))),
@@ -335,66 +328,29 @@ fn is_column(
     }
 }
 
+/// The table d.t with a sign and two names.
+const NAMED: &[u8] = b"\x01\0\0\0\0\0\x01\0\x01d\0\x01t\0\x02\x03\x0f\x02\x0a\0\x02\
+    \x01\x01\x80\x04\x04\x01a\x01b";
+
+/// Whether the columns are `a`, an unsigned LONG, and `b`, a VARCHAR, in six steps: two fields, two
+/// names and two columns.
+fn are_a_long_and_a_varchar(columns: &mut TableColumns<'_>) -> bool {
+    is_column(&columns.next(), ColumnType::MYSQL_TYPE_LONG, true, b"a")
+        && is_column(
+            &columns.take_column(),
+            ColumnType::MYSQL_TYPE_VARCHAR,
+            false,
+            b"b",
+        )
+        && columns.next().is_none()
+        && columns.steps() == 6
+}
+
 #[test]
 fn columns_in_one_walk(rt: HostRuntime) -> Result<(), Fail> {
-    let mut bytes = TWO_COLUMNS.to_vec(rt.alloc())?;
-    bytes.extend_from_slice(&[1, 1, 0x80, 4, 4, 1, 0x61, 1, 0x62])?;
-    let table: TableMapEvent<'_> = ParseBuf(&bytes).parse(8)?;
+    let table: TableMapEvent<'_> = ParseBuf(NAMED).parse(8)?;
     let mut columns = TableColumns::new(&table);
-    assert!(rt;
-        all(&[
-            columns.fault().is_none(),
-            is_column(&columns.next(), ColumnType::MYSQL_TYPE_LONG, true, b"a"),
-            is_column(
-                &columns.take_column(),
-                ColumnType::MYSQL_TYPE_VARCHAR,
-                false,
-                b"b"
-            ),
-            columns.next().is_none(),
-            // Two fields, two names and two columns.
-            columns.steps() == 6,
-        ])
-    );
+    assert!(rt; columns.fault().is_none() && are_a_long_and_a_varchar(&mut columns));
     columns_are_in_place();
-    Ok(())
-}
-
-/// Whether the bytes are read as a value of this type, and the value is written as the same bytes.
-fn is_rewritten<'a, T: MyDeserialize<'a, Ctx = ()> + MySerialize + Drop>(
-    rt: &HostRuntime,
-    bytes: &'a [u8],
-) -> Result<bool, Fail> {
-    let value: T = ParseBuf(bytes).parse(())?;
-    let mut written = Vec::new(rt.alloc());
-    value.serialize(&mut written)?;
-    Ok(written.as_slice() == bytes)
-}
-
-/// Whether charsets, names and values are rewritten.
-fn are_texts_rewritten(rt: &HostRuntime) -> Result<bool, Fail> {
-    Ok(
-        is_rewritten::<DefaultCharset<'_>>(rt, &[0x2d, 1, 0x21])?
-            && is_rewritten::<NonDefaultCharset>(rt, &[1, 0x21])?
-            && is_rewritten::<ColumnCharsets<'_>>(rt, &[8, 0x21])?
-            && is_rewritten::<ColumnName<'_>>(rt, &[1, 0x61])?
-            && is_rewritten::<SetStrValue<'_>>(rt, &[1, 0x61])?
-            && is_rewritten::<PrimaryKeyWithPrefix>(rt, &[0, 10])?,
-    )
-}
-
-#[test]
-fn fields_are_rewritten(rt: HostRuntime) -> Result<(), Fail> {
-    assert!(rt; are_texts_rewritten(&rt)?);
-    Ok(())
-}
-
-#[test]
-fn values_are_rewritten(rt: HostRuntime) -> Result<(), Fail> {
-    let bytes = [2, 1, 0x61, 1, 0x62];
-    let values: SetStrValues<'_> = ParseBuf(&bytes).parse(rt.alloc())?;
-    let mut written = Vec::new(rt.alloc());
-    values.serialize(&mut written)?;
-    assert!(rt; written.as_slice() == bytes.as_slice());
     Ok(())
 }

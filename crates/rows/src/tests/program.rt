@@ -17,14 +17,12 @@ const USAGE: &str = "usage: rows MLEN TYPE PLEN WLEN MAPHEX ROWSHEX\n";
 /// The table d.t of an INT and a VARCHAR column.
 const TABLE: &str = "010000000000010001640001740002030F020A0002";
 
-/// Whether the program, on these words, ends with the status and writes these texts.
-fn prints(
-    alloc: Global,
-    all: &[&str],
-    status: u8,
-    text: &str,
-    usage: &str,
-) -> Result<bool, AllocError> {
+/// A table of two JSON columns.
+const DOCUMENTS: &str = "010000000000010001640001740002F5F502040403";
+
+/// Whether the program, on these words, ends with the status and writes the text: to the standard
+/// error if the status is 2.
+fn prints(alloc: Global, all: &[&str], status: u8, text: &str) -> Result<bool, AllocError> {
     let mut words = Vec::new(alloc);
     for word in all {
         words.push(String::from_str(alloc, word)?)?;
@@ -32,52 +30,345 @@ fn prints(
     let mut out = Vec::new(alloc);
     let mut err = Vec::new(alloc);
     let answer = run(alloc, &words, &mut out, &mut err);
-    Ok(answer == status && out.as_slice() == text.as_bytes() && err.as_slice() == usage.as_bytes())
-}
-
-/// Returns whether the program, on a WRITE_ROWS_EVENT over the table d.t, ends with the status and
-/// writes the text.
-fn prints_rows(alloc: Global, rows: &str, status: u8, text: &str) -> Result<bool, AllocError> {
-    prints(
-        alloc,
-        &["8", "1E", "10", "10", TABLE, rows],
-        status,
-        text,
-        "",
+    let (output, error) = if status == 2 { ("", text) } else { (text, "") };
+    Ok(
+        answer == status
+            && out.as_slice() == output.as_bytes()
+            && err.as_slice() == error.as_bytes(),
     )
 }
 
+/// Events: the type, the table, the rows event, the status, and what is printed.
+const EVENTS: [(&str, &str, &str, u8, &str); 46] = [
+    // Two inserted rows, and the same with digits in either case and a text of no bytes.
+    (
+        "1E",
+        TABLE,
+        "010000000000010002000203002A00000002616202FFFFFFFF",
+        0,
+        "- -> {@0=42, @1=x6162}\n- -> {@0=-1, @1=NULL}\n",
+    ),
+    (
+        "1E",
+        TABLE,
+        "010000000000010002000203002a0000000002FfffffFF",
+        0,
+        "- -> {@0=42, @1=x}\n- -> {@0=-1, @1=NULL}\n",
+    ),
+    ("1E", TABLE, "010000000000010002000203", 0, ""),
+    // Only the second column is in the image.
+    (
+        "1E",
+        TABLE,
+        "01000000000001000200020200026162",
+        0,
+        "- -> {@1=x6162}\n",
+    ),
+    // The last byte is cut.
+    (
+        "1E",
+        TABLE,
+        "010000000000010002000203002A00000002616202FFFFFF",
+        1,
+        "- -> {@0=42, @1=x6162}\nfault UnexpectedEof\n",
+    ),
+    // No column is in the image, or none at all in the event, so a pair has no bytes.
+    ("1E", TABLE, "010000000000010002000200", 0, ""),
+    ("1E", TABLE, "0100000000000100020000", 0, ""),
+    (
+        "1E",
+        TABLE,
+        "010000000000010002000005",
+        1,
+        "fault EmptyPair\n",
+    ),
+    (
+        "1E",
+        TABLE,
+        "01000000000001000200020005",
+        1,
+        "fault EmptyPair\n",
+    ),
+    (
+        "1F",
+        TABLE,
+        "0100000000000100020002000005",
+        1,
+        "fault EmptyPair\n",
+    ),
+    // The event has three columns.
+    (
+        "1E",
+        TABLE,
+        "0100000000000100020003070700",
+        1,
+        "fault NoColumnType\n",
+    ),
+    (
+        "1E",
+        TABLE,
+        "01000000000001000200030707",
+        1,
+        "fault NoColumnType\n",
+    ),
+    // Counts of columns that are no number, or too large; then both events are refused: the fault
+    // is that of the table map event.
+    (
+        "1E",
+        TABLE,
+        "01000000000001000200FB",
+        1,
+        "fault BadLenEnc\n",
+    ),
+    (
+        "1E",
+        TABLE,
+        "01000000000001000200FEFFFFFFFFFFFFFFFF",
+        1,
+        "fault UnexpectedEof\n",
+    ),
+    (
+        "1E",
+        "010000000000010001640001740002030F020A00",
+        "01000000000001000200FB",
+        1,
+        "fault UnexpectedEof\n",
+    ),
+    ("1E", TABLE, "", 1, "fault UnexpectedEof\n"),
+    (
+        "1E",
+        "",
+        "010000000000010002000203",
+        1,
+        "fault UnexpectedEof\n",
+    ),
+    // VARCHAR without metadata.
+    (
+        "1E",
+        "010000000000010001640001740002030F0002",
+        "010000000000010002000203002A0000000261620200000000",
+        1,
+        "fault MissingMetadata\n",
+    ),
+    (
+        "1E",
+        "0100000000000100016400017400010F0001",
+        "01000000000001000200010100026162",
+        1,
+        "fault MissingMetadata\n",
+    ),
+    // An unknown type, and a STRING column whose metadata names another type.
+    (
+        "1E",
+        "01000000000001000164000174000203F40002",
+        "010000000000010002000203002A0000000261620200000000",
+        1,
+        "fault UnknownColumnType(244)\n",
+    ),
+    (
+        "1E",
+        "01000000000001000164000174000203FE02110002",
+        "010000000000010002000203002A0000000261620200000000",
+        1,
+        "fault UnexpectedColumnType(49)\n",
+    ),
+    // LONG, LONG, LONG and an unknown type: the cell of the second is cut, or all three are whole.
+    (
+        "1E",
+        "010000000000010001640001740004030303F40000",
+        "01000000000001000200040F000100000002",
+        1,
+        "fault UnexpectedEof\n",
+    ),
+    (
+        "1E",
+        "010000000000010001640001740004030303F40000",
+        "01000000000001000200040F00010000000200000003000000",
+        1,
+        "fault UnknownColumnType(244)\n",
+    ),
+    // Deleted rows, of both versions, and an update with other columns in each image.
+    (
+        "20",
+        TABLE,
+        "010000000000010002000203002A0000000261620200000000",
+        0,
+        "{@0=42, @1=x6162} -> -\n{@0=0, @1=NULL} -> -\n",
+    ),
+    (
+        "19",
+        TABLE,
+        "010000000000010002000203002A00000002616202FFFFFFFF",
+        0,
+        "{@0=42, @1=x6162} -> -\n{@0=-1, @1=NULL} -> -\n",
+    ),
+    (
+        "1F",
+        TABLE,
+        "01000000000001000200020102000700000001",
+        0,
+        "{@0=7} -> {@1=NULL}\n",
+    ),
+    // A sign bit, two names, a key column, and a default character set.
+    (
+        "1E",
+        "010000000000010001640001740002030F020A0002010180040401610162080100020121",
+        "010000000000010002000203002A00000002616202FFFFFFFF",
+        0,
+        "- -> {a=42, b=x6162}\n- -> {a=4294967295, b=NULL}\n",
+    ),
+    (
+        "1F",
+        "010000000000010001640001740002030F020A0002010180040401610162080100020121",
+        "01000000000001000200020102000700000001",
+        0,
+        "{a=7} -> {b=NULL}\n",
+    ),
+    // One name for two columns; key columns without and with a prefix. The fault of the keys belongs
+    // to no column.
+    (
+        "1E",
+        "010000000000010001640001740002030F020A000204020161",
+        "010000000000010002000203002A00000002616202FFFFFFFF",
+        0,
+        "- -> {a=42, @1=x6162}\n- -> {a=-1, @1=NULL}\n",
+    ),
+    (
+        "1E",
+        "010000000000010001640001740002030F020A000208030000FB",
+        "010000000000010002000203002A00000002616202FFFFFFFF",
+        0,
+        "- -> {@0=42, @1=x6162}\n- -> {@0=-1, @1=NULL}\n",
+    ),
+    (
+        "1E",
+        "010000000000010001640001740002030F020A000209020103",
+        "010000000000010002000203002A00000002616202FFFFFFFF",
+        0,
+        "- -> {@0=42, @1=x6162}\n- -> {@0=-1, @1=NULL}\n",
+    ),
+    // The fault of the key belongs to column 1, so the cell of column 0 comes before it.
+    (
+        "1E",
+        "010000000000010001640001740002030F020A0002080200FB",
+        "010000000000010002000203002A",
+        1,
+        "fault UnexpectedEof\n",
+    ),
+    (
+        "1E",
+        "010000000000010001640001740002030F020A0002080200FB",
+        "010000000000010002000203002A000000026162",
+        1,
+        "fault BadLenEnc\n",
+    ),
+    // Column 0 takes its key, although it isn't in the image.
+    (
+        "1E",
+        "010000000000010001640001740002030F020A0002080200FB",
+        "01000000000001000200020200026162",
+        1,
+        "fault BadLenEnc\n",
+    ),
+    // An unknown field comes before the cells, and after the null bits.
+    (
+        "1E",
+        "010000000000010001640001740002030F020A00020E00",
+        "010000000000010002000203002A",
+        1,
+        "fault UnknownOptionalField(14)\n",
+    ),
+    (
+        "1E",
+        "010000000000010001640001740002030F020A00020E00",
+        "0100000000000100020009FF0100",
+        1,
+        "fault UnexpectedEof\n",
+    ),
+    // No column is in the image, and none at all is in the event.
+    (
+        "1E",
+        "010000000000010001640001740002030F020A00020E00",
+        "01000000000001000200020005",
+        1,
+        "fault UnknownOptionalField(14)\n",
+    ),
+    (
+        "1E",
+        "010000000000010001640001740002030F020A00020E00",
+        "010000000000010002000005",
+        1,
+        "fault UnknownOptionalField(14)\n",
+    ),
+    // A cell of each form of text: the bits of floats, a date, a time; of the types FLOAT, DOUBLE,
+    // DATE and TIME2.
+    (
+        "1E",
+        "01000000000001000164000174000404050A13030408020F",
+        "01000000000001000200040F000000803F000000000000F03F7BC70F7FFFFFF6",
+        0,
+        "- -> {@0=f32:3f800000, @1=f64:3ff0000000000000, @2=date(2019,11,27,0,0,0,0), @3=time(true,0,0,0,0,100000)}\n",
+    ),
+    // Partial updates: a diff, and whole documents.
+    (
+        "27",
+        DOCUMENTS,
+        "01000000000001000200020002010200050000000203242E61",
+        0,
+        "{} -> {@1=diffs(1)}\n",
+    ),
+    (
+        "27",
+        DOCUMENTS,
+        "01000000000001000200020002000003000000052A00",
+        0,
+        "{} -> {@1=scalar}\n",
+    ),
+    (
+        "27",
+        DOCUMENTS,
+        "010000000000010002000200020000050000000000000400",
+        0,
+        "{} -> {@1=object(0)}\n",
+    ),
+    (
+        "27",
+        DOCUMENTS,
+        "010000000000010002000200020000050000000200000400",
+        0,
+        "{} -> {@1=array(0)}\n",
+    ),
+    // Images without columns.
+    (
+        "27",
+        TABLE,
+        "010000000000010002000200000000",
+        0,
+        "{} -> {}\n{} -> {}\n",
+    ),
+    // The options of the after-image can't be read. An unknown field is a fault of the before-
+    // image.
+    (
+        "27",
+        TABLE,
+        "01000000000001000200020003FB",
+        1,
+        "fault BadLenEnc\n",
+    ),
+    (
+        "27",
+        "010000000000010001640001740002030F020A00020E00",
+        "01000000000001000200020003FB",
+        1,
+        "fault UnknownOptionalField(14)\n",
+    ),
+];
+
 #[test]
-fn rows_of_a_table(rt: HostRuntime) -> Result<(), Fail> {
-    let cases = [
-        (
-            "010000000000010002000203002A00000002616202FFFFFFFF",
-            0,
-            "- -> {@0=42, @1=x6162}\n- -> {@0=-1, @1=NULL}\n",
-        ),
-        // Digits in either case, and a text of no bytes.
-        (
-            "010000000000010002000203002a0000000002FfffffFF",
-            0,
-            "- -> {@0=42, @1=x}\n- -> {@0=-1, @1=NULL}\n",
-        ),
-        ("010000000000010002000203", 0, ""),
-        // Only the second column is in the image.
-        ("01000000000001000200020200026162", 0, "- -> {@1=x6162}\n"),
-        // The last byte is cut.
-        (
-            "010000000000010002000203002A00000002616202FFFFFF",
-            1,
-            "- -> {@0=42, @1=x6162}\nfault UnexpectedEof\n",
-        ),
-        ("0100000000000100020000", 0, ""),
-        ("010000000000010002000005", 1, "fault EmptyPair\n"),
-        ("0100000000000100020003070700", 1, "fault NoColumnType\n"),
-        ("01000000000001000200FB", 1, "fault BadLenEnc\n"),
-        ("", 1, "fault UnexpectedEof\n"),
-    ];
-    for (rows, status, text) in cases {
-        assert!(rt; prints_rows(rt.alloc(), rows, status, text)?, "{rows}");
+fn events(rt: HostRuntime) -> Result<(), Fail> {
+    for (event, table, rows, status, text) in EVENTS.iter() {
+        let words = ["8", *event, "10", "10", *table, *rows];
+        assert!(rt; prints(rt.alloc(), &words, *status, *text)?, "{rows}");
     }
     Ok(())
 }
@@ -101,7 +392,8 @@ fn cut_events(rt: HostRuntime) -> Result<(), Fail> {
     for len in 0..=25 {
         let (status, text) = printed(len);
         let rows = str::from_utf8(&INSERTED[..2 * len])?;
-        assert!(rt; prints_rows(rt.alloc(), rows, status, text)?, "{len}");
+        let words = ["8", "1E", "10", "10", TABLE, rows];
+        assert!(rt; prints(rt.alloc(), &words, status, text)?);
     }
     Ok(())
 }
@@ -115,98 +407,37 @@ fn cut_tables(rt: HostRuntime) -> Result<(), Fail> {
     for len in 0..21 {
         let table = str::from_utf8(&TABLE_DIGITS[..2 * len])?;
         let words = ["8", "1E", "10", "10", table, rows];
-        assert!(rt; prints(rt.alloc(), &words, 1, "fault UnexpectedEof\n", "")?);
+        assert!(rt; prints(rt.alloc(), &words, 1, "fault UnexpectedEof\n")?);
     }
     Ok(())
-}
-
-#[test]
-fn described_columns(rt: HostRuntime) -> Result<(), Fail> {
-    // A sign bit, two names, a key column, and a default character set.
-    let table = "010000000000010001640001740002030F020A0002010180040401610162080100020121";
-    let inserted = "010000000000010002000203002A00000002616202FFFFFFFF";
-    let text = "- -> {a=42, b=x6162}\n- -> {a=4294967295, b=NULL}\n";
-    let words = ["8", "1E", "10", "10", table, inserted];
-    assert!(rt; prints(rt.alloc(), &words, 0, text, "")?);
-    // An update of column a to column b.
-    let updated = "01000000000001000200020102000700000001";
-    let words = ["8", "1F", "10", "10", table, updated];
-    assert!(rt; prints(rt.alloc(), &words, 0, "{a=7} -> {b=NULL}\n", "")?);
-    Ok(())
-}
-
-/// Runs over other tables: the type of the event, the table, the status, and what is printed.
-const OTHER_TABLES: [(&str, &str, u8, &str); 5] = [
-    // Two deleted rows.
-    (
-        "20",
-        TABLE,
-        0,
-        "{@0=42, @1=x6162} -> -\n{@0=0, @1=NULL} -> -\n",
-    ),
-    // VARCHAR without metadata, an unknown type, and a STRING column whose metadata names another
-    // type.
-    (
-        "1E",
-        "010000000000010001640001740002030F0002",
-        1,
-        "fault MissingMetadata\n",
-    ),
-    (
-        "1E",
-        "01000000000001000164000174000203F40002",
-        1,
-        "fault UnknownColumnType(244)\n",
-    ),
-    (
-        "1E",
-        "01000000000001000164000174000203FE02110002",
-        1,
-        "fault UnexpectedColumnType(49)\n",
-    ),
-    ("1E", "", 1, "fault UnexpectedEof\n"),
-];
-
-#[test]
-fn other_tables(rt: HostRuntime) -> Result<(), Fail> {
-    let rows = "010000000000010002000203002A0000000261620200000000";
-    for (event, table, status, text) in OTHER_TABLES.iter() {
-        let words = ["8", *event, "10", "10", *table, rows];
-        assert!(rt; prints(rt.alloc(), &words, *status, *text, "")?);
-    }
-    Ok(())
-}
-
-/// Whether the program, on an insert of the first version, with post-header lengths of 6, ends with
-/// the status and writes these texts.
-fn prints_first(
-    alloc: Global,
-    table: &str,
-    rows: &str,
-    status: u8,
-    text: &str,
-    usage: &str,
-) -> Result<bool, AllocError> {
-    let words = ["6", "17", "6", "010", table, rows];
-    prints(alloc, &words, status, text, usage)
 }
 
 #[test]
 fn the_first_version(rt: HostRuntime) -> Result<(), Fail> {
-    let alloc = rt.alloc();
-    let table = "01000000010001640001740001030001";
-    let rows = "01000000010001010002000000";
-    assert!(rt; prints_first(alloc, table, rows, 0, "- -> {@0=2}\n", "")?);
-    // A space in either word.
-    let spaced = "0100000001000164000174000103 0001";
-    assert!(rt; prints_first(alloc, spaced, rows, 2, "", USAGE)?);
-    let spaced = "0100000001000101000200 0000";
-    assert!(rt; prints_first(alloc, table, spaced, 2, "", USAGE)?);
+    // The post-header of a table map event has 6 bytes or 8, that of the rows event 6.
+    let cases = [
+        (
+            "6",
+            "01000000010001640001740001030001",
+            "01000000010001010002000000",
+            "- -> {@0=2}\n",
+        ),
+        (
+            "8",
+            TABLE,
+            "010000000100020303",
+            "- -> {@0=NULL, @1=NULL}\n",
+        ),
+    ];
+    for (table_len, table, rows, text) in cases {
+        let words = [table_len, "17", "6", "010", table, rows];
+        assert!(rt; prints(rt.alloc(), &words, 0, text)?);
+    }
     Ok(())
 }
 
 /// Inserts that a MariaDB 10.11 server wrote, and the rows that its tables held afterwards.
-const REAL_INSERTS: [(&str, &str, &str); 13] = [
+const REAL_INSERTS: [(&str, &str, &str); 32] = [
     (
         "e6000000000001000464625f42000278360001030001",
         "e6000000000001000101fe01000000",
@@ -272,19 +503,7 @@ const REAL_INSERTS: [(&str, &str, &str); 13] = [
         "f6020000000001000203fc0b00000002736afc0c00000002736afc0d000000027363",
         "- -> {@0=11, @1=x736a}\n- -> {@0=12, @1=x736a}\n- -> {@0=13, @1=x7363}\n",
     ),
-];
-
-#[test]
-fn real_inserts(rt: HostRuntime) -> Result<(), Fail> {
-    for (table, rows, text) in REAL_INSERTS.iter() {
-        let words = ["8", "17", "8", "10", *table, *rows];
-        assert!(rt; prints(rt.alloc(), &words, 0, *text, "")?);
-    }
-    Ok(())
-}
-
-/// Inserts of other types, all but one written by the same server.
-const OTHER_INSERTS: [(&str, &str, &str); 19] = [
+    // Other types. All but one event were written by the same server.
     (
         "ea000000000001000464625f4200037831300001010001",
         "ea000000000001000101fe01",
@@ -395,23 +614,11 @@ const OTHER_INSERTS: [(&str, &str, &str); 19] = [
 ];
 
 #[test]
-fn real_inserts_of_other_types(rt: HostRuntime) -> Result<(), Fail> {
-    for (table, rows, text) in OTHER_INSERTS.iter() {
+fn real_inserts(rt: HostRuntime) -> Result<(), Fail> {
+    for (table, rows, text) in REAL_INSERTS.iter() {
         let words = ["8", "17", "8", "10", *table, *rows];
-        assert!(rt; prints(rt.alloc(), &words, 0, *text, "")?);
+        assert!(rt; prints(rt.alloc(), &words, 0, *text)?);
     }
-    Ok(())
-}
-
-/// A cell of each form of text: the bits of floats, a date, a time; of the types FLOAT, DOUBLE, DATE and TIME2.
-#[test]
-fn forms_of_cells(rt: HostRuntime) -> Result<(), Fail> {
-    let table = "01000000000001000164000174000404050A13030408020F";
-    let rows = "01000000000001000200040F000000803F000000000000F03F7BC70F7FFFFFF6";
-    let text =
-        "- -> {@0=f32:3f800000, @1=f64:3ff0000000000000, @2=date(2019,11,27,0,0,0,0), @3=time(true,0,0,0,0,100000)}\n";
-    let words = ["8", "1E", "10", "10", table, rows];
-    assert!(rt; prints(rt.alloc(), &words, 0, text, "")?);
     Ok(())
 }
 
@@ -425,16 +632,8 @@ fn long_bytes(rt: HostRuntime) -> Result<(), Fail> {
         write!(text, "{byte:02x}")?;
     }
     text.push_str("}\n")?;
-    let table = "010000000000010001640001740002030F020A0002";
-    assert!(rt;
-        prints(
-            rt.alloc(),
-            &["8", "1E", "10", "10", table, &rows],
-            0,
-            &text,
-            ""
-        )?
-    );
+    let words = ["8", "1E", "10", "10", TABLE, &rows];
+    assert!(rt; prints(rt.alloc(), &words, 0, &text)?);
     Ok(())
 }
 
@@ -454,35 +653,50 @@ fn lines_of_faults(rt: HostRuntime) {
     assert!(rt; out.as_slice() == b"fault Memory\n".as_slice());
 }
 
+/// Arguments that aren't the program's.
+const NO_WORDS: [&[&str]; 20] = [
+    &[],
+    &["8", "1E", "10", "10", TABLE],
+    &["8", "1E", "10", "10", TABLE, "00", "00"],
+    // Each argument in turn isn't in its form.
+    &["256", "1E", "10", "10", TABLE, "00"],
+    &["", "1E", "10", "10", TABLE, "00"],
+    &["+8", "1E", "10", "10", TABLE, "00"],
+    &["-8", "1E", "10", "10", TABLE, "00"],
+    &["8", "29", "10", "10", TABLE, "00"],
+    &["8", "2B", "10", "10", TABLE, "00"],
+    &["8", "1", "10", "10", TABLE, "00"],
+    &["8", "01E", "10", "10", TABLE, "00"],
+    &["8", "", "10", "10", TABLE, "00"],
+    &["8", "1E", "1000", "10", TABLE, "00"],
+    &["8", "1E", "0010", "10", TABLE, "00"],
+    &["8", "1E", "10", "1e1", TABLE, "00"],
+    &["8", "1E", "10", "10", "010", "00"],
+    &["8", "1E", "10", "10", TABLE, "0g"],
+    &["8", "1E", "10", "10", TABLE, "0 "],
+    // A space in either word of bytes.
+    &[
+        "6",
+        "17",
+        "6",
+        "010",
+        "0100000001000164000174000103 0001",
+        "01000000010001010002000000",
+    ],
+    &[
+        "6",
+        "17",
+        "6",
+        "010",
+        "01000000010001640001740001030001",
+        "0100000001000101000200 0000",
+    ],
+];
+
 #[test]
 fn usage(rt: HostRuntime) -> Result<(), Fail> {
-    let good = ["8", "1E", "10", "10", TABLE, "00"];
-    assert!(rt; prints(rt.alloc(), &[], 2, "", USAGE)?);
-    assert!(rt; prints(rt.alloc(), &good[..5], 2, "", USAGE)?);
-    let seven = ["8", "1E", "10", "10", TABLE, "00", "00"];
-    assert!(rt; prints(rt.alloc(), &seven, 2, "", USAGE)?);
-    // Each argument in turn isn't in its form.
-    let bad = [
-        (0, "256"),
-        (0, ""),
-        (0, "+8"),
-        (0, "-8"),
-        (1, "29"),
-        (1, "2B"),
-        (1, "1"),
-        (1, "01E"),
-        (1, ""),
-        (2, "1000"),
-        (2, "0010"),
-        (3, "1e1"),
-        (4, "010"),
-        (5, "0g"),
-        (5, "0 "),
-    ];
-    for (place, word) in bad {
-        let mut words = good;
-        words[place] = word;
-        assert!(rt; prints(rt.alloc(), &words, 2, "", USAGE)?, "{word}");
+    for words in NO_WORDS {
+        assert!(rt; prints(rt.alloc(), words, 2, USAGE)?);
     }
     Ok(())
 }
@@ -509,45 +723,6 @@ fn status_of_closed(alloc: Global) -> Result<u8, AllocError> {
         words.push(String::from_str(alloc, word)?)?;
     }
     Ok(run(alloc, &words, &mut Closed, &mut Closed))
-}
-
-/// A table of two JSON columns.
-const DOCUMENTS: &str = "010000000000010001640001740002F5F502040403";
-
-#[test]
-fn partial_updates(rt: HostRuntime) -> Result<(), Fail> {
-    let cases = [
-        (
-            DOCUMENTS,
-            "01000000000001000200020002010200050000000203242E61",
-            "{} -> {@1=diffs(1)}\n",
-        ),
-        (
-            DOCUMENTS,
-            "01000000000001000200020002000003000000052A00",
-            "{} -> {@1=scalar}\n",
-        ),
-        (
-            DOCUMENTS,
-            "010000000000010002000200020000050000000000000400",
-            "{} -> {@1=object(0)}\n",
-        ),
-        (
-            DOCUMENTS,
-            "010000000000010002000200020000050000000200000400",
-            "{} -> {@1=array(0)}\n",
-        ),
-        (
-            TABLE,
-            "010000000000010002000200000000",
-            "{} -> {}\n{} -> {}\n",
-        ),
-    ];
-    for (table, rows, text) in cases {
-        let words = ["8", "27", "10", "10", table, rows];
-        assert!(rt; prints(rt.alloc(), &words, 0, text, "")?, "{rows}");
-    }
-    Ok(())
 }
 
 #[test]

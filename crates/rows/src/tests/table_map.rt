@@ -6,13 +6,6 @@ use binlog_base::fault::Fault;
 use binlog_table::table_map::{BadColumnType, TableId, TableMapEvent};
 use std::test::Fail;
 
-/// The table d.t, with these bytes from the count of the columns on.
-fn with_columns(rt: &HostRuntime, columns: &[u8]) -> Result<Vec<u8>, Fail> {
-    let mut bytes = TWO_COLUMNS[..14].to_vec(rt.alloc())?;
-    bytes.extend_from_slice(columns)?;
-    Ok(bytes)
-}
-
 fn read(bytes: &[u8], post_header_len: u8) -> Result<TableMapEvent<'_>, Fault> {
     ParseBuf(bytes).parse(post_header_len)
 }
@@ -84,31 +77,6 @@ fn has_two_columns(table: &TableMapEvent<'_>) -> bool {
         && is_column(table, (2, Ok(None), None))
 }
 
-/// Whether these are the texts of the names.
-fn has_texts(rt: &HostRuntime, table: &TableMapEvent<'_>, database: &str, name: &str) -> bool {
-    match (
-        table.database_name(rt.alloc()),
-        table.table_name(rt.alloc()),
-    ) {
-        (Ok(one), Ok(other)) => one.as_str() == database && other.as_str() == name,
-        _ => false,
-    }
-}
-
-/// Whether these bytes are written for a table.
-fn is_written(rt: &HostRuntime, table: &TableMapEvent<'_>, bytes: &[u8]) -> bool {
-    let mut buf = Vec::new(rt.alloc());
-    table.serialize(&mut buf).is_ok() && buf.as_slice() == bytes
-}
-
-/// Whether a copy of a table is equal to it.
-fn is_copied(rt: &HostRuntime, table: &TableMapEvent<'_>) -> bool {
-    match table.clone(rt.alloc()) {
-        Ok(copy) => copy == *table,
-        Err(_) => false,
-    }
-}
-
 #[test]
 fn a_table_of_two_columns(rt: HostRuntime) -> Result<(), Fail> {
     let table = read(TWO_COLUMNS, 8)?;
@@ -120,9 +88,6 @@ fn a_table_of_two_columns(rt: HostRuntime) -> Result<(), Fail> {
             is_read_as(TWO_COLUMNS, 10, &table),
             has_two_columns(&table),
             has_raw_types(&table),
-            has_texts(&rt, &table, "d", "t"),
-            is_written(&rt, &table, TWO_COLUMNS),
-            is_copied(&rt, &table),
         ])
     );
     Ok(())
@@ -138,26 +103,32 @@ fn cut_events(rt: HostRuntime) {
     }
 }
 
+/// Tables d.t whose counts are out of range, with their faults.
+const HOSTILE: [(&[u8], Fault); 5] = [
+    (b"\x01\0\0\0\0\0\x01\0\x01d\0\x01t\0\xfb", Fault::BadLenEnc),
+    (
+        b"\x01\0\0\0\0\0\x01\0\x01d\0\x01t\0\xfe\xff\xff\xff\xff\xff\xff\xff\xff",
+        Fault::UnexpectedEof,
+    ),
+    (
+        b"\x01\0\0\0\0\0\x01\0\x01d\0\x01t\0\xfe\0\0\0\0\0\0\0\x80\x03",
+        Fault::UnexpectedEof,
+    ),
+    (
+        b"\x01\0\0\0\0\0\x01\0\x01d\0\x01t\0\x01\x03\xff",
+        Fault::BadLenEnc,
+    ),
+    (
+        b"\x01\0\0\0\0\0\x01\0\x01d\0\x01t\0\x01\x03\xfe\xff\xff\xff\xff\xff\xff\xff\xff",
+        Fault::UnexpectedEof,
+    ),
+];
+
 #[test]
-fn hostile_counts(rt: HostRuntime) -> Result<(), Fail> {
-    let rows: [(&[u8], Fault); 5] = [
-        (&[0xfb], Fault::BadLenEnc),
-        (
-            &[0xfe, 0xff, 0xff, 0xff, 0xff, 0xff, 0xff, 0xff, 0xff],
-            Fault::UnexpectedEof,
-        ),
-        (&[0xfe, 0, 0, 0, 0, 0, 0, 0, 0x80, 3], Fault::UnexpectedEof),
-        (&[1, 3, 0xff], Fault::BadLenEnc),
-        (
-            &[1, 3, 0xfe, 0xff, 0xff, 0xff, 0xff, 0xff, 0xff, 0xff, 0xff],
-            Fault::UnexpectedEof,
-        ),
-    ];
-    for (columns, fault) in rows {
-        let bytes = with_columns(&rt, columns)?;
-        assert!(rt; is_refused(bytes.as_slice(), fault), "{columns:?}");
+fn hostile_counts(rt: HostRuntime) {
+    for (bytes, fault) in HOSTILE {
+        assert!(rt; is_refused(bytes, fault));
     }
-    Ok(())
 }
 
 #[test]
@@ -230,25 +201,25 @@ fn has_two_strings(table: &TableMapEvent<'_>) -> bool {
     is_column(table, (0, string, Some(&[0, 5]))) && is_column(table, (1, string, None))
 }
 
-#[test]
-fn types_of_columns(rt: HostRuntime) -> Result<(), Fail> {
-    let nine = read(NINE_COLUMNS, 8)?;
-    let two = read(TWO_STRINGS, 8)?;
-    assert!(rt;
-        all(&[
-            has_strings_and_date(&nine),
-            has_arrays_and_unknown(&nine),
-            walks_alike(&nine, 9),
-            has_two_strings(&two),
-            walks_alike(&two, 2),
-        ])
-    );
-    Ok(())
+/// Whether the bytes are the nine columns.
+fn are_nine(bytes: &[u8]) -> bool {
+    match read(bytes, 8) {
+        Ok(table) => {
+            has_strings_and_date(&table) && has_arrays_and_unknown(&table) && walks_alike(&table, 9)
+        }
+        Err(_) => false,
+    }
+}
+
+/// Whether the bytes are the two STRING columns.
+fn are_two(bytes: &[u8]) -> bool {
+    match read(bytes, 8) {
+        Ok(table) => has_two_strings(&table) && walks_alike(&table, 2),
+        Err(_) => false,
+    }
 }
 
 #[test]
-fn an_owned_table(rt: HostRuntime) -> Result<(), Fail> {
-    let owned = read(TWO_COLUMNS, 8)?.into_owned(rt.alloc())?;
-    assert!(rt; is_table(&owned, 1, b"d", b"t"));
-    Ok(())
+fn types_of_columns(rt: HostRuntime) {
+    assert!(rt; are_nine(NINE_COLUMNS) && are_two(TWO_STRINGS));
 }

@@ -432,9 +432,9 @@ fn has_copy(alloc: Global, event: &RowsEvent<'_>) -> Result<bool, AllocError> {
     Ok(event.clone(alloc)? == *event)
 }
 
-/// Whether a table map event has an equal copy.
+/// Whether a copy of a table map event that owns its bytes is equal to it.
 fn has_table_copy(alloc: Global, table: &TableMapEvent<'_>) -> Result<bool, AllocError> {
-    Ok(table.clone(alloc)? == *table)
+    Ok(table.clone(alloc)?.into_owned(alloc)? == *table)
 }
 
 /// Whether the table map event that the bytes are has an equal copy.
@@ -466,27 +466,10 @@ fn is_owned_event(alloc: Global, event: RowsEvent<'_>) -> Result<bool, AllocErro
     Ok(has_parts(&owned, 1, 2, &TWO_ROWS[12..]))
 }
 
-/// Whether a table map event that owns its bytes is equal to this one.
-fn is_owned_table(
-    alloc: Global,
-    table: TableMapEvent<'_>,
-    other: &TableMapEvent<'_>,
-) -> Result<bool, AllocError> {
-    Ok(table.into_owned(alloc)? == *other)
-}
-
 #[test]
 fn owned_events(rt: HostRuntime) -> Result<(), Fail> {
     let event = read(TWO_ROWS, EventType::WRITE_ROWS_EVENT, 10)?;
     assert!(rt; is_owned_event(rt.alloc(), event)?);
-    Ok(())
-}
-
-#[test]
-fn an_owned_table(rt: HostRuntime) -> Result<(), Fail> {
-    let table: TableMapEvent<'_> = ParseBuf(TWO_COLUMNS).parse(8)?;
-    let other: TableMapEvent<'_> = ParseBuf(TWO_COLUMNS).parse(8)?;
-    assert!(rt; is_owned_table(rt.alloc(), table, &other)?);
     Ok(())
 }
 
@@ -691,16 +674,15 @@ fn values_of_rows(rt: HostRuntime) -> Result<(), Fail> {
     Ok(())
 }
 
-/// Whether a copy of a JSON value is equal to the other one.
-fn has_json_copy(alloc: Global, value: &Json<'_>, other: &Json<'_>) -> Result<bool, AllocError> {
-    Ok(value.clone(alloc)? == *other)
+/// Whether a copy of a JSON value that owns its bytes is equal to it.
+fn has_json_copy(alloc: Global, value: &Json<'_>) -> Result<bool, AllocError> {
+    Ok(value.clone(alloc)?.into_owned(alloc)? == *value)
 }
 
-/// Whether a copy of a JSON value that owns its bytes is equal to what the bytes are.
-fn is_owned(alloc: Global, bytes: &[u8]) -> Result<bool, Fault> {
-    let other: Json<'_> = ParseBuf(bytes).parse(())?;
+/// Whether the bytes are a JSON value, and a copy that owns its bytes is equal to it.
+fn is_copied(alloc: Global, bytes: &[u8]) -> Result<bool, Fault> {
     let value: Json<'_> = ParseBuf(bytes).parse(())?;
-    Ok(has_json_copy(alloc, &value.into_owned(alloc)?, &other)?)
+    Ok(has_json_copy(alloc, &value)?)
 }
 
 /// An object of the key `a` and the literal null.
@@ -710,10 +692,10 @@ const OBJECT: &[u8] = b"\0\x01\0\x0c\0\x0b\0\x01\0\x04\0\0a";
 fn copies_of_json(rt: HostRuntime) -> Result<(), Fail> {
     let alloc = rt.alloc();
     assert!(rt;
-        is_owned(alloc, trees::OVERLAPPING)?
-            && is_owned(alloc, OBJECT)?
-            && is_owned(alloc, &[12, 1, 0x61])?
-            && is_owned(alloc, &[15, 252, 1, 0x61])?
+        is_copied(alloc, trees::OVERLAPPING)?
+            && is_copied(alloc, OBJECT)?
+            && is_copied(alloc, &[12, 1, 0x61])?
+            && is_copied(alloc, &[15, 252, 1, 0x61])?
     );
     Ok(())
 }
@@ -785,19 +767,14 @@ fn copies_of_trees(rt: HostRuntime) -> Result<(), Fail> {
     Ok(())
 }
 
-/// Whether a copy of a diff is equal to the other one.
-fn has_diff_copy(
-    alloc: Global,
-    diff: &JsonDiff<'_>,
-    other: &JsonDiff<'_>,
-) -> Result<bool, AllocError> {
-    Ok(diff.clone(alloc)? == *other)
+/// Whether a copy of a diff that owns its bytes is equal to it.
+fn has_diff_copy(alloc: Global, diff: &JsonDiff<'_>) -> Result<bool, AllocError> {
+    Ok(diff.clone(alloc)?.into_owned(alloc)? == *diff)
 }
 
 #[test]
 fn copies_of_diffs(rt: HostRuntime) -> Result<(), Fail> {
-    let other: JsonDiff<'_> = ParseBuf(partial::REPLACED).parse(())?;
     let diff: JsonDiff<'_> = ParseBuf(partial::REPLACED).parse(())?;
-    assert!(rt; has_diff_copy(rt.alloc(), &diff.into_owned(rt.alloc())?, &other)?);
+    assert!(rt; has_diff_copy(rt.alloc(), &diff)?);
     Ok(())
 }

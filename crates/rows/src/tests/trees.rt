@@ -30,7 +30,7 @@ const SHARED: &[u8] = &[
 pub(super) const OVERLAPPING: &[u8] = &[2, 2, 0, 12, 0, 12, 7, 0, 4, 1, 0, 0x78, 0x79];
 
 /// Documents, each with the tree or the fault, and the count.
-const DOCUMENTS: [(&[u8], &str, u64); 30] = [
+const DOCUMENTS: &[(&[u8], &str, u64)] = &[
     (
         &[2, 2, 0, 10, 0, 5, 1, 0, 5, 2, 0],
         "Ok(Container(Array([Scalar(Number(Int(1))), Scalar(Number(Int(2)))])))",
@@ -185,7 +185,7 @@ const DOCUMENTS: [(&[u8], &str, u64); 30] = [
 #[test]
 fn documents(rt: HostRuntime) -> Result<(), Fail> {
     for (bytes, text, count) in DOCUMENTS {
-        assert!(rt; is_parsed(rt.alloc(), bytes, text, count)?);
+        assert!(rt; is_parsed(rt.alloc(), *bytes, *text, *count)?);
     }
     Ok(())
 }

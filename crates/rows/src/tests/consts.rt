@@ -277,11 +277,6 @@ fn group_numbers(rt: HostRuntime) -> Result<(), Fail> {
         );
     }
     assert!(rt; Gno::try_from(2)? < Gno::try_from(300)?);
-    let alloc = rt.alloc();
-    assert!(rt;
-        InvalidGno(highest).to_string(alloc)?.as_str()
-            == "9223372036854775807 is neither 0 nor a group number from 1 up to, but not including, 9223372036854775807"
-    );
     Ok(())
 }
 
@@ -318,7 +313,7 @@ fn event_flags_by_bits(rt: HostRuntime) {
 }
 
 #[test]
-fn flags_of_row_events(rt: HostRuntime) -> Result<(), Fail> {
+fn flags_of_row_events(rt: HostRuntime) {
     let ends = RowsEventFlags::STMT_END;
     let named = [
         (0x0001, ends),
@@ -361,11 +356,6 @@ fn flags_of_row_events(rt: HostRuntime) -> Result<(), Fail> {
             !ends.contains(kept),
         ])
     );
-    assert!(rt;
-        UnknownRowsEventFlags(17).to_string(rt.alloc())?.as_str()
-            == "0x11 has a bit that no flag of a row event has"
-    );
-    Ok(())
 }
 
 #[test]
@@ -467,6 +457,14 @@ fn texts_of_errors_of_flags(rt: HostRuntime) {
             has_text(
                 &UnknownTransactionPayloadCompressionType(1),
                 "no compression of a transaction payload has number 1"
+            ),
+            has_text(
+                &InvalidGno(0x7fff_ffff_ffff_ffff),
+                "9223372036854775807 is neither 0 nor a group number from 1 up to, but not including, 9223372036854775807"
+            ),
+            has_text(
+                &UnknownRowsEventFlags(17),
+                "0x11 has a bit that no flag of a row event has"
             ),
             has_text(
                 &UnknownEventFlags(0x800),

@@ -179,7 +179,7 @@ fn is_removal(row: &BinlogRow) -> bool {
     }
 }
 
-/// Whether the row has one value, the document 42.
+/// Whether the row has one value, the number 42 as a JSON document.
 fn is_42(row: &BinlogRow) -> bool {
     match row.as_ref(0) {
         Some(BinlogValue::Jsonb(value)) => row.len() == 1 && *value == Value::I16(42),
@@ -226,7 +226,7 @@ fn removes(alloc: Global, rows: &[u8]) -> bool {
     }
 }
 
-/// Whether the only row after a change is the document 42.
+/// Whether the only row after a change is the number 42 as a JSON document.
 fn replaces(alloc: Global, rows: &[u8]) -> bool {
     match changed(alloc, rows) {
         Some(row) => {

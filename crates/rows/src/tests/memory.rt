@@ -473,8 +473,8 @@ fn owned_events(rt: HostRuntime) -> Result<(), Fail> {
     Ok(())
 }
 
-/// Whether it is this text.
-fn is_lossy(found: Result<CowStr<'_>, AllocError>, text: &str) -> Result<bool, AllocError> {
+/// Whether the text is this one.
+fn matches_text(found: Result<CowStr<'_>, AllocError>, text: &str) -> Result<bool, AllocError> {
     Ok(found?.as_str() == text)
 }
 
@@ -488,7 +488,10 @@ fn has_names(
     database: &str,
     name: &str,
 ) -> Result<bool, AllocError> {
-    Ok(is_lossy(table.database_name(alloc), database)? && is_lossy(table.table_name(alloc), name)?)
+    Ok(
+        matches_text(table.database_name(alloc), database)?
+            && matches_text(table.table_name(alloc), name)?,
+    )
 }
 
 /// Whether the bytes are a table with these names.
@@ -506,36 +509,36 @@ fn names_of_tables(rt: HostRuntime) -> Result<(), Fail> {
     Ok(())
 }
 
-/// Whether each kind of bytes has this text.
+/// Whether bytes of each kind have this text.
 fn name_is(alloc: Global, bytes: &[u8], text: &str) -> Result<bool, AllocError> {
-    is_lossy(ColumnName::new(CowSlice::Borrowed(bytes)).name(alloc), text)
+    matches_text(ColumnName::new(CowSlice::Borrowed(bytes)).name(alloc), text)
 }
 
 fn value_is(alloc: Global, bytes: &[u8], text: &str) -> Result<bool, AllocError> {
-    is_lossy(
+    matches_text(
         SetStrValue::new(CowSlice::Borrowed(bytes)).value(alloc),
         text,
     )
 }
 
 fn bytes_are(alloc: Global, bytes: &[u8], text: &str) -> Result<bool, AllocError> {
-    is_lossy(
+    matches_text(
         RawBytes::<'_, EofBytes>::new(CowSlice::Borrowed(bytes)).as_str(alloc),
         text,
     )
 }
 
 fn string_is(alloc: Global, bytes: &[u8], text: &str) -> Result<bool, AllocError> {
-    is_lossy(JsonbString::new(CowSlice::Borrowed(bytes)).str(alloc), text)
+    matches_text(JsonbString::new(CowSlice::Borrowed(bytes)).str(alloc), text)
 }
 
 fn key_is(alloc: Global, bytes: &[u8], text: &str) -> Result<bool, AllocError> {
-    is_lossy(ObjectKey::new(CowSlice::Borrowed(bytes)).value(alloc), text)
+    matches_text(ObjectKey::new(CowSlice::Borrowed(bytes)).value(alloc), text)
 }
 
 fn opaque_is(alloc: Global, bytes: &[u8], text: &str) -> Result<bool, AllocError> {
     let bytes = CowSlice::Borrowed(bytes);
-    is_lossy(
+    matches_text(
         OpaqueValue::new(ColumnType::MYSQL_TYPE_BLOB, bytes).data(alloc),
         text,
     )
@@ -563,7 +566,7 @@ fn lossy_texts(rt: HostRuntime) -> Result<(), Fail> {
 /// Whether the path of a diff has this text.
 fn path_is(alloc: Global, bytes: &[u8], text: &str) -> Result<bool, Fault> {
     let diff: JsonDiff<'_> = ParseBuf(bytes).parse(())?;
-    Ok(is_lossy(diff.path_str(alloc), text)?)
+    Ok(matches_text(diff.path_str(alloc), text)?)
 }
 
 #[test]

@@ -71,24 +71,37 @@ fn image_counts(event: &RowsEvent<'_>) -> (Option<usize>, Option<usize>) {
     )
 }
 
-#[test]
-fn inserted_rows(rt: HostRuntime) -> Result<(), Fail> {
-    let event = read(TWO_ROWS, EventType::WRITE_ROWS_EVENT, 10)?;
-    assert!(rt;
-        all(&[
-            event.event_type() == EventType::WRITE_ROWS_EVENT,
-            has_parts(&event, 1, 2, &TWO_ROWS[12..]),
-            image_counts(&event) == (None, Some(2)),
-            event.flags_raw() == 1,
-            event.flags() == RowsEventFlags::STMT_END,
-            event.len(BinlogVersion::Version4) == 25,
-        ])
-    );
-    Ok(())
+/// Whether the event is that of two inserted rows.
+fn is_two_rows(event: &RowsEvent<'_>) -> bool {
+    all(&[
+        event.event_type() == EventType::WRITE_ROWS_EVENT,
+        has_parts(event, 1, 2, &TWO_ROWS[12..]),
+        image_counts(event) == (None, Some(2)),
+        event.flags_raw() == 1,
+        event.flags() == RowsEventFlags::STMT_END,
+        event.len(BinlogVersion::Version4) == 25,
+    ])
 }
 
 #[test]
-fn images_by_type(rt: HostRuntime) -> Result<(), Fail> {
+fn inserted_rows(rt: HostRuntime) -> Result<(), Fail> {
+    let event = read(TWO_ROWS, EventType::WRITE_ROWS_EVENT, 10)?;
+    assert!(rt; is_two_rows(&event));
+    Ok(())
+}
+
+/// Whether the images of an event have so many columns.
+fn has_images(
+    bytes: &[u8],
+    event_type: EventType,
+    counts: (Option<usize>, Option<usize>),
+) -> Result<bool, Fault> {
+    let event = read(bytes, event_type, 10)?;
+    Ok(image_counts(&event) == counts)
+}
+
+#[test]
+fn images_by_type(rt: HostRuntime) {
     // Table id, flags, no extra data, one column, and two bitmaps or one and rows data.
     let bytes = &[1, 0, 0, 0, 0, 0, 0, 0, 2, 0, 1, 1, 0];
     let rows = [
@@ -101,10 +114,15 @@ fn images_by_type(rt: HostRuntime) -> Result<(), Fail> {
         (EventType::QUERY_EVENT, None, Some(1)),
     ];
     for (event_type, before, after) in rows {
-        let event = read(bytes, event_type, 10)?;
-        assert!(rt; image_counts(&event) == (before, after), "{event_type:?}");
+        assert!(rt; has_images(bytes, event_type, (before, after)) == Ok(true));
     }
-    Ok(())
+}
+
+/// Whether the event has two columns, the rows data 3, and the length of an event of version 4.
+fn is_first_version(event: &RowsEvent<'_>) -> bool {
+    has_parts(event, 1, 2, &[3])
+        && image_counts(event) == (None, Some(2))
+        && event.len(BinlogVersion::Version4) == 13
 }
 
 #[test]
@@ -112,21 +130,15 @@ fn first_version(rt: HostRuntime) -> Result<(), Fail> {
     // The event's own post-header has 6 bytes: the table id has 4, and there is no extra data.
     let bytes = &[1, 0, 0, 0, 1, 0, 2, 3, 3];
     let event = read(bytes, EventType::WRITE_ROWS_EVENT_V1, 6)?;
-    assert!(rt;
-        all(&[
-            has_parts(&event, 1, 2, &[3]),
-            image_counts(&event) == (None, Some(2)),
-            event.len(BinlogVersion::Version4) == 13,
-        ])
-    );
+    assert!(rt; is_first_version(&event));
     Ok(())
 }
 
-/// The bytes that are written for an event.
-fn written(rt: &HostRuntime, event: &RowsEvent<'_>) -> Result<Vec<u8>, AllocError> {
+/// Whether an event is written as these bytes.
+fn writes(rt: &HostRuntime, event: &RowsEvent<'_>, expected: &[u8]) -> Result<bool, Fault> {
     let mut buf = Vec::new(rt.alloc());
     event.serialize(&mut buf)?;
-    Ok(buf)
+    Ok(buf.as_slice() == expected)
 }
 
 /// Whether an event that is read from these bytes is written as these other bytes.
@@ -136,9 +148,9 @@ fn is_written(
     event_type: EventType,
     post_header_len: u8,
     expected: &[u8],
-) -> Result<bool, Fail> {
+) -> Result<bool, Fault> {
     let event = read(bytes, event_type, post_header_len)?;
-    Ok(written(rt, &event)?.as_slice() == expected)
+    writes(rt, &event, expected)
 }
 
 #[test]
@@ -305,11 +317,16 @@ fn walk(alloc: Global, event: &RowsEvent<'_>, table: &TableMapEvent<'_>) -> [cha
     items
 }
 
+/// What four calls of `next` give for a table and the bytes of a WRITE_ROWS_EVENT.
+fn items_in(alloc: Global, table: &TableMapEvent<'_>, bytes: &[u8]) -> Result<[char; 4], Fault> {
+    let event = read(bytes, EventType::WRITE_ROWS_EVENT, 10)?;
+    Ok(walk(alloc, &event, table))
+}
+
 /// What four calls of `next` give for the bytes of a table map event and of a WRITE_ROWS_EVENT.
 fn items_of(alloc: Global, table: &[u8], bytes: &[u8]) -> Result<[char; 4], Fault> {
     let table: TableMapEvent<'_> = ParseBuf(table).parse(8)?;
-    let event = read(bytes, EventType::WRITE_ROWS_EVENT, 10)?;
-    Ok(walk(alloc, &event, &table))
+    items_in(alloc, &table, bytes)
 }
 
 /// Tables and rows events, with what four calls of `next` give. The faults are `EmptyPair`,

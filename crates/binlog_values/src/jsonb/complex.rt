@@ -4,8 +4,8 @@ ghost use Rattle.std.specs.Prelude.{◌≡◌, ◌+◌, ◌*◌, ◌≤◌, ◌<
 ghost use Rattle.std.specs.Cow.{cow_slice_items};
 ghost use Rattle.binlog_base.specs.Format.{ParsesAs, Parses};
 ghost use Rattle.binlog_base.specs.Items.{result_map};
-ghost use Rattle.binlog_values.specs.JsonbLayout.{number_at, offset_size, header_len};
-ghost use Rattle.binlog_values.specs.JsonbValues.{container, nested, typed_at, key_at};
+ghost use Rattle.binlog_values.specs.JsonbLayout.{number_at, offset_size, header_len, key_entry};
+ghost use Rattle.binlog_values.specs.JsonbValues.{container, nested, bytes_of, typed_at, key_at};
 ghost use Rattle.binlog_values.specs.JsonEquality.{parts_of};
 ghost use Rattle.binlog_values.specs.JsonbSeen.{typed, parts_seen};
 
@@ -112,15 +112,12 @@ impl<'a, T: StorageFormat, U: ComplexType> Lent<'a, T, U> {
         self.bytes.len()
     }
 
-    /// Returns the type and the bytes of an element's value.
-    #[tactic(auto, unfolding(crate::specs::JsonbValues::typed_at))]
-    pub fn typed_at(&self, pos: u32) -> Result<TypedBytes<'a>, Fault>
-        requires { pos < self.now.count }
-        ensures { result_map typed result ≡ typed_at self.now pos }
+    // Returns the bytes of the value of a type whose entry is at a place.
+    fn bytes_of(&self, at: usize, value_type: JsonbType) -> Result<TypedBytes<'a>, Fault>
+        requires { at + 1 + offset_size T.IS_LARGE ≤ length self.now.bytes }
+        ensures { result_map typed result ≡ bytes_of self.now at value_type }
     {
         let width = offset_width::<T>();
-        let at = U::value_entry_offset::<T>(self.element_count, pos);
-        let value_type = JsonbType::try_from(self.bytes[at])?;
         if value_type.is_inlined(T::IS_LARGE) {
             return Ok(TypedBytes {
                 value_type,
@@ -137,6 +134,30 @@ impl<'a, T: StorageFormat, U: ComplexType> Lent<'a, T, U> {
         })
     }
 
+    /// Returns the type and the bytes of an element's value.
+    #[tactic(auto, unfolding(crate::specs::JsonbValues::typed_at))]
+    pub fn typed_at(&self, pos: u32) -> Result<TypedBytes<'a>, Fault>
+        requires { pos < self.now.count }
+        ensures { result_map typed result ≡ typed_at self.now pos }
+    {
+        let at = U::value_entry_offset::<T>(self.element_count, pos);
+        let value_type = JsonbType::try_from(self.bytes[at])?;
+        self.bytes_of(at, value_type)
+    }
+
+    // Returns the offset and the length of the key of an entry.
+    fn key_entry(&self, pos: u32) -> (u32, u16)
+        requires object { self.now.is_array ≡ false }
+        requires there { pos < self.now.count }
+        ensures offset { result.0 ≡ number_at (offset_size T.IS_LARGE) (key_entry T.IS_LARGE pos) self.now.bytes }
+        ensures len { result.1 ≡ number_at 2 (key_entry T.IS_LARGE pos + offset_size T.IS_LARGE) self.now.bytes }
+    {
+        let width = offset_width::<T>();
+        let at = 2 * width + (width + 2) * pos as usize;
+        let offset = offset_at::<T>(self.bytes, at);
+        (offset, LittleEndian::read_u16(&self.bytes[at + width..]))
+    }
+
     /// Returns the bytes of the key of an entry. Objects alone have keys.
     #[tactic(auto, unfolding(crate::specs::JsonbValues::key_at))]
     pub fn key_bytes(&self, pos: u32) -> Result<&'a [u8], Fault>
@@ -144,11 +165,9 @@ impl<'a, T: StorageFormat, U: ComplexType> Lent<'a, T, U> {
         requires there { pos < self.now.count }
         ensures { result_map (λ b. b.now) result ≡ key_at self.now pos }
     {
-        let width = offset_width::<T>();
-        let at = 2 * width + (width + 2) * pos as usize;
-        let offset = offset_at::<T>(self.bytes, at) as usize;
+        let (offset, len) = self.key_entry(pos);
+        let (offset, len) = (offset as usize, usize::from(len));
         let bytes = self.bytes;
-        let len = usize::from(LittleEndian::read_u16(&bytes[at + width..]));
         if offset < U::header_size::<T>(self.element_count) || bytes.len() < offset + len {
             return Err(Fault::Jsonb(JsonbError::InvalidKeyOffsetPointer));
         }

@@ -53,7 +53,7 @@ fn clone_number(number: &JsonNumber, alloc: Global) -> Result<JsonNumber, AllocE
     ensures { IfOk result (λ copy. number_view copy ≡ number_view number.now) }
 {
     match number {
-        JsonNumber::Decimal(decimal) => Ok(JsonNumber::Decimal(decimal.clone(alloc)?)),
+        JsonNumber::Decimal(decimal) => decimal.clone(alloc).map(JsonNumber::Decimal),
         JsonNumber::Double(bits) => Ok(JsonNumber::Double(*bits)),
         JsonNumber::Int(number) => Ok(JsonNumber::Int(*number)),
         JsonNumber::Uint(number) => Ok(JsonNumber::Uint(*number)),
@@ -68,9 +68,9 @@ fn clone_scalar(scalar: &JsonScalar, alloc: Global) -> Result<JsonScalar, AllocE
         JsonScalar::Boolean(value) => Ok(JsonScalar::Boolean(*value)),
         JsonScalar::DateTime(time) => Ok(JsonScalar::DateTime(time.clone()?)),
         JsonScalar::Null => Ok(JsonScalar::Null),
-        JsonScalar::Number(number) => Ok(JsonScalar::Number(clone_number(number, alloc)?)),
-        JsonScalar::Opaque(value) => Ok(JsonScalar::Opaque(value.clone(alloc)?)),
-        JsonScalar::String(text) => Ok(JsonScalar::String(String::from_str(alloc, text)?)),
+        JsonScalar::Number(number) => clone_number(number, alloc).map(JsonScalar::Number),
+        JsonScalar::Opaque(value) => value.clone(alloc).map(JsonScalar::Opaque),
+        JsonScalar::String(text) => String::from_str(alloc, text).map(JsonScalar::String),
     }
 }
 

@@ -75,6 +75,15 @@ fn read_value(alloc: Global, value: &Value<'_>, counter: &mut u64) -> Result<Jso
     }
 }
 
+// Reads a value whole, and returns how many positions were read.
+fn read_counted(alloc: Global, value: &Value<'_>) -> (Result<JsonDom, Fault>, u64)
+    ensures { Parsed (view_of value.now) result.0 result.1 }
+{
+    let mut counter = 0;
+    let result = read_value(alloc, value, &mut counter);
+    (result, counter)
+}
+
 impl<'a> Value<'a> {
     /// Reads the value with all that is inside it, as a tree that owns its values. Of equal keys of
     /// an object the last one is kept.
@@ -107,8 +116,6 @@ impl<'a> Value<'a> {
     pub fn parse_counted(self, alloc: Global) -> (Result<JsonDom, Fault>, u64)
         ensures { Parsed (view_of self.entry) result.0 result.1 }
     {
-        let mut counter = 0;
-        let result = read_value(alloc, &self, &mut counter);
-        (result, counter)
+        read_counted(alloc, &self)
     }
 }

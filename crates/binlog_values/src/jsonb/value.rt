@@ -267,12 +267,12 @@ impl<'a> Value<'a> {
             Value::I64(number) => Ok(Value::I64(*number)),
             Value::U64(number) => Ok(Value::U64(*number)),
             Value::F64(bits) => Ok(Value::F64(*bits)),
-            Value::String(text) => Ok(Value::String(text.clone(alloc)?)),
-            Value::SmallArray(container) => Ok(Value::SmallArray(container.clone(alloc)?)),
-            Value::LargeArray(container) => Ok(Value::LargeArray(container.clone(alloc)?)),
-            Value::SmallObject(container) => Ok(Value::SmallObject(container.clone(alloc)?)),
-            Value::LargeObject(container) => Ok(Value::LargeObject(container.clone(alloc)?)),
-            Value::Opaque(value) => Ok(Value::Opaque(value.clone(alloc)?)),
+            Value::String(text) => text.clone(alloc).map(Value::String),
+            Value::SmallArray(container) => container.clone(alloc).map(Value::SmallArray),
+            Value::LargeArray(container) => container.clone(alloc).map(Value::LargeArray),
+            Value::SmallObject(container) => container.clone(alloc).map(Value::SmallObject),
+            Value::LargeObject(container) => container.clone(alloc).map(Value::LargeObject),
+            Value::Opaque(value) => value.clone(alloc).map(Value::Opaque),
         }
     }
 
@@ -291,12 +291,26 @@ impl<'a> Value<'a> {
             Value::I64(number) => Ok(Value::I64(number)),
             Value::U64(number) => Ok(Value::U64(number)),
             Value::F64(bits) => Ok(Value::F64(bits)),
-            Value::String(text) => Ok(Value::String(text.into_owned(alloc)?)),
-            Value::SmallArray(container) => Ok(Value::SmallArray(container.into_owned(alloc)?)),
-            Value::LargeArray(container) => Ok(Value::LargeArray(container.into_owned(alloc)?)),
-            Value::SmallObject(container) => Ok(Value::SmallObject(container.into_owned(alloc)?)),
-            Value::LargeObject(container) => Ok(Value::LargeObject(container.into_owned(alloc)?)),
-            Value::Opaque(value) => Ok(Value::Opaque(value.into_owned(alloc)?)),
+            Value::String(text) => text.into_owned(alloc).map(Value::String),
+            Value::SmallArray(container) => container.into_owned(alloc).map(Value::SmallArray),
+            Value::LargeArray(container) => container.into_owned(alloc).map(Value::LargeArray),
+            Value::SmallObject(container) => container.into_owned(alloc).map(Value::SmallObject),
+            Value::LargeObject(container) => container.into_owned(alloc).map(Value::LargeObject),
+            Value::Opaque(value) => value.into_owned(alloc).map(Value::Opaque),
+        }
+    }
+}
+
+impl<'a> Value<'a> {
+    // Writes a container as its kind and its count, and any other value as its number.
+    fn write_number<W: fmt::Write>(&self, f: &mut fmt::Formatter<W>) -> fmt::Result {
+        let number = self.parts().1;
+        if self.is_array() {
+            write!(f, "array({number})")
+        } else if self.is_object() {
+            write!(f, "object({number})")
+        } else {
+            write!(f, "{number}")
         }
     }
 }
@@ -305,21 +319,12 @@ impl<'a> Value<'a> {
 impl<'a> fmt::Debug for Value<'a> {
     fn fmt<W: fmt::Write>(&self, f: &mut fmt::Formatter<W>) -> fmt::Result {
         match self {
-            Value::Null => write!(f, "null"),
+            Value::Null => f.write_str("null"),
             Value::Bool(value) => write!(f, "{value}"),
-            Value::I16(number) => write!(f, "{number}"),
-            Value::U16(number) => write!(f, "{number}"),
-            Value::I32(number) => write!(f, "{number}"),
-            Value::U32(number) => write!(f, "{number}"),
-            Value::I64(number) => write!(f, "{number}"),
-            Value::U64(number) => write!(f, "{number}"),
             Value::F64(bits) => write!(f, "f64:{bits:016x}"),
             Value::String(text) => write!(f, "{text:?}"),
-            Value::SmallArray(container) => write!(f, "array({})", container.element_count()),
-            Value::LargeArray(container) => write!(f, "array({})", container.element_count()),
-            Value::SmallObject(container) => write!(f, "object({})", container.element_count()),
-            Value::LargeObject(container) => write!(f, "object({})", container.element_count()),
             Value::Opaque(value) => write!(f, "<{value:?}>"),
+            _ => self.write_number(f),
         }
     }
 }

@@ -405,26 +405,37 @@ fn writes(rt: &HostRuntime, value: &impl MySerialize, bytes: &[u8]) -> bool {
     buf.push(7u8).is_ok() && value.serialize(&mut buf).is_ok() && buf.as_slice() == bytes
 }
 
+/// Whether the next value is this one.
+fn next_is<'a, T: MyDeserialize<'a> + PartialEq + Drop>(
+    buf: &mut ParseBuf<'a>,
+    ctx: T::Ctx,
+    value: T,
+) -> bool {
+    match buf.parse::<T>(ctx) {
+        Ok(read) => read == value,
+        Err(_) => false,
+    }
+}
+
+/// A string of these bytes.
+fn string<T: BytesRepr>(bytes: &[u8]) -> RawBytes<'_, T> {
+    RawBytes::new(CowSlice::Borrowed(bytes))
+}
+
 #[test]
-fn strings_are_read(rt: HostRuntime) -> Result<(), Fail> {
+fn strings_are_read(rt: HostRuntime) {
     let mut buf = ParseBuf(b"\x02ab\x01c\x81\0defg");
-    let short: RawBytes<U8Bytes> = buf.parse(())?;
-    let lenenc: RawBytes<LenEnc> = buf.parse(())?;
-    let varlen: RawBytes<VarLen> = buf.parse(())?;
-    let bare: RawBytes<BareBytes<9>> = buf.parse(2)?;
-    let left = buf.len();
-    let rest: RawBytes<EofBytes> = buf.parse(())?;
     assert!(rt;
         all(&[
-            short.as_bytes() == b"ab".as_slice(),
-            lenenc.as_bytes() == b"c".as_slice(),
-            varlen.as_bytes() == b"d".as_slice(),
-            bare.len() == 2 && !bare.is_empty(),
-            left == 1 && buf.is_empty(),
-            rest.as_bytes() == b"g".as_slice(),
+            next_is(&mut buf, (), string::<U8Bytes>(b"ab")),
+            next_is(&mut buf, (), string::<LenEnc>(b"c")),
+            next_is(&mut buf, (), string::<VarLen>(b"d")),
+            next_is(&mut buf, 2, string::<BareBytes<9>>(b"ef")),
+            buf.len() == 1,
+            next_is(&mut buf, (), string::<EofBytes>(b"g")),
+            buf.is_empty(),
         ])
     );
-    Ok(())
 }
 
 /// Whether reading a value is refused by this fault.
@@ -471,7 +482,7 @@ fn is_written<T: BytesRepr>(rt: &HostRuntime, text: &[u8], bytes: &[u8]) -> bool
 
 /// Whether these are the bytes of a string.
 fn has_bytes(text: RawBytes<'_, U8Bytes>, bytes: &[u8]) -> bool {
-    text.into_bytes().as_slice() == bytes
+    text.len() == bytes.len() && !text.is_empty() && text.into_bytes().as_slice() == bytes
 }
 
 #[test]

@@ -9,6 +9,14 @@ use mysql_binlog_rows::laws::old_times_have_signs;
 use mysql_binlog_rows::row::{BinlogRowToRowError, UnknownBinlogRowValueOptions};
 use mysql_binlog_rows::value::{BinlogValue, BinlogValueToValueError, signed_old_time};
 
+/// The value of a cell that isn't JSON.
+fn plain(cell: BinlogValue<'_>) -> Result<Value, Fault> {
+    match cell {
+        BinlogValue::Value(value) => Ok(value),
+        _ => Err(Fault::Unhandled),
+    }
+}
+
 /// Reads a cell that takes all of the bytes.
 fn cell(
     rt: &HostRuntime,
@@ -19,13 +27,11 @@ fn cell(
 ) -> Result<Value, Fault> {
     let mut buf = ParseBuf(bytes);
     let ctx = (rt.alloc(), column_type, metadata, unsigned, false);
-    let cell: BinlogValue<'_> = buf.parse(ctx)?;
-    if !buf.is_empty() {
-        return Err(Fault::BytesRemaining);
-    }
-    match cell {
-        BinlogValue::Value(value) => Ok(value),
-        _ => Err(Fault::Unhandled),
+    let value = plain(buf.parse(ctx)?)?;
+    if buf.is_empty() {
+        Ok(value)
+    } else {
+        Err(Fault::BytesRemaining)
     }
 }
 

@@ -71,18 +71,23 @@ fn lines_of(alloc: Global, rows: RowsEventRows<'_>) -> Result<String, Fault> {
     Ok(lines)
 }
 
+/// The lines of the rows that were inserted into a table.
+fn inserted(alloc: Global, table: &TableMapEvent<'_>, rows: &[u8]) -> Result<String, Fault> {
+    let event: RowsEvent<'_> = ParseBuf(rows).parse(RowsEventCtx {
+        event_type: EventType::WRITE_ROWS_EVENT,
+        post_header_len: 10,
+        write_rows_post_header_len: 10,
+    })?;
+    lines_of(alloc, event.rows(alloc, table))
+}
+
 /// The lines of the rows that were inserted into the table `t`; none for another table.
 fn filter(alloc: Global, table: &[u8], rows: &[u8]) -> Result<String, Fault> {
     let table: TableMapEvent<'_> = ParseBuf(table).parse(8)?;
     if table.table_name_raw() != b"t".as_slice() {
         return Ok(String::new(alloc));
     }
-    let event: RowsEvent<'_> = ParseBuf(rows).parse(RowsEventCtx {
-        event_type: EventType::WRITE_ROWS_EVENT,
-        post_header_len: 10,
-        write_rows_post_header_len: 10,
-    })?;
-    lines_of(alloc, event.rows(alloc, &table))
+    inserted(alloc, &table, rows)
 }
 
 #[test]

@@ -141,6 +141,17 @@ fn steps(alloc: Global, event: &RowsEvent<'_>, table: &TableMapEvent<'_>) -> (u1
 const NAMED: &[u8] =
     b"\x01\0\0\0\0\0\x01\0\x01d\0\x01t\0\x02\x03\x0f\x02\x0a\0\x02\x04\x04\x01a\x01b";
 
+/// The steps for the rows of an event over a table.
+fn steps_in(
+    alloc: Global,
+    table: &TableMapEvent<'_>,
+    rows: &[u8],
+    event_type: EventType,
+) -> Result<(u128, u128, u128), Fault> {
+    let event = read(rows, event_type, 10)?;
+    Ok(steps(alloc, &event, table))
+}
+
 /// The steps for the rows of an event over the table `NAMED`.
 fn steps_of(
     alloc: Global,
@@ -148,8 +159,7 @@ fn steps_of(
     event_type: EventType,
 ) -> Result<(u128, u128, u128), Fault> {
     let table: TableMapEvent<'_> = ParseBuf(NAMED).parse(8)?;
-    let event = read(rows, event_type, 10)?;
-    Ok(steps(alloc, &event, &table))
+    steps_in(alloc, &table, rows, event_type)
 }
 
 #[test]
@@ -167,13 +177,18 @@ fn steps_of_plans(rt: HostRuntime) {
     );
 }
 
-/// Whether what is taken out at an index is this number, or nothing.
-fn takes(row: &mut BinlogRow, index: usize, number: Option<i64>) -> bool {
-    match row.take(index) {
-        Some(BinlogValue::Value(Value::Int(found))) => number == Some(found),
+/// Whether what was taken out is this number, or nothing.
+fn is_taken(taken: &Option<BinlogValue<'_>>, number: Option<i64>) -> bool {
+    match taken {
+        Some(BinlogValue::Value(Value::Int(found))) => number == Some(*found),
         Some(_) => false,
         None => number.is_none(),
     }
+}
+
+/// Whether what is taken out at an index is this number, or nothing.
+fn takes(row: &mut BinlogRow, index: usize, number: Option<i64>) -> bool {
+    is_taken(&row.take(index), number)
 }
 
 /// Whether a number is the first value once it was placed there.

@@ -175,16 +175,19 @@ pub(super) fn has_key_a(bytes: &[u8]) -> bool {
     }
 }
 
+/// Writes a key's bytes and a value.
+fn write_both(room: &mut InlineText<128>, key: &ObjectKey<'_>, value: &Value<'_>) -> fmt::Result {
+    write!(room, "{:?} ", key.value_raw())?;
+    write_value(room, value)
+}
+
 /// Writes an entry: its key's bytes and its value, or the fault in their place.
 fn write_entry(
     room: &mut InlineText<128>,
     entry: Result<(ObjectKey<'_>, Value<'_>), Fault>,
 ) -> fmt::Result {
     match entry {
-        Ok((key, value)) => {
-            write!(room, "{:?} ", key.value_raw())?;
-            write_value(room, &value)
-        }
+        Ok((key, value)) => write_both(room, &key, &value),
         Err(fault) => write!(room, "{fault:?}"),
     }
 }
@@ -297,14 +300,24 @@ impl StorageFormat for Wide {
     }
 }
 
+/// Whether an element is the number 42.
+fn is_element_42(element: Result<Option<Value<'_>>, Fault>) -> bool {
+    matches!(element, Ok(Some(Value::I32(42))))
+}
+
 /// Whether the array has one element, the number 42.
 fn is_42<T: StorageFormat>(array: &ComplexValue<'_, T, Array>) -> bool {
-    array.element_count() == 1 && matches!(array.elem_at(0), Ok(Some(Value::I32(42))))
+    array.element_count() == 1 && is_element_42(array.elem_at(0))
+}
+
+/// Whether an item of an iterator is the number 42.
+fn is_item_42(item: Option<Result<Value<'_>, Fault>>) -> bool {
+    matches!(item, Some(Ok(Value::I32(42))))
 }
 
 /// Whether the first element of the array's iterator is the number 42.
 fn begins_with_42<T: StorageFormat>(array: &ComplexValue<'_, T, Array>) -> bool {
-    matches!(array.iter().next(), Some(Ok(Value::I32(42))))
+    is_item_42(array.iter().next())
 }
 
 /// Whether the bytes are a large array of the number 42.

@@ -39,20 +39,26 @@ use std::test::Fail;
 #[test]
 fn nothing(_rt: HostRuntime) {}
 
-/// Whether an event of two columns over a table with one column that may be NULL begins without
-/// steps.
-fn begins(alloc: Global, event: &RowsEvent<'_>, table: &TableMapEvent<'_>) -> bool {
-    event.rows(alloc, table).metadata_steps() == 0
-        && table.null_bitmask().count_ones() == 1
-        && image_counts(event) == (None, Some(2))
+/// Whether the event of two rows begins without steps over a table with one column that may be
+/// NULL.
+fn begins_over(alloc: Global, table: &TableMapEvent<'_>) -> Result<bool, Fault> {
+    let event = read(TWO_ROWS, EventType::WRITE_ROWS_EVENT, 10)?;
+    Ok(
+        event.rows(alloc, table).metadata_steps() == 0
+            && table.null_bitmask().count_ones() == 1
+            && image_counts(&event) == (None, Some(2)),
+    )
+}
+
+/// Whether the event of two rows begins over the table of two columns.
+fn begins(alloc: Global) -> Result<bool, Fault> {
+    let table: TableMapEvent<'_> = ParseBuf(TWO_COLUMNS).parse(8)?;
+    begins_over(alloc, &table)
 }
 
 #[test]
-fn nothing_for_events(rt: HostRuntime) -> Result<(), Fail> {
-    let table: TableMapEvent<'_> = ParseBuf(TWO_COLUMNS).parse(8)?;
-    let event = read(TWO_ROWS, EventType::WRITE_ROWS_EVENT, 10)?;
-    assert!(rt; begins(rt.alloc(), &event, &table));
-    Ok(())
+fn nothing_for_events(rt: HostRuntime) {
+    assert!(rt; begins(rt.alloc()) == Ok(true));
 }
 
 /// Whether the bytes are a JSON value that is parsed as a scalar.
@@ -167,7 +173,20 @@ fn are_items(items: &mut RowsEventRows<'_>, pairs: &[RowPair]) -> Result<bool, F
     Ok(is_at_end(items))
 }
 
-/// Whether the items of an event are these pairs, or a beginning of them before a refusal.
+/// Whether the items of an event over a table are these pairs, or a beginning of them before a
+/// refusal.
+fn walks_over(
+    alloc: Global,
+    table: &TableMapEvent<'_>,
+    rows: &[u8],
+    event_type: EventType,
+    pairs: &[RowPair],
+) -> Result<bool, Fault> {
+    let event = read(rows, event_type, 10)?;
+    are_items(&mut event.rows(alloc, table), pairs)
+}
+
+/// The same over the table that the bytes are.
 fn walks(
     alloc: Global,
     table: &[u8],
@@ -176,8 +195,7 @@ fn walks(
     pairs: &[RowPair],
 ) -> Result<bool, Fault> {
     let table: TableMapEvent<'_> = ParseBuf(table).parse(8)?;
-    let event = read(rows, event_type, 10)?;
-    are_items(&mut event.rows(alloc, &table), pairs)
+    walks_over(alloc, &table, rows, event_type, pairs)
 }
 
 /// Whether the items of an event are the pairs that `decode_pairs` gives.
@@ -428,29 +446,30 @@ fn written_texts(rt: HostRuntime) -> Result<(), Fail> {
 }
 
 /// Whether an event has an equal copy.
-fn has_copy(alloc: Global, event: &RowsEvent<'_>) -> Result<bool, AllocError> {
+fn has_copy(alloc: Global, event: &RowsEvent<'_>) -> Result<bool, Fault> {
     Ok(event.clone(alloc)? == *event)
 }
 
+/// Whether the WRITE_ROWS_EVENT that the bytes are has an equal copy.
+fn is_event_copied(alloc: Global, bytes: &[u8]) -> Result<bool, Fault> {
+    let event = read(bytes, EventType::WRITE_ROWS_EVENT, 10)?;
+    has_copy(alloc, &event)
+}
+
 /// Whether a copy of a table map event that owns its bytes is equal to it.
-fn has_table_copy(alloc: Global, table: &TableMapEvent<'_>) -> Result<bool, AllocError> {
+fn has_table_copy(alloc: Global, table: &TableMapEvent<'_>) -> Result<bool, Fault> {
     Ok(table.clone(alloc)?.into_owned(alloc)? == *table)
 }
 
 /// Whether the table map event that the bytes are has an equal copy.
 fn is_table_copied(alloc: Global, bytes: &[u8]) -> Result<bool, Fault> {
     let table: TableMapEvent<'_> = ParseBuf(bytes).parse(8)?;
-    Ok(has_table_copy(alloc, &table)?)
+    has_table_copy(alloc, &table)
 }
 
 #[test]
 fn copies_of_events(rt: HostRuntime) -> Result<(), Fail> {
-    assert!(rt;
-        has_copy(
-            rt.alloc(),
-            &read(TWO_ROWS, EventType::WRITE_ROWS_EVENT, 10)?
-        )?
-    );
+    assert!(rt; is_event_copied(rt.alloc(), TWO_ROWS)?);
     Ok(())
 }
 
@@ -487,7 +506,7 @@ fn has_names(
     table: &TableMapEvent<'_>,
     database: &str,
     name: &str,
-) -> Result<bool, AllocError> {
+) -> Result<bool, Fault> {
     Ok(
         matches_text(table.database_name(alloc), database)?
             && matches_text(table.table_name(alloc), name)?,
@@ -497,7 +516,7 @@ fn has_names(
 /// Whether the bytes are a table with these names.
 fn is_named(alloc: Global, bytes: &[u8], database: &str, name: &str) -> Result<bool, Fault> {
     let table: TableMapEvent<'_> = ParseBuf(bytes).parse(8)?;
-    Ok(has_names(alloc, &table, database, name)?)
+    has_names(alloc, &table, database, name)
 }
 
 #[test]
@@ -564,9 +583,14 @@ fn lossy_texts(rt: HostRuntime) -> Result<(), Fail> {
 }
 
 /// Whether the path of a diff has this text.
+fn has_path(alloc: Global, diff: &JsonDiff<'_>, text: &str) -> Result<bool, Fault> {
+    Ok(matches_text(diff.path_str(alloc), text)?)
+}
+
+/// Whether the bytes are a diff whose path has this text.
 fn path_is(alloc: Global, bytes: &[u8], text: &str) -> Result<bool, Fault> {
     let diff: JsonDiff<'_> = ParseBuf(bytes).parse(())?;
-    Ok(matches_text(diff.path_str(alloc), text)?)
+    has_path(alloc, &diff, text)
 }
 
 #[test]
@@ -649,14 +673,23 @@ fn cells(rt: HostRuntime) -> Result<(), Fail> {
     Ok(())
 }
 
-/// A row of one column named `name`, and a cell of text in it.
-fn text_row(alloc: Global) -> Result<BinlogRow, Fault> {
-    let column = Column::new(ColumnType::MYSQL_TYPE_VARCHAR)
+/// A column named `name`.
+fn text_column(alloc: Global) -> Result<Column, AllocError> {
+    Column::new(ColumnType::MYSQL_TYPE_VARCHAR)
         .with_schema(alloc, b"schema")?
         .with_table(alloc, b"table")?
         .with_org_table(alloc, b"table")?
-        .with_name(alloc, b"name")?;
-    let columns = RcSlice::from_vec(vec![in alloc; column]?)?;
+        .with_name(alloc, b"name")
+}
+
+/// The columns of a row of one column named `name`.
+fn text_columns(alloc: Global) -> Result<RcSlice<Column>, Fault> {
+    Ok(RcSlice::from_vec(vec![in alloc; text_column(alloc)?]?)?)
+}
+
+/// A row of one column named `name`, and a cell of text in it.
+fn text_row(alloc: Global) -> Result<BinlogRow, Fault> {
+    let columns = text_columns(alloc)?;
     Ok(BinlogRow::new(vec![in alloc; Some(text_cell(alloc)?)]?, columns))
 }
 
@@ -683,15 +716,20 @@ fn values_of_rows(rt: HostRuntime) -> Result<(), Fail> {
     Ok(())
 }
 
+/// A copy of a JSON value that owns its bytes.
+fn owned_json(alloc: Global, value: &Json<'_>) -> Result<Json<'static>, AllocError> {
+    value.clone(alloc)?.into_owned(alloc)
+}
+
 /// Whether a copy of a JSON value that owns its bytes is equal to it.
-fn has_json_copy(alloc: Global, value: &Json<'_>) -> Result<bool, AllocError> {
-    Ok(value.clone(alloc)?.into_owned(alloc)? == *value)
+fn has_json_copy(alloc: Global, value: &Json<'_>) -> Result<bool, Fault> {
+    Ok(owned_json(alloc, value)? == *value)
 }
 
 /// Whether the bytes are a JSON value, and a copy that owns its bytes is equal to it.
 fn is_copied(alloc: Global, bytes: &[u8]) -> Result<bool, Fault> {
     let value: Json<'_> = ParseBuf(bytes).parse(())?;
-    Ok(has_json_copy(alloc, &value)?)
+    has_json_copy(alloc, &value)
 }
 
 /// An object of the key `a` and the literal null.
@@ -749,11 +787,15 @@ fn owned_strings(rt: HostRuntime) -> Result<(), Fail> {
     Ok(())
 }
 
+/// Whether an array has the one element 1.
+fn has_one(array: &ComplexValue<'_, Small, Array>) -> bool {
+    array.element_count() == 1 && matches!(array.elem_at(0), Ok(Some(Json::I16(1))))
+}
+
 /// Whether a container that owns its bytes has the one element 1.
 fn container_is_owned(alloc: Global) -> Result<bool, Fault> {
     let array: ComplexValue<'_, Small, Array> = ParseBuf(b"\x01\0\x07\0\x05\x01\0").parse(())?;
-    let owned = ComplexValue::into_owned(array, alloc)?;
-    Ok(owned.element_count() == 1 && matches!(owned.elem_at(0), Ok(Some(Json::I16(1)))))
+    Ok(has_one(&ComplexValue::into_owned(array, alloc)?))
 }
 
 #[test]
@@ -776,14 +818,24 @@ fn copies_of_trees(rt: HostRuntime) -> Result<(), Fail> {
     Ok(())
 }
 
+/// A copy of a diff that owns its bytes.
+fn owned_diff(alloc: Global, diff: &JsonDiff<'_>) -> Result<JsonDiff<'static>, AllocError> {
+    diff.clone(alloc)?.into_owned(alloc)
+}
+
 /// Whether a copy of a diff that owns its bytes is equal to it.
-fn has_diff_copy(alloc: Global, diff: &JsonDiff<'_>) -> Result<bool, AllocError> {
-    Ok(diff.clone(alloc)?.into_owned(alloc)? == *diff)
+fn has_diff_copy(alloc: Global, diff: &JsonDiff<'_>) -> Result<bool, Fault> {
+    Ok(owned_diff(alloc, diff)? == *diff)
+}
+
+/// Whether the diff that the bytes are has an equal copy.
+fn is_diff_copied(alloc: Global, bytes: &[u8]) -> Result<bool, Fault> {
+    let diff: JsonDiff<'_> = ParseBuf(bytes).parse(())?;
+    has_diff_copy(alloc, &diff)
 }
 
 #[test]
 fn copies_of_diffs(rt: HostRuntime) -> Result<(), Fail> {
-    let diff: JsonDiff<'_> = ParseBuf(partial::REPLACED).parse(())?;
-    assert!(rt; has_diff_copy(rt.alloc(), &diff)?);
+    assert!(rt; is_diff_copied(rt.alloc(), partial::REPLACED)?);
     Ok(())
 }

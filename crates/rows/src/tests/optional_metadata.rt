@@ -110,10 +110,15 @@ fn bits_of_columns(rt: HostRuntime) {
 /// The table d.t of two columns, LONG and VARCHAR, and the sign of the first.
 const SIGNED: &[u8] = b"\x01\0\0\0\0\0\x01\0\x01d\0\x01t\0\x02\x03\x0f\x02\x0a\0\x02\x01\x01\x80";
 
+/// Whether the first field of a table is the sign of its numeric column.
+fn begins_with_sign(table: &TableMapEvent<'_>) -> bool {
+    is_signs(&table.iter_optional_meta().next(), [true])
+}
+
 /// Whether the first field of a table map event is the sign of its numeric column.
 fn has_sign(bytes: &[u8]) -> Result<bool, Fault> {
     let table: TableMapEvent<'_> = ParseBuf(bytes).parse(8)?;
-    Ok(is_signs(&table.iter_optional_meta().next(), [true]))
+    Ok(begins_with_sign(&table))
 }
 
 #[test]
@@ -346,11 +351,16 @@ fn are_a_long_and_a_varchar(columns: &mut TableColumns<'_>) -> bool {
         && columns.steps() == 6
 }
 
+/// Whether the columns of a table are these two.
+fn has_a_long_and_a_varchar(table: &TableMapEvent<'_>) -> bool {
+    let mut columns = TableColumns::new(table);
+    columns.fault().is_none() && are_a_long_and_a_varchar(&mut columns)
+}
+
 #[test]
 fn columns_in_one_walk(rt: HostRuntime) -> Result<(), Fail> {
     let table: TableMapEvent<'_> = ParseBuf(NAMED).parse(8)?;
-    let mut columns = TableColumns::new(&table);
-    assert!(rt; columns.fault().is_none() && are_a_long_and_a_varchar(&mut columns));
+    assert!(rt; has_a_long_and_a_varchar(&table));
     columns_are_in_place();
     Ok(())
 }

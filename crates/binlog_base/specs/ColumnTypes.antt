@@ -1,6 +1,5 @@
 -- The numbers of MySQL's column types and geometry types, and the groups of column types.
-use Rattle.std.specs.Prelude.{◌≡◌, ℕ, Bool, true, false, List, [], ◌∷◌, Result, Ok}
-use Rattle.std.proofs.Common.{rules}
+use Rattle.std.specs.Prelude.{ℕ, Bool, true, false, List, [], ◌∷◌, Result}
 use Rattle.binlog_base.specs.declared.fault.Fault.{Fault}
 use Rattle.binlog_base.specs.declared.fault.Fault.TheVariants as fault
 use Rattle.binlog_base.specs.Tables.{from_table}

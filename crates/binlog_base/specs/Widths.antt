@@ -1,5 +1,5 @@
 -- Formats of a width that is known before their bytes.
-use Rattle.std.proofs.Common.{◌≡◌, ℕ, ◌+◌, ◌<◌, List, ◌++◌, length, Ok, Err}
+use Rattle.std.proofs.Common.{◌≡◌, ℕ, ◌<◌, List, ◌++◌, length, Ok, Err}
 use Rattle.binlog_base.specs.declared.fault.Fault.TheVariants.{UnexpectedEof}
 use Rattle.binlog_base.specs.Format.{Format, ◌>>=◌}
 

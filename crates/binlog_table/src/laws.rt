@@ -59,9 +59,11 @@ pub fn keys_are_in_order()
 /// What an iterator over the character sets of a group begins with are the character sets of the
 /// columns of the group, in order.
 pub fn charsets_are_in_order()
-    ensures { (limit : ℕ) (d : Option DefaultCharset) (list : Option (List ℕ)) (c : CharsetsLeft) → IsStart d list c
+    ensures { (limit : ℕ) (d : Option DefaultCharset) (list : Option (List ℕ)) (c : CharsetsLeft)
+        → IsStart d list c
         → charsets_of limit c
-        ≡ charset_items limit (option_map (λ f. f.default) d) (pairs_or d) (items (low_bits 16) (list_or list)) }
+        ≡ charset_items limit (option_map (λ f. f.default) d) (pairs_or d)
+        (items (low_bits 16) (list_or list)) }
 {}
 
 /// Each item of a walk over the columns of a table is the column at its place, or that column's

@@ -6,7 +6,7 @@ use Rattle.std.specs.Cmp.Lexicographic.{pointwise}
 use Rattle.binlog_base.specs.ColumnTypes.{column_number}
 use Rattle.binlog_values.specs.declared.jsondiff.JsonDiffOperation.{JsonDiffOperation}
 use Rattle.binlog_values.specs.declared.jsondiff.JsonDiffOperation.TheVariants as operation
-use Rattle.binlog_values.specs.JsonbValues.{Frame, JsonbValue, scalar, nested, Null, Boolean, I16, U16, I32, U32, I64, U64, F64, Text, Opaque}
+use Rattle.binlog_values.specs.JsonbValues.{JsonbValue, scalar, nested, Null, Boolean, I16, U16, I32, U32, I64, U64, F64, Text, Opaque}
 use Rattle.binlog_values.specs.JsonDiffs.{Diff}
 
 -- The parts of a value: the number of its type; its number, which for a literal is the literal's,

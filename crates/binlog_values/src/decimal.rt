@@ -63,7 +63,11 @@ impl Model for Decimal {
     } };
 
     ghost invariant = { λ d.
-        IsDecimal (record { negative = d.negative; integer = d.integer.items; fraction = d.fraction.items }) };
+        IsDecimal (record {
+          negative = d.negative;
+          integer = d.integer.items;
+          fraction = d.fraction.items;
+        }) };
 }
 
 impl Decimal {

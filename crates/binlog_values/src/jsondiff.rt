@@ -129,13 +129,14 @@ impl<'a> JsonDiff<'a> {
     pub fn clone(&self, alloc: Global) -> Result<JsonDiff<'a>, AllocError>
         ensures { IfOk result (λ copy. copy ≡ self.now) }
     {
+        let path = self.path.clone(alloc)?;
         let value = match &self.value {
             Some(value) => Some(value.clone(alloc)?),
             None => None,
         };
         Ok(JsonDiff {
             operation: self.operation,
-            path: self.path.clone(alloc)?,
+            path,
             value,
         })
     }

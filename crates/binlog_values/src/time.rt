@@ -35,7 +35,7 @@ use text::TimeText;
 const LONGEST: usize = 37;
 
 /// A date, a time, or both, by its fields, as MySQL's `MYSQL_TIME`.
-#[derive(Clone, Debug, PartialEq, Eq, Drop)]
+#[derive(Clone, Copy, Debug, PartialEq, Eq)]
 pub struct MysqlTime {
     pub year: u32,
     pub month: u32,

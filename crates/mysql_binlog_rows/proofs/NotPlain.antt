@@ -1,5 +1,5 @@
 -- The first value of a row that isn't plain.
-use Rattle.std.proofs.Common.{◌≡◌, ℕ, List, ◌∷◌, ◌++◌, length, map, Option, Some, sym, ap, ◌∙◌}
+use Rattle.std.proofs.Common.{◌≡◌, ℕ, List, ◌∷◌, ◌++◌, length, map, Option, sym, ap, ◌∙◌}
 use Rattle.std.specs.Option.{option_map}
 use Rattle.binlog_base.specs.Values.{PlainValue}
 use Rattle.mysql_binlog_rows.specs.declared.row.binlog_row.BinlogRowToRowError.{BinlogRowToRowError}

@@ -62,7 +62,8 @@ fn hex_byte(word: &str) -> Result<u8, WordsError>
 // Reads an event type, written as its number in two hexadecimal digits.
 fn event_type(word: &str) -> Result<EventType, WordsError>
     ensures ok { IfOk result (λ type. IsEventType word.now type) }
-    ensures err { IfErr result (λ e. (e ≡ WordsError.Usage) × ((type : EventType) → IsEventType word.now type
+    ensures err { IfErr result (λ e. (e ≡ WordsError.Usage)
+        × ((type : EventType) → IsEventType word.now type
         → ⊥)) }
 {
     let number = hex_byte(word)?;
@@ -75,7 +76,8 @@ fn event_type(word: &str) -> Result<EventType, WordsError>
 // Reads bytes, each written as two hexadecimal digits.
 fn hex_bytes(alloc: Global, word: &str) -> Result<Vec<u8>, WordsError>
     ensures ok { IfOk result (λ bytes. IsHex word.now bytes.items) }
-    ensures err { IfErr result (λ e. (e ≡ WordsError.Memory) ⊎ ((bytes : List ℕ) → IsHex word.now bytes → ⊥)) }
+    ensures err { IfErr result
+        (λ e. (e ≡ WordsError.Memory) ⊎ ((bytes : List ℕ) → IsHex word.now bytes → ⊥)) }
 {
     hex::decode(alloc, word).map_err(|error| match error {
         FromHexError::OutOfMemory => WordsError::Memory,

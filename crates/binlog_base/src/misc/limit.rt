@@ -41,7 +41,8 @@ impl<T: WriteOnce> Write for LimitedWrite<T> {
     /// returns the result of that write. An error leaves the limit as it is.
     fn write(&mut self, buf: &[u8]) -> io::Result<usize>
         ensures bound { WritesAtMost result buf.now }
-        ensures bytes { WriteAppends (T.contents self.old.write) (T.contents self.new.write) result buf.now }
+        ensures bytes { WriteAppends (T.contents self.old.write) (T.contents self.new.write)
+            result buf.now }
         // The result, an error included, and the inner writer after it are those of its own write
         // of the first bytes.
         ensures handed { T.writes self.old.write (take (min (length buf.now) self.old.limit) buf.now) result

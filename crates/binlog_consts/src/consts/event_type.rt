@@ -171,7 +171,8 @@ impl From<UnknownEventType> for u8 {
 /// Converts an event type to its number, which `try_from` converts back. `ENUM_END_EVENT`, whose
 /// number is 2B, is the exception: `try_from` refuses it.
 impl From<EventType> for u8 {
-    ghost from_gives = { λ t n. (from_table event_types (λ k. k) n ≡ Ok t) ⊎ ((t ≡ event.ENUM_END_EVENT) × (n ≡ 0x2B)) };
+    ghost from_gives = { λ t n. (from_table event_types (λ k. k) n ≡ Ok t)
+        ⊎ ((t ≡ event.ENUM_END_EVENT) × (n ≡ 0x2B)) };
 
     fn from(event_type: EventType) -> u8 {
         event_type as u8

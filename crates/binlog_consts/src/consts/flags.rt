@@ -114,7 +114,8 @@ pub struct UnknownSemiSyncFlags(pub u8);
 impl TryFrom<u8> for SemiSyncFlags {
     type Error = UnknownSemiSyncFlags;
 
-    ghost try_from_gives = { λ n r. r ≡ known_flags semi_sync_flags semi_sync_flags_of (λ k. record { 0 = k }) n };
+    ghost try_from_gives = { λ n r. r ≡ known_flags semi_sync_flags semi_sync_flags_of
+        (λ k. record { 0 = k }) n };
 
     fn try_from(bits: u8) -> Result<SemiSyncFlags, UnknownSemiSyncFlags> {
         SemiSyncFlags::from_bits(bits).ok_or(UnknownSemiSyncFlags(bits))
@@ -216,7 +217,8 @@ pub struct UnknownRowsEventFlags(pub u16);
 impl TryFrom<u16> for RowsEventFlags {
     type Error = UnknownRowsEventFlags;
 
-    ghost try_from_gives = { λ n r. r ≡ known_flags rows_event_flags rows_event_flags_of (λ k. record { 0 = k }) n };
+    ghost try_from_gives = { λ n r. r ≡ known_flags rows_event_flags rows_event_flags_of
+        (λ k. record { 0 = k }) n };
 
     fn try_from(bits: u16) -> Result<RowsEventFlags, UnknownRowsEventFlags> {
         RowsEventFlags::from_bits(bits).ok_or(UnknownRowsEventFlags(bits))
@@ -264,7 +266,8 @@ pub struct UnknownUserVarFlags(pub u8);
 impl TryFrom<u8> for UserVarFlags {
     type Error = UnknownUserVarFlags;
 
-    ghost try_from_gives = { λ n r. r ≡ known_flags user_var_flags user_var_flags_of (λ k. record { 0 = k }) n };
+    ghost try_from_gives = { λ n r. r ≡ known_flags user_var_flags user_var_flags_of
+        (λ k. record { 0 = k }) n };
 
     fn try_from(bits: u8) -> Result<UserVarFlags, UnknownUserVarFlags> {
         UserVarFlags::from_bits(bits).ok_or(UnknownUserVarFlags(bits))

@@ -48,7 +48,8 @@ pub struct UnknownOptionalMetadataFieldType(pub u8);
 impl TryFrom<u8> for OptionalMetadataFieldType {
     type Error = UnknownOptionalMetadataFieldType;
 
-    ghost try_from_gives = { λ n r. r ≡ from_table optional_metadata_field_types (λ k. record { 0 = k }) n };
+    ghost try_from_gives = { λ n r. r ≡ from_table optional_metadata_field_types
+        (λ k. record { 0 = k }) n };
 
     fn try_from(number: u8) -> Result<OptionalMetadataFieldType, UnknownOptionalMetadataFieldType> {
         match number {

@@ -1,6 +1,6 @@
 -- The faults of columns and of optional metadata are those that bytes can have; and a table has no
 -- column after its last one.
-use Rattle.std.specs.Prelude.{ℕ, zero, suc, ◌-◌, ◌≤◌, ◌==◌, nat_lt, Bool, true, false, List, [], ◌∷◌, ◌++◌, length, map, Option, Some, None, Result, Ok, Err, ⊤, if◌then◌else◌, slice_get}
+use Rattle.std.specs.Prelude.{ℕ, zero, suc, ◌-◌, ◌≤◌, ◌==◌, nat_lt, Bool, true, false, List, [], ◌∷◌, ◌++◌, length, map, Option, Some, None, Result, Ok, Err, ⊤, if◌then◌else◌}
 use Rattle.std.proofs.Common.{◌≡◌, refl, sym, subst}
 use Rattle.std.proofs.lemmas.Option.{slice_get_past}
 use Rattle.binlog_base.specs.declared.bits.BitOrder.TheVariants.{MostSignificantFirst}
@@ -8,7 +8,7 @@ use Rattle.binlog_base.specs.declared.fault.Fault.{Fault}
 use Rattle.binlog_base.specs.declared.fault.Fault.TheVariants.{NoColumnType, UnknownOptionalField}
 use Rattle.binlog_base.specs.declared.below.columns.column_type.ColumnType.{ColumnType}
 use Rattle.binlog_base.specs.Faults.{IsOfBytes, OfBytes}
-use Rattle.binlog_base.specs.Format.{Format, IsExact, ◌>>=◌}
+use Rattle.binlog_base.specs.Format.{Format, IsExact}
 use Rattle.binlog_base.specs.Tables.{from_table}
 use Rattle.binlog_base.specs.ColumnTypes.{is_character, is_enum_or_set}
 use Rattle.binlog_base.specs.Numbers.{lenenc}
@@ -25,15 +25,14 @@ use Rattle.binlog_consts.specs.declared.consts.optional_metadata.OptionalMetadat
 use Rattle.binlog_table.specs.declared.table_map.bad_column_type.BadColumnType.{BadColumnType}
 use Rattle.binlog_table.specs.declared.table_map.bad_column_type.BadColumnType.TheVariants as bad
 use Rattle.binlog_table.specs.TableMap.{TableMap}
-use Rattle.binlog_table.specs.Chunks.{chunk_at}
-use Rattle.binlog_table.specs.ColumnTypes.{column_type_at, real_type_of, raw_type_of}
+use Rattle.binlog_table.specs.ColumnTypes.{column_type_at}
 use Rattle.binlog_table.specs.Lists.{DefaultCharset, RawField, raw_field, default_charset, low_bits, pair_with}
 use Rattle.binlog_table.specs.Lemmas.Lists.{exact_low_bits, eats_low_bits, exact_pair_with, eats_pair_with, exact_raw_field, eats_raw_field, exact_default_charset}
 use Rattle.binlog_table.specs.Fields.{whole, bits_for, default_charset_in, value_of, field_of}
 use Rattle.binlog_table.specs.Keys.{unless, key_items, key_at as key_in}
 use Rattle.binlog_table.specs.Charsets.{pairs_from, above_from, charset_in as pair_at, listed, after, or_else, charset_above, charset_at as charset_in, zero_without}
 use Rattle.binlog_table.specs.Extracted.{list_or, pairs_or, kept_of, field_fault}
-use Rattle.binlog_table.specs.TableColumns.{Column, typed, named, in_group, ordinal_of, charset_by, charset_of_group, type_at, charset_at, name_at, key_at, column_at}
+use Rattle.binlog_table.specs.TableColumns.{typed, named, in_group, ordinal_of, charset_by, charset_of_group, type_at, charset_at, name_at, key_at, column_at}
 
 -- ---- results and lists whose faults are of bytes
 

@@ -1,6 +1,6 @@
 -- Reading diffs is exact, and a diff takes at least a byte.
 use Rattle.std.specs.Prelude.{ℕ, Some, None}
-use Rattle.std.proofs.Common.{◌≡◌, refl}
+use Rattle.std.proofs.Common.{refl}
 use Rattle.binlog_base.specs.declared.fault.Fault.TheVariants.{UnknownJsonDiffOperation}
 use Rattle.binlog_base.specs.Format.{IsExact, check, sequence}
 use Rattle.binlog_base.specs.Items.{Eats}

@@ -9,10 +9,9 @@ use Rattle.std.proofs.lemmas.Bool.{and_parts, and_from}
 use Rattle.std.proofs.lemmas.Bool.Decides.{Decides-eqb, Decides-int_eq}
 use Rattle.binlog_base.specs.declared.fault.Fault.{Fault}
 use Rattle.binlog_base.specs.declared.below.columns.column_type.ColumnType.{ColumnType}
-use Rattle.binlog_base.specs.ColumnTypes.{column_number, column_type_of}
+use Rattle.binlog_base.specs.ColumnTypes.{column_type_of}
 use Rattle.binlog_base.specs.Lemmas.ColumnTypes.{column_number_reads_back}
-use Rattle.binlog_values.specs.JsonbValues.{Frame, Scalar, JsonbValue, scalar, nested, Null, Boolean, I16, U16, I32, U32, I64, U64, F64, Text, Opaque}
-use Rattle.binlog_values.specs.JsonDiffs.{Diff}
+use Rattle.binlog_values.specs.JsonbValues.{Scalar, JsonbValue, scalar, nested, Null, Boolean, I16, U16, I32, U32, I64, U64, F64, Text, Opaque}
 use Rattle.binlog_values.specs.JsonEquality.{Parts, container_type, parts, parts_of, same_parts, same_json, operation_number, same_diff}
 
 -- ---- the value of some parts

@@ -28,7 +28,11 @@ impl<'a> Model for Lent<'a> {
     } };
 
     ghost invariant = { λ d.
-        IsDecimal (record { negative = d.negative; integer = d.integer.now; fraction = d.fraction.now }) };
+        IsDecimal (record {
+          negative = d.negative;
+          integer = d.integer.now;
+          fraction = d.fraction.now;
+        }) };
 }
 
 impl<'a> Lent<'a> {

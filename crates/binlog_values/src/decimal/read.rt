@@ -136,7 +136,8 @@ impl Decimal {
         ensures answer { ReadsFromOrMemory (packed_decimal precision scale keep_prec) result
             (S.remaining reader.old) (S.remaining reader.new)
             (S.failures reader.old) (S.failures reader.new) }
-        ensures scale_first { precision < scale → (result ≡ Err DecimalScale) × (reader.new ≡ reader.old) }
+        ensures scale_first { precision < scale
+            → (result ≡ Err DecimalScale) × (reader.new ≡ reader.old) }
         ensures nothing_read { precision ≡ 0 → reader.new ≡ reader.old }
     {
         if scale > precision {
@@ -188,7 +189,8 @@ impl Decimal {
         scale: u8,
     ) -> Result<Vec<u8>, Fault>
         ensures { OrMemory result (ParsesAs (λ text. text.items)
-            (map_value (packed_decimal precision scale false) decimal_text) result buf.old.0.now buf.new.0.now) }
+            (map_value (packed_decimal precision scale false) decimal_text)
+            result buf.old.0.now buf.new.0.now) }
     {
         if scale > precision {
             return Err(Fault::DecimalScale);

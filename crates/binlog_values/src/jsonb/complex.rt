@@ -149,8 +149,10 @@ impl<'a, T: StorageFormat, U: ComplexType> Lent<'a, T, U> {
     fn key_entry(&self, pos: u32) -> (u32, u16)
         requires object { self.now.is_array ≡ false }
         requires there { pos < self.now.count }
-        ensures offset { result.0 ≡ number_at (offset_size T.IS_LARGE) (key_entry T.IS_LARGE pos) self.now.bytes }
-        ensures len { result.1 ≡ number_at 2 (key_entry T.IS_LARGE pos + offset_size T.IS_LARGE) self.now.bytes }
+        ensures offset { result.0
+            ≡ number_at (offset_size T.IS_LARGE) (key_entry T.IS_LARGE pos) self.now.bytes }
+        ensures len { result.1
+            ≡ number_at 2 (key_entry T.IS_LARGE pos + offset_size T.IS_LARGE) self.now.bytes }
     {
         let width = offset_width::<T>();
         let at = 2 * width + (width + 2) * pos as usize;
@@ -206,7 +208,8 @@ impl<'a, T: StorageFormat, U: ComplexType> Model for ComplexValue<'a, T, U> {
       bytes = cow_slice_items v.bytes;
     } };
 
-    ghost invariant = { λ v. header_len U.IS_ARRAY T.IS_LARGE v.element_count ≤ length (cow_slice_items v.bytes) };
+    ghost invariant = { λ v.
+        header_len U.IS_ARRAY T.IS_LARGE v.element_count ≤ length (cow_slice_items v.bytes) };
 }
 
 impl<'a, T: StorageFormat, U: ComplexType> ComplexValue<'a, T, U> {

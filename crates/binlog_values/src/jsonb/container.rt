@@ -82,7 +82,8 @@ impl<'a, T: StorageFormat, U: ComplexType> Lent<'a, T, U> {
         ensures key { IfOk result (λ e. entry_key self.now pos ≡ Ok e.0.now) }
         ensures value { IfOk result (λ e. element_at self.now pos ≡ Ok (node_view e.1)) }
         ensures node { IfOk result (λ e. IsNode e.1) }
-        ensures fault { IfErr result (λ f. IsEntryFault f (entry_key self.now pos) (element_at self.now pos)) }
+        ensures fault { IfErr result
+            (λ f. IsEntryFault f (entry_key self.now pos) (element_at self.now pos)) }
     {
         let key = self.entry_key(pos)?;
         Ok((key, self.node(pos)?))
@@ -92,7 +93,8 @@ impl<'a, T: StorageFormat, U: ComplexType> Lent<'a, T, U> {
 impl<'a> Container<'a> {
     // Returns the container that a value is, over the value's bytes; `None` for a scalar.
     pub fn of(value: &'a Value<'_>) -> Option<Container<'a>>
-        ensures { MatchOption result (IsScalar (view_of value.entry.now)) (λ c. view_of value.entry.now ≡ nested (frame c)) }
+        ensures { MatchOption result (IsScalar (view_of value.entry.now))
+            (λ c. view_of value.entry.now ≡ nested (frame c)) }
     {
         match value {
             Value::SmallArray(container) => Some(Container::SmallArray(container.lent())),

@@ -66,7 +66,7 @@ fn clone_scalar(scalar: &JsonScalar, alloc: Global) -> Result<JsonScalar, AllocE
 {
     match scalar {
         JsonScalar::Boolean(value) => Ok(JsonScalar::Boolean(*value)),
-        JsonScalar::DateTime(time) => Ok(JsonScalar::DateTime(time.clone()?)),
+        JsonScalar::DateTime(time) => Ok(JsonScalar::DateTime(*time)),
         JsonScalar::Null => Ok(JsonScalar::Null),
         JsonScalar::Number(number) => clone_number(number, alloc).map(JsonScalar::Number),
         JsonScalar::Opaque(value) => value.clone(alloc).map(JsonScalar::Opaque),

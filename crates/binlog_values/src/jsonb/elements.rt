@@ -132,7 +132,8 @@ pub struct ArrayIter<'a, T: StorageFormat> {
 impl<'a, T: StorageFormat> Iterator for ArrayIter<'a, T> {
     type Item = Result<Value<'a>, Fault>;
 
-    ghost next_gives = { YieldsFirstBy (λ r. result_map view_of r) (λ s. from element_at s.array.now s.pos) };
+    ghost next_gives = { YieldsFirstBy (λ r. result_map view_of r)
+        (λ s. from element_at s.array.now s.pos) };
 
     ghost remaining = { item_count (λ s. from element_at s.array.now s.pos) };
 
@@ -195,7 +196,8 @@ impl<'a, T: StorageFormat> ComplexValue<'a, T, Object> {
 impl<'a, T: StorageFormat> Iterator for ObjectIter<'a, T> {
     type Item = Result<(ObjectKey<'a>, Value<'a>), Fault>;
 
-    ghost next_gives = { YieldsFirstBy (λ r. result_map (λ e. (e.0, view_of e.1)) r) (λ s. from entry_at s.object.now s.pos) };
+    ghost next_gives = { YieldsFirstBy (λ r. result_map (λ e. (e.0, view_of e.1)) r)
+        (λ s. from entry_at s.object.now s.pos) };
 
     ghost remaining = { item_count (λ s. from entry_at s.object.now s.pos) };
 

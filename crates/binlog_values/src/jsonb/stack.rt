@@ -47,7 +47,8 @@ pub(super) enum Collected {
 impl Collected {
     // Returns the tree of the container.
     fn into_dom(self) -> JsonDom
-        ensures { (c : Frame) (front : Branches) → IsCollected self c front → IsTree result (node c.is_array front) }
+        ensures { (c : Frame) (front : Branches) → IsCollected self c front
+            → IsTree result (node c.is_array front) }
     {
         match self {
             Collected::Items(items) => JsonDom::Container(JsonContainer::Array(items)),
@@ -58,7 +59,8 @@ impl Collected {
     // Adds an entry.
     #[inline(always)]
     fn add(&mut self, alloc: Global, key: &[u8], value: JsonDom) -> Result<(), Fault>
-        ensures entry { OnOk result ((c : Frame) (front : Branches) (t : Tree) → IsCollected self.old c front
+        ensures entry { OnOk result ((c : Frame) (front : Branches) (t : Tree)
+            → IsCollected self.old c front
             → IsTree value t → IsCollected self.new c (append front (branch key.now t no_branches))) }
         ensures memory { IfErr result (λ f. f ≡ Memory) }
     {
@@ -101,8 +103,10 @@ impl<'a> Open<'a> {
     #[inline(always)]
     fn add(&mut self, alloc: Global, key: &[u8], value: JsonDom) -> Result<(), Fault>
         requires { self.old.pos < (frame self.old.container).count }
-        ensures open { OnOk result ((c : Frame) (pos : ℕ) (front : Branches) (t : Tree) → IsOpen self.old c pos front
-            → IsTree value t → IsOpen self.new c (pos + 1) (append front (branch key.now t no_branches))) }
+        ensures open { OnOk result ((c : Frame) (pos : ℕ) (front : Branches) (t : Tree)
+            → IsOpen self.old c pos front
+            → IsTree value t
+            → IsOpen self.new c (pos + 1) (append front (branch key.now t no_branches))) }
         ensures memory { IfErr result (λ f. f ≡ Memory) }
     {
         self.collected.add(alloc, key, value)?;

@@ -1,11 +1,10 @@
 -- Equality of cells is an equivalence.
-use Rattle.std.specs.Prelude.{◌≡◌, Bool, true, false, List}
+use Rattle.std.specs.Prelude.{◌≡◌, true}
 use Rattle.std.specs.Cmp.{IsEquivalence}
 use Rattle.std.specs.Cmp.Lexicographic.{pointwise, lists_equiv}
 use Rattle.std.proofs.Common.{refl, sym}
 use Rattle.std.proofs.lemmas.Bool.{true≢false}
 use Rattle.binlog_base.specs.Lemmas.Equality.{same_plain_is_equivalence}
-use Rattle.binlog_values.specs.JsonDiffs.{Diff}
 use Rattle.binlog_values.specs.JsonEquality.{same_diff}
 use Rattle.binlog_values.specs.Lemmas.JsonEquality.{same_json_is_equivalence, same_diff_is_equivalence}
 use Rattle.mysql_binlog_rows.specs.Cells.{Cell, PlainCell, JsonCell, DiffsCell}

@@ -48,9 +48,12 @@ impl Model for BinlogRow {
 
 /// Two rows are equal where their columns are, and their values in order.
 impl PartialEq for BinlogRow {
-    ghost eq = { eq_of_both (on (λ r. r.columns) (pointwise ⟦<Column as PartialEq>⟧.eq)) (on (λ r. r.values) (pointwise (option_eq same_cell))) };
+    ghost eq = { eq_of_both (on (λ r. r.columns) (pointwise ⟦<Column as PartialEq>⟧.eq))
+        (on (λ r. r.values) (pointwise (option_eq same_cell))) };
 
-    ghost laws = { and_per (on_per (λ r. r.columns) (lists_per laws-law)) (on_per (λ r. r.values) (lists_per (partial_equiv_from_equiv (options_equiv same_cell_is_equivalence)))) };
+    ghost laws = { and_per (on_per (λ r. r.columns) (lists_per laws-law))
+        (on_per (λ r. r.values)
+        (lists_per (partial_equiv_from_equiv (options_equiv same_cell_is_equivalence)))) };
 
     #[tactic(auto, using(crate::proofs::Equality::same_values))]
     fn eq(&self, other: &Self) -> bool {
@@ -124,7 +127,8 @@ impl BinlogRow {
     /// Puts a value at place `index`, in place of what is there. The place must be below `len`.
     pub fn place(&mut self, index: usize, value: BinlogValue<'static>)
         requires { index < length self.old.values }
-        ensures { self.new ≡ record self.old { values = set self.old.values index (Some (cell_of value.entry)) } }
+        ensures { self.new
+            ≡ record self.old { values = set self.old.values index (Some (cell_of value.entry)) } }
     {
         self.values[index] = Some(value);
     }
@@ -182,7 +186,8 @@ fn plain_value(
     offset: usize,
     value: Option<BinlogValue<'static>>,
 ) -> Result<Option<Value>, BinlogRowToRowError>
-    ensures value { IfOk result (λ v. option_map (λ p. PlainCell (plain_of p)) v ≡ option_map cell_of value.entry) }
+    ensures value { IfOk result (λ v.
+        option_map (λ p. PlainCell (plain_of p)) v ≡ option_map cell_of value.entry) }
     ensures err { IfErr result (IsNotPlain offset (option_map cell_of value.entry)) }
 {
     match value {

@@ -103,7 +103,8 @@ fn with_name(
     name: &Option<ColumnName<'_>>,
     index: usize,
 ) -> Result<Column, Fault>
-    ensures given { IfOk result (λ c. c ≡ record column { name = unwrap_or name.now (default_name index) }) }
+    ensures given { IfOk result
+        (λ c. c ≡ record column { name = unwrap_or name.now (default_name index) }) }
     ensures err { IfErr result (λ e. e ≡ Fault.Memory) }
 {
     match name {

@@ -102,7 +102,8 @@ impl<'a> RowsEvent<'a> {
         is_there: bool,
         buf: &mut ParseBuf<'a>,
     ) -> Result<RawBytes<'a, BareBytes<65533>>, Fault>
-        ensures parses { Parses (choice is_there extra_data (no_bytes [])) result buf.old.0.now buf.new.0.now }
+        ensures parses { Parses (choice is_there extra_data (no_bytes []))
+            result buf.old.0.now buf.new.0.now }
         ensures fits { IfOk result (λ x. length x ≤ 65533) }
     {
         if !is_there {

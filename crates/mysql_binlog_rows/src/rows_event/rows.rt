@@ -114,7 +114,8 @@ fn maybe_plan(
     requires { steps.old < 2 ^ 127 }
     ensures plan { IfOk result (λ p. p ≡ option_map (plan_of table.now has_options) present.entry) }
     ensures least { IfOk result (λ p. steps.old + slots_in p ≤ steps.new) }
-    ensures most { IfOk result (λ _. steps.new ≤ steps.old + (columns_in present.entry + length table.now.optional_metadata)) }
+    ensures most { IfOk result (λ _.
+        steps.new ≤ steps.old + (columns_in present.entry + length table.now.optional_metadata)) }
     ensures fits { IfOk result (λ _. steps.new < steps.old + 2 ^ 70) }
     ensures err { IfErr result (λ e. e ≡ Fault.Memory) }
 {
@@ -160,7 +161,8 @@ impl Plans {
 
     #[tactic(auto, unfolding(crate::specs::Plans::planned_pair))]
     fn read(&self, alloc: Global, buf: &mut ParseBuf<'_>) -> Result<RowPair, Fault>
-        ensures { OrMemory result (Parses (planned_pair self.now.plans) result buf.old.0.now buf.new.0.now) }
+        ensures { OrMemory result
+            (Parses (planned_pair self.now.plans) result buf.old.0.now buf.new.0.now) }
     {
         let before = read_maybe(alloc, &self.before, buf)?;
         let after = read_maybe(alloc, &self.after, buf)?;

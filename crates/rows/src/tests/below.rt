@@ -6,7 +6,7 @@ use binlog_base::below::{
     ColumnFlags, ColumnType, Const, EofBytes, Failed, GeometryType, I8, IntRepr, LeI16, LeI24,
     LeI32, LeI48, LeI64, LeU16, LeU24, LeU32, LeU48, LeU64, LenEnc, MyDeserialize, MySerialize,
     ParseBuf, RawBytes, RawFlags, RawInt, Row, Skip, Source, U8, U8Bytes, UnknownColumnType,
-    UnknownGeometryType, Value, VarLen, lenenc_int_len, new_row_raw,
+    UnknownGeometryType, Value, VarLen, lenenc_int_len, new_row_raw, write_bytes,
 };
 use binlog_base::bits::{BitOrder, BitView, bitmap_len};
 use binlog_base::fault::{Fault, FaultKind, JsonbError};
@@ -102,12 +102,13 @@ fn numbers_of_each_kind(rt: HostRuntime) {
 }
 
 #[test]
-fn the_lowest_bytes_are_written(rt: HostRuntime) -> Result<(), Fail> {
-    // Of a number that the kind can't hold.
+fn bytes_are_written(rt: HostRuntime) -> Result<(), Fail> {
     let mut buf = Vec::new(rt.alloc());
+    write_bytes(b"ab", &mut buf)?;
+    // The lowest bytes of a number that the kind can't hold.
     LeU24::serialize(0x8102_0304, &mut buf)?;
     BeI24::serialize(-0x7efd_fcfc, &mut buf)?;
-    assert!(rt; buf.as_slice() == b"\x04\x03\x02\x02\x03\x04".as_slice());
+    assert!(rt; buf.as_slice() == b"ab\x04\x03\x02\x02\x03\x04".as_slice());
     Ok(())
 }
 

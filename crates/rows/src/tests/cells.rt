@@ -1,138 +1,122 @@
 //! Tests of single cells.
 
 use super::{all, has_text};
+use ColumnType::{
+    MYSQL_TYPE_BIT, MYSQL_TYPE_BLOB, MYSQL_TYPE_DATE, MYSQL_TYPE_DATETIME, MYSQL_TYPE_DATETIME2,
+    MYSQL_TYPE_DECIMAL, MYSQL_TYPE_DOUBLE, MYSQL_TYPE_ENUM, MYSQL_TYPE_FLOAT, MYSQL_TYPE_GEOMETRY,
+    MYSQL_TYPE_INT24, MYSQL_TYPE_LONG, MYSQL_TYPE_LONG_BLOB, MYSQL_TYPE_LONGLONG,
+    MYSQL_TYPE_MEDIUM_BLOB, MYSQL_TYPE_NEWDATE, MYSQL_TYPE_NEWDECIMAL, MYSQL_TYPE_NULL,
+    MYSQL_TYPE_SET, MYSQL_TYPE_SHORT, MYSQL_TYPE_STRING, MYSQL_TYPE_TIME, MYSQL_TYPE_TIME2,
+    MYSQL_TYPE_TIMESTAMP, MYSQL_TYPE_TIMESTAMP2, MYSQL_TYPE_TINY, MYSQL_TYPE_TINY_BLOB,
+    MYSQL_TYPE_TYPED_ARRAY, MYSQL_TYPE_UNKNOWN, MYSQL_TYPE_VAR_STRING, MYSQL_TYPE_VARCHAR,
+    MYSQL_TYPE_VECTOR, MYSQL_TYPE_YEAR,
+};
 use binlog_base::below::{ColumnType, ParseBuf, Value};
 use binlog_base::fault::Fault;
 use binlog_values::jsonb::{UnknownJsonbType, UnknownLiteralType};
 use binlog_values::jsondiff::UnknownJsonDiffOperation;
+use bstr::BStr;
 use mysql_binlog_rows::laws::old_times_have_signs;
 use mysql_binlog_rows::row::{BinlogRowToRowError, UnknownBinlogRowValueOptions};
 use mysql_binlog_rows::value::{BinlogValue, BinlogValueToValueError, signed_old_time};
+use std::fmt::{self, InlineText, Write};
 
-/// The value of a cell that isn't JSON.
-fn plain(cell: BinlogValue<'_>) -> Result<Value, Fault> {
+/// A cell by its column's type and metadata, and the cell's bytes; and the `Debug` text of its value,
+/// with bytes in quotes, or its fault.
+type Cell = (ColumnType, &'static [u8], &'static [u8], &'static str);
+
+/// Writes a value, and how many bytes are left after it.
+fn write_value(room: &mut InlineText<64>, value: &Value, left: usize) -> fmt::Result {
+    match value {
+        Value::Bytes(bytes) => write!(room, "{:?}", BStr::new(bytes))?,
+        _ => write!(room, "{value:?}")?,
+    }
+    if left > 0 {
+        write!(room, ", {left} bytes left")?;
+    }
+    Ok(())
+}
+
+/// Writes the value of a cell, or the fault in its place.
+fn write_cell(
+    room: &mut InlineText<64>,
+    cell: Result<BinlogValue<'_>, Fault>,
+    left: usize,
+) -> fmt::Result {
     match cell {
-        BinlogValue::Value(value) => Ok(value),
-        _ => Err(Fault::Unhandled),
+        Ok(BinlogValue::Value(value)) => write_value(room, &value, left),
+        Ok(_) => write!(room, "JSON"),
+        Err(fault) => write!(room, "{fault:?}"),
     }
 }
 
-/// Reads a cell that takes all of the bytes.
-fn cell(
-    rt: &HostRuntime,
-    column_type: ColumnType,
-    metadata: &[u8],
-    unsigned: bool,
-    bytes: &[u8],
-) -> Result<Value, Fault> {
+/// Whether a cell is read as it is described, and takes all of its bytes.
+fn is_read(rt: &HostRuntime, unsigned: bool, cell: Cell) -> bool {
+    let (column_type, metadata, bytes, text) = cell;
+    let mut room = InlineText::new();
     let mut buf = ParseBuf(bytes);
-    let ctx = (rt.alloc(), column_type, metadata, unsigned, false);
-    let value = plain(buf.parse(ctx)?)?;
-    if buf.is_empty() {
-        Ok(value)
-    } else {
-        Err(Fault::BytesRemaining)
-    }
+    let read = buf.parse((rt.alloc(), column_type, metadata, unsigned, false));
+    write_cell(&mut room, read, buf.len()).is_ok() && room.as_str() == text
 }
 
-/// Whether it is this value.
-fn is_value(
-    rt: &HostRuntime,
-    column_type: ColumnType,
-    metadata: &[u8],
-    unsigned: bool,
-    bytes: &[u8],
-    value: Value,
-) -> bool {
-    match cell(rt, column_type, metadata, unsigned, bytes) {
-        Ok(other) => other == value,
-        Err(_) => false,
-    }
-}
+/// Whole numbers and floats.
+const NUMBERS: [Cell; 9] = [
+    (MYSQL_TYPE_TINY, &[], b"\xff", "Int(-1)"),
+    (MYSQL_TYPE_SHORT, &[], b"\xff\xff", "Int(-1)"),
+    (MYSQL_TYPE_INT24, &[], b"\xff\xff\xff", "Int(-1)"),
+    (MYSQL_TYPE_LONG, &[], b"\xff\xff\xff\xff", "Int(-1)"),
+    (MYSQL_TYPE_LONG, &[], b"\xff\xff\xff", "UnexpectedEof"),
+    (
+        MYSQL_TYPE_LONGLONG,
+        &[],
+        b"\xff\xff\xff\xff\xff\xff\xff\xff",
+        "Int(-1)",
+    ),
+    (
+        MYSQL_TYPE_LONGLONG,
+        &[],
+        b"\xff\xff\xff\xff\xff\xff\xff",
+        "UnexpectedEof",
+    ),
+    // The bits 3F800000 and 3FF0000000000000.
+    (MYSQL_TYPE_FLOAT, &[4], b"\0\0\x80\x3f", "Float(1065353216)"),
+    (
+        MYSQL_TYPE_DOUBLE,
+        &[8],
+        b"\0\0\0\0\0\0\xf0\x3f",
+        "Double(4607182418800017408)",
+    ),
+];
 
-/// Whether it is these bytes.
-fn is_bytes(
-    rt: &HostRuntime,
-    column_type: ColumnType,
-    metadata: &[u8],
-    bytes: &[u8],
-    text: &[u8],
-) -> bool {
-    match cell(rt, column_type, metadata, false, bytes) {
-        Ok(Value::Bytes(other)) => other.as_slice() == text,
-        _ => false,
-    }
-}
-
-/// Whether it is refused by this fault.
-fn is_refused(
-    rt: &HostRuntime,
-    column_type: ColumnType,
-    metadata: &[u8],
-    bytes: &[u8],
-    fault: Fault,
-) -> bool {
-    match cell(rt, column_type, metadata, false, bytes) {
-        Ok(_) => false,
-        Err(other) => other == fault,
-    }
-}
+/// Unsigned numbers.
+const UNSIGNED: [Cell; 5] = [
+    (MYSQL_TYPE_TINY, &[], b"\xff", "Int(255)"),
+    (MYSQL_TYPE_SHORT, &[], b"\xff\xff", "Int(65535)"),
+    (MYSQL_TYPE_INT24, &[], b"\xff\xff\xff", "Int(16777215)"),
+    (MYSQL_TYPE_LONG, &[], b"\xff\xff\xff\xff", "Int(4294967295)"),
+    (
+        MYSQL_TYPE_LONGLONG,
+        &[],
+        b"\xff\xff\xff\xff\xff\xff\xff\xff",
+        "UInt(18446744073709551615)",
+    ),
+];
 
 #[test]
 fn numbers(rt: HostRuntime) {
-    let ff = [0xff; 8];
-    let cases = [
-        (ColumnType::MYSQL_TYPE_TINY, 1, -1, 255),
-        (ColumnType::MYSQL_TYPE_SHORT, 2, -1, 65535),
-        (ColumnType::MYSQL_TYPE_INT24, 3, -1, 16777215),
-        (ColumnType::MYSQL_TYPE_LONG, 4, -1, 4294967295),
-    ];
-    for (column_type, width, signed, unsigned) in cases {
-        let bytes = &ff[..width];
-        assert!(rt; is_value(&rt, column_type, &[], false, bytes, Value::Int(signed)));
-        assert!(rt; is_value(&rt, column_type, &[], true, bytes, Value::Int(unsigned)));
+    for cell in NUMBERS {
+        assert!(rt; is_read(&rt, false, cell));
     }
-    let long = ColumnType::MYSQL_TYPE_LONGLONG;
-    assert!(rt;
-        all(&[
-            is_value(&rt, long, &[], false, &ff, Value::Int(-1)),
-            is_value(&rt, long, &[], true, &ff, Value::UInt(18446744073709551615)),
-            is_refused(&rt, long, &[], &ff[..7], Fault::UnexpectedEof),
-            is_refused(
-                &rt,
-                ColumnType::MYSQL_TYPE_LONG,
-                &[],
-                &ff[..3],
-                Fault::UnexpectedEof
-            ),
-        ])
-    );
-}
-
-#[test]
-fn bits_of_floats(rt: HostRuntime) {
-    let float = ColumnType::MYSQL_TYPE_FLOAT;
-    let one = [0, 0, 0x80, 0x3f];
-    assert!(rt; is_value(&rt, float, &[4], false, &one, Value::Float(0x3f80_0000)));
-    let double = ColumnType::MYSQL_TYPE_DOUBLE;
-    let one = &[0, 0, 0, 0, 0, 0, 0xf0, 0x3f];
-    assert!(rt;
-        is_value(
-            &rt,
-            double,
-            &[8],
-            false,
-            one,
-            Value::Double(0x3ff0_0000_0000_0000)
-        )
-    );
+    for cell in UNSIGNED {
+        assert!(rt; is_read(&rt, true, cell));
+    }
 }
 
 /// Values of TIME columns, and the negative times that they mean.
 #[test]
 fn negative_old_times(rt: HostRuntime) {
     old_times_have_signs();
-    let time = ColumnType::MYSQL_TYPE_TIME;
+    let time = MYSQL_TYPE_TIME;
     // The bytes FF FF FF, 59 0A 80 and 00 00 80; the greatest number without a minus, and the first that three bytes don't hold.
     let cases = [
         ((69, 21, 72, 15), Some((0, 0, 0, 1))),
@@ -147,7 +131,7 @@ fn negative_old_times(rt: HostRuntime) {
         assert!(rt; signed_old_time(time, &value) == negative);
     }
     let value = Value::Time(false, 69, 21, 72, 15, 0);
-    assert!(rt; signed_old_time(ColumnType::MYSQL_TYPE_TIME2, &value).is_none());
+    assert!(rt; signed_old_time(MYSQL_TYPE_TIME2, &value).is_none());
     let value = Value::Time(true, 69, 21, 72, 15, 0);
     assert!(rt;
         all(&[
@@ -157,236 +141,237 @@ fn negative_old_times(rt: HostRuntime) {
     );
 }
 
-#[test]
-fn old_times(rt: HostRuntime) {
-    let time = ColumnType::MYSQL_TYPE_TIME;
-    let bytes = [0xe0, 0x93, 0x04];
-    assert!(rt;
-        is_value(
-            &rt,
-            time,
-            &[],
-            false,
-            &bytes,
-            Value::Time(false, 1, 6, 0, 0, 0)
-        )
-    );
-    let most = &[0xff, 0xff, 0xff];
-    assert!(rt;
-        is_value(
-            &rt,
-            time,
-            &[],
-            false,
-            most,
-            Value::Time(false, 69, 21, 72, 15, 0)
-        )
-    );
-    let date = ColumnType::MYSQL_TYPE_NEWDATE;
-    let bytes = [0x7b, 0xc7, 0x0f];
-    assert!(rt;
-        is_value(
-            &rt,
-            date,
-            &[],
-            false,
-            &bytes,
-            Value::Date(2019, 11, 27, 0, 0, 0, 0)
-        )
-    );
-    let timestamp = ColumnType::MYSQL_TYPE_TIMESTAMP;
-    let bytes = &[0xff, 0xff, 0xff, 0xff];
-    assert!(rt;
-        all(&[
-            is_value(&rt, timestamp, &[], false, bytes, Value::Int(4294967295)),
-            is_bytes(&rt, ColumnType::MYSQL_TYPE_YEAR, &[], &[0x77], b"2019"),
-            is_bytes(&rt, ColumnType::MYSQL_TYPE_YEAR, &[], &[0], b"1900"),
-        ])
-    );
-}
+/// Dates and times without fractions.
+const OLD_TIMES: [Cell; 9] = [
+    (
+        MYSQL_TYPE_TIME,
+        &[],
+        b"\xe0\x93\x04",
+        "Time(false, 1, 6, 0, 0, 0)",
+    ),
+    (
+        MYSQL_TYPE_TIME,
+        &[],
+        b"\xff\xff\xff",
+        "Time(false, 69, 21, 72, 15, 0)",
+    ),
+    (
+        MYSQL_TYPE_NEWDATE,
+        &[],
+        b"\x7b\xc7\x0f",
+        "Date(2019, 11, 27, 0, 0, 0, 0)",
+    ),
+    (
+        MYSQL_TYPE_TIMESTAMP,
+        &[],
+        b"\xff\xff\xff\xff",
+        "Int(4294967295)",
+    ),
+    (MYSQL_TYPE_YEAR, &[], b"\x77", "\"2019\""),
+    (MYSQL_TYPE_YEAR, &[], b"\0", "\"1900\""),
+    // The numbers 20191127123045 and 655360101000000.
+    (
+        MYSQL_TYPE_DATETIME,
+        &[],
+        b"\x65\xb4\xf5\x1c\x5d\x12\0\0",
+        "Date(2019, 11, 27, 12, 30, 45, 0)",
+    ),
+    (
+        MYSQL_TYPE_DATETIME,
+        &[],
+        b"\x40\x23\x05\xea\x0b\x54\x02\0",
+        "YearRange",
+    ),
+    (
+        MYSQL_TYPE_DATETIME,
+        &[],
+        b"\x40\x23\x05\xea\x0b\x54\x02",
+        "UnexpectedEof",
+    ),
+];
+
+/// Dates and times with fractions of so many digits.
+const TIMES: [Cell; 9] = [
+    (
+        MYSQL_TYPE_TIME2,
+        &[2],
+        b"\x7f\xff\xff\xf6",
+        "Time(true, 0, 0, 0, 0, 100000)",
+    ),
+    (
+        MYSQL_TYPE_TIME2,
+        &[4],
+        b"\x7f\xff\xff\xff\x9c",
+        "Time(true, 0, 0, 0, 0, 10000)",
+    ),
+    (
+        MYSQL_TYPE_TIME2,
+        &[6],
+        b"\x80\0\0\0\0\x01",
+        "Time(false, 0, 0, 0, 0, 1)",
+    ),
+    (
+        MYSQL_TYPE_TIME2,
+        &[0],
+        b"\x81\x90\0",
+        "Time(false, 1, 1, 0, 0, 0)",
+    ),
+    (
+        MYSQL_TYPE_DATETIME2,
+        &[0],
+        b"\x99\xa4\xb6\xc7\x80",
+        "Date(2019, 11, 27, 12, 30, 0, 0)",
+    ),
+    (MYSQL_TYPE_DATETIME2, &[2], b"\0\0\0\0\0\xff", "TimeRange"),
+    (
+        MYSQL_TYPE_TIMESTAMP2,
+        &[2],
+        b"\xff\xff\xff\xff\xff",
+        "\"-1.-10000\"",
+    ),
+    (MYSQL_TYPE_TIMESTAMP2, &[0], b"\0\0\0\x07", "\"7\""),
+    (
+        MYSQL_TYPE_TIMESTAMP2,
+        &[6],
+        b"\0\0\0\x07\0\0\x05",
+        "\"7.000005\"",
+    ),
+];
 
 #[test]
-fn old_datetimes(rt: HostRuntime) {
-    let datetime = ColumnType::MYSQL_TYPE_DATETIME;
-    let bytes = 20191127123045u64.to_le_bytes();
-    let value = Value::Date(2019, 11, 27, 12, 30, 45, 0);
-    assert!(rt; is_value(&rt, datetime, &[], false, &bytes, value));
-    let bytes = 655360101000000u64.to_le_bytes();
-    assert!(rt;
-        all(&[
-            is_refused(&rt, datetime, &[], &bytes, Fault::YearRange),
-            is_refused(&rt, datetime, &[], &bytes[..7], Fault::UnexpectedEof),
-        ])
-    );
+fn dates_and_times(rt: HostRuntime) {
+    for cell in OLD_TIMES {
+        assert!(rt; is_read(&rt, false, cell));
+    }
+    for cell in TIMES {
+        assert!(rt; is_read(&rt, false, cell));
+    }
 }
 
+/// Decimals by their precision and scale.
+const DECIMALS: [Cell; 5] = [
+    (MYSQL_TYPE_NEWDECIMAL, &[4, 2], b"\x7f\xff", "\"-0.00\""),
+    (
+        MYSQL_TYPE_NEWDECIMAL,
+        &[12, 0],
+        b"\x80\0\0\0\0\x07",
+        "\"7\"",
+    ),
+    (MYSQL_TYPE_NEWDECIMAL, &[4, 2], b"\xe4\0", "DecimalGroup"),
+    (MYSQL_TYPE_NEWDECIMAL, &[4, 2], b"\xe4", "UnexpectedEof"),
+    (MYSQL_TYPE_NEWDECIMAL, &[2, 4], b"", "DecimalScale"),
+];
+
+/// Bits, sets, enums and arrays.
+const BITS: [Cell; 9] = [
+    (MYSQL_TYPE_BIT, &[2, 1], b"\x03\xff", "\"\\x03\\xff\""),
+    (MYSQL_TYPE_SET, &[0xf8, 2], b"\x03\0", "\"\\x03\\0\""),
+    (MYSQL_TYPE_ENUM, &[0xf7, 1], b"\x02", "Int(2)"),
+    (MYSQL_TYPE_ENUM, &[0xf7, 2], b"\x02\x01", "Int(258)"),
+    (MYSQL_TYPE_ENUM, &[0xf7, 3], b"\x02\x01\0", "UnknownEnum"),
+    (MYSQL_TYPE_TYPED_ARRAY, &[3], b"\x2a\0\0\0", "Int(42)"),
+    (
+        MYSQL_TYPE_TYPED_ARRAY,
+        &[0x0f, 0x0a, 0, 0],
+        b"\x02\0ab",
+        "\"ab\"",
+    ),
+    (MYSQL_TYPE_TYPED_ARRAY, &[0x14], b"\x2a\0\0\0", "Unhandled"),
+    (MYSQL_TYPE_TYPED_ARRAY, &[244], b"\x2a\0\0\0", "Unhandled"),
+];
+
+/// Texts, whose length has two bytes where the greatest is above 255.
+const TEXTS: [Cell; 10] = [
+    (MYSQL_TYPE_VARCHAR, &[255, 0], b"\x02ab", "\"ab\""),
+    (MYSQL_TYPE_VARCHAR, &[0, 1], b"\x02\0ab", "\"ab\""),
+    (MYSQL_TYPE_VARCHAR, &[10, 0], b"\x02a", "UnexpectedEof"),
+    (MYSQL_TYPE_VAR_STRING, &[255, 0], b"\x02ab", "\"ab\""),
+    (MYSQL_TYPE_VAR_STRING, &[0, 1], b"\x02\0ab", "\"ab\""),
+    (MYSQL_TYPE_STRING, &[0xfe, 10], b"\x02ab", "\"ab\""),
+    (MYSQL_TYPE_STRING, &[0xee, 4], b"\x02\0ab", "\"ab\""),
+    (MYSQL_TYPE_STRING, &[0, 1], b"\x02\0ab", "\"ab\""),
+    (MYSQL_TYPE_STRING, &[0, 0], b"\x02ab", "\"ab\""),
+    (MYSQL_TYPE_STRING, &[0xfe, 10], b"\x02a", "UnexpectedEof"),
+];
+
 #[test]
-fn times_with_fractions(rt: HostRuntime) {
-    let times: [(&[u8], &[u8], bool, u32, u8, u32); 4] = [
-        (&[2], b"\x7f\xff\xff\xf6", true, 0, 0, 100_000),
-        (&[4], b"\x7f\xff\xff\xff\x9c", true, 0, 0, 10_000),
-        (&[6], b"\x80\0\0\0\0\x01", false, 0, 0, 1),
-        (&[0], b"\x81\x90\0", false, 1, 1, 0),
-    ];
-    for (decimals, bytes, negative, days, hours, micros) in times {
-        let value = Value::Time(negative, days, hours, 0, 0, micros);
+fn decimals_bits_and_texts(rt: HostRuntime) {
+    for cell in DECIMALS {
+        assert!(rt; is_read(&rt, false, cell));
+    }
+    for cell in BITS {
+        assert!(rt; is_read(&rt, false, cell));
+    }
+    for cell in TEXTS {
+        assert!(rt; is_read(&rt, false, cell));
+    }
+}
+
+const BLOBS: [ColumnType; 6] = [
+    MYSQL_TYPE_TINY_BLOB,
+    MYSQL_TYPE_MEDIUM_BLOB,
+    MYSQL_TYPE_LONG_BLOB,
+    MYSQL_TYPE_BLOB,
+    MYSQL_TYPE_GEOMETRY,
+    MYSQL_TYPE_VECTOR,
+];
+
+#[test]
+fn blobs(rt: HostRuntime) {
+    for blob in BLOBS {
         assert!(rt;
-            is_value(
-                &rt,
-                ColumnType::MYSQL_TYPE_TIME2,
-                decimals,
-                false,
-                bytes,
-                value
-            )
+            is_read(&rt, false, (blob, &[2], b"\x02\0\xff\0", "\"\\xff\\0\""))
+                && is_read(&rt, false, (blob, &[5], b"\x02\0", "UnknownBlob"))
+                && is_read(&rt, false, (blob, &[0], &[], "UnknownBlob"))
+                && is_read(&rt, false, (blob, &[], &[], "MissingMetadata"))
         );
     }
-    let datetime = ColumnType::MYSQL_TYPE_DATETIME2;
-    let bytes = &[0x99, 0xa4, 0xb6, 0xc7, 0x80];
-    let value = Value::Date(2019, 11, 27, 12, 30, 0, 0);
-    assert!(rt; is_value(&rt, datetime, &[0], false, bytes, value));
-    let low = &[0, 0, 0, 0, 0, 0xff];
-    assert!(rt; is_refused(&rt, datetime, &[2], low, Fault::TimeRange));
-    let timestamp = ColumnType::MYSQL_TYPE_TIMESTAMP2;
-    let ff = [0xff; 5];
-    assert!(rt;
-        all(&[
-            is_bytes(&rt, timestamp, &[2], &ff, b"-1.-10000"),
-            is_bytes(&rt, timestamp, &[0], &[0, 0, 0, 7], b"7"),
-            is_bytes(&rt, timestamp, &[6], &[0, 0, 0, 7, 0, 0, 5], b"7.000005"),
-        ])
-    );
 }
 
-#[test]
-fn decimals(rt: HostRuntime) {
-    let decimal = ColumnType::MYSQL_TYPE_NEWDECIMAL;
-    assert!(rt;
-        all(&[
-            is_bytes(&rt, decimal, &[4, 2], &[0x7f, 0xff], b"-0.00"),
-            is_bytes(&rt, decimal, &[12, 0], &[0x80, 0, 0, 0, 0, 7], b"7"),
-            is_refused(&rt, decimal, &[4, 2], &[0xe4, 0], Fault::DecimalGroup),
-            is_refused(&rt, decimal, &[4, 2], &[0xe4], Fault::UnexpectedEof),
-            is_refused(&rt, decimal, &[2, 4], &[], Fault::DecimalScale),
-        ])
-    );
-}
+/// Types whose metadata has one byte.
+const ONE_BYTE: [ColumnType; 4] = [
+    MYSQL_TYPE_TIMESTAMP2,
+    MYSQL_TYPE_DATETIME2,
+    MYSQL_TYPE_TIME2,
+    MYSQL_TYPE_TYPED_ARRAY,
+];
 
-#[test]
-fn bytes_by_their_metadata(rt: HostRuntime) {
-    let blobs = [
-        ColumnType::MYSQL_TYPE_TINY_BLOB,
-        ColumnType::MYSQL_TYPE_MEDIUM_BLOB,
-        ColumnType::MYSQL_TYPE_LONG_BLOB,
-        ColumnType::MYSQL_TYPE_BLOB,
-        ColumnType::MYSQL_TYPE_GEOMETRY,
-        ColumnType::MYSQL_TYPE_VECTOR,
-    ];
-    for blob in blobs {
-        assert!(rt; is_bytes(&rt, blob, &[2], &[2, 0, 0xff, 0], &[0xff, 0]));
-        assert!(rt; is_refused(&rt, blob, &[5], &[2, 0], Fault::UnknownBlob));
-        assert!(rt; is_refused(&rt, blob, &[0], &[], Fault::UnknownBlob));
-    }
-    let bit = ColumnType::MYSQL_TYPE_BIT;
-    assert!(rt; is_bytes(&rt, bit, &[2, 1], &[3, 0xff], &[3, 0xff]));
-    let set = ColumnType::MYSQL_TYPE_SET;
-    assert!(rt; is_bytes(&rt, set, &[0xf8, 2], &[3, 0], &[3, 0]));
-    let variant = ColumnType::MYSQL_TYPE_ENUM;
-    assert!(rt;
-        all(&[
-            is_value(&rt, variant, &[0xf7, 1], false, &[2], Value::Int(2)),
-            is_value(&rt, variant, &[0xf7, 2], false, &[2, 1], Value::Int(258)),
-            is_refused(&rt, variant, &[0xf7, 3], &[2, 1, 0], Fault::UnknownEnum),
-        ])
-    );
-}
-
-#[test]
-fn texts_by_their_metadata(rt: HostRuntime) {
-    let short = [2, 0x61, 0x62];
-    let long = &[2, 0, 0x61, 0x62];
-    for text in [
-        ColumnType::MYSQL_TYPE_VARCHAR,
-        ColumnType::MYSQL_TYPE_VAR_STRING,
-    ] {
-        assert!(rt; is_bytes(&rt, text, &[255, 0], &short, b"ab"));
-        assert!(rt; is_bytes(&rt, text, &[0, 1], long, b"ab"));
-    }
-    let text = ColumnType::MYSQL_TYPE_STRING;
-    assert!(rt;
-        all(&[
-            is_bytes(&rt, text, &[0xfe, 10], &short, b"ab"),
-            is_bytes(&rt, text, &[0xee, 4], long, b"ab"),
-            is_bytes(&rt, text, &[0, 1], long, b"ab"),
-            is_bytes(&rt, text, &[0, 0], &short, b"ab"),
-            is_refused(&rt, text, &[0xfe, 10], &short[..2], Fault::UnexpectedEof),
-            is_refused(
-                &rt,
-                ColumnType::MYSQL_TYPE_VARCHAR,
-                &[10, 0],
-                &short[..2],
-                Fault::UnexpectedEof
-            ),
-        ])
-    );
-}
-
-#[test]
-fn arrays(rt: HostRuntime) {
-    let array = ColumnType::MYSQL_TYPE_TYPED_ARRAY;
-    let bytes = &[0x2a, 0, 0, 0];
-    assert!(rt;
-        all(&[
-            is_value(&rt, array, &[3], false, bytes, Value::Int(42)),
-            is_bytes(&rt, array, &[0x0f, 0x0a, 0, 0], &[2, 0, 0x61, 0x62], b"ab"),
-            is_refused(&rt, array, &[0x14], bytes, Fault::Unhandled),
-            is_refused(&rt, array, &[244], bytes, Fault::Unhandled),
-        ])
-    );
-}
+/// Types whose metadata has two bytes.
+const TWO_BYTES: [ColumnType; 7] = [
+    MYSQL_TYPE_VARCHAR,
+    MYSQL_TYPE_VAR_STRING,
+    MYSQL_TYPE_STRING,
+    MYSQL_TYPE_ENUM,
+    MYSQL_TYPE_SET,
+    MYSQL_TYPE_BIT,
+    MYSQL_TYPE_NEWDECIMAL,
+];
 
 #[test]
 fn missing_metadata(rt: HostRuntime) {
-    let one = [
-        ColumnType::MYSQL_TYPE_TINY_BLOB,
-        ColumnType::MYSQL_TYPE_MEDIUM_BLOB,
-        ColumnType::MYSQL_TYPE_LONG_BLOB,
-        ColumnType::MYSQL_TYPE_BLOB,
-        ColumnType::MYSQL_TYPE_GEOMETRY,
-        ColumnType::MYSQL_TYPE_VECTOR,
-        ColumnType::MYSQL_TYPE_TIMESTAMP2,
-        ColumnType::MYSQL_TYPE_DATETIME2,
-        ColumnType::MYSQL_TYPE_TIME2,
-        ColumnType::MYSQL_TYPE_TYPED_ARRAY,
-    ];
-    for column_type in one {
-        assert!(rt; is_refused(&rt, column_type, &[], &[], Fault::MissingMetadata));
+    for column_type in ONE_BYTE {
+        assert!(rt; is_read(&rt, false, (column_type, &[], &[], "MissingMetadata")));
     }
-    let two = [
-        ColumnType::MYSQL_TYPE_VARCHAR,
-        ColumnType::MYSQL_TYPE_VAR_STRING,
-        ColumnType::MYSQL_TYPE_STRING,
-        ColumnType::MYSQL_TYPE_ENUM,
-        ColumnType::MYSQL_TYPE_SET,
-        ColumnType::MYSQL_TYPE_BIT,
-        ColumnType::MYSQL_TYPE_NEWDECIMAL,
-    ];
-    for column_type in two {
-        assert!(rt; is_refused(&rt, column_type, &[], &[], Fault::MissingMetadata));
-        assert!(rt; is_refused(&rt, column_type, &[1], &[], Fault::MissingMetadata));
+    for column_type in TWO_BYTES {
+        assert!(rt;
+            is_read(&rt, false, (column_type, &[], &[], "MissingMetadata"))
+                && is_read(&rt, false, (column_type, &[1], &[], "MissingMetadata"))
+        );
     }
 }
 
+/// Types whose cells aren't supported.
+const UNHANDLED: [ColumnType; 4] = [
+    MYSQL_TYPE_DECIMAL,
+    MYSQL_TYPE_NULL,
+    MYSQL_TYPE_DATE,
+    MYSQL_TYPE_UNKNOWN,
+];
+
 #[test]
 fn unhandled_types(rt: HostRuntime) {
-    let types = [
-        ColumnType::MYSQL_TYPE_DECIMAL,
-        ColumnType::MYSQL_TYPE_NULL,
-        ColumnType::MYSQL_TYPE_DATE,
-        ColumnType::MYSQL_TYPE_UNKNOWN,
-    ];
-    for column_type in types {
-        assert!(rt; is_refused(&rt, column_type, &[], &[], Fault::Unhandled));
+    for column_type in UNHANDLED {
+        assert!(rt; is_read(&rt, false, (column_type, &[], &[], "Unhandled")));
     }
 }
 

@@ -1,5 +1,6 @@
 //! Walks an event without a list of its pairs, as the example in README.md does.
 
+use super::all;
 use binlog_base::below::{ColumnFlags, ParseBuf, Value};
 use binlog_base::fault::Fault;
 use binlog_consts::consts::EventType;
@@ -7,10 +8,9 @@ use binlog_table::table_map::TableMapEvent;
 use binlog_values::jsonb::{JsonContainer, JsonDom, JsonScalar, Value as Json};
 use bitflags::Flags;
 use mysql_binlog_rows::row::BinlogRow;
-use mysql_binlog_rows::rows_event::{RowsEvent, RowsEventCtx, RowsEventRows};
+use mysql_binlog_rows::rows_event::{RowPair, RowsEvent, RowsEventCtx, RowsEventRows};
 use mysql_binlog_rows::value::BinlogValue;
 use std::alloc::Global;
-use std::test::Fail;
 
 /// The table t, of an INT `id`, its primary key, and a JSON `doc`.
 const TABLE: &[u8] = b"\x01\0\0\0\0\0\x01\0\x01d\0\x01t\0\x02\x03\xf5\x01\x04\x02\
@@ -59,20 +59,28 @@ fn add(alloc: Global, lines: &mut String, row: &BinlogRow) -> Result<(), Fault> 
     Ok(())
 }
 
+/// Adds the lines of the row after a change.
+fn add_after(alloc: Global, lines: &mut String, pair: &RowPair) -> Result<(), Fault> {
+    match &pair.1 {
+        Some(row) => add(alloc, lines, row),
+        None => Ok(()),
+    }
+}
+
 /// The lines of the rows after the changes.
 fn lines_of(alloc: Global, rows: RowsEventRows<'_>) -> Result<String, Fault> {
     let mut lines = String::new(alloc);
     for pair in rows {
-        let (_, after) = pair?;
-        if let Some(row) = after {
-            add(alloc, &mut lines, &row)?;
-        }
+        add_after(alloc, &mut lines, &pair?)?;
     }
     Ok(lines)
 }
 
-/// The lines of the rows that were inserted into a table.
+/// The lines of the rows that were inserted into the table `t`; none for another table.
 fn inserted(alloc: Global, table: &TableMapEvent<'_>, rows: &[u8]) -> Result<String, Fault> {
+    if table.table_name_raw() != b"t".as_slice() {
+        return Ok(String::new(alloc));
+    }
     let event: RowsEvent<'_> = ParseBuf(rows).parse(RowsEventCtx {
         event_type: EventType::WRITE_ROWS_EVENT,
         post_header_len: 10,
@@ -81,19 +89,24 @@ fn inserted(alloc: Global, table: &TableMapEvent<'_>, rows: &[u8]) -> Result<Str
     lines_of(alloc, event.rows(alloc, table))
 }
 
-/// The lines of the rows that were inserted into the table `t`; none for another table.
+/// The lines of the rows for the bytes of a table map event.
 fn filter(alloc: Global, table: &[u8], rows: &[u8]) -> Result<String, Fault> {
     let table: TableMapEvent<'_> = ParseBuf(table).parse(8)?;
-    if table.table_name_raw() != b"t".as_slice() {
-        return Ok(String::new(alloc));
-    }
     inserted(alloc, &table, rows)
 }
 
+/// Whether these are the lines of the rows.
+fn has_lines(alloc: Global, table: &[u8], text: &str) -> Result<bool, Fault> {
+    Ok(filter(alloc, table, ROWS)?.as_str() == text)
+}
+
 #[test]
-fn keys_and_names(rt: HostRuntime) -> Result<(), Fail> {
-    assert!(rt; filter(rt.alloc(), TABLE, ROWS)?.as_str() == "Int(42)\nab\nInt(43)\n");
-    assert!(rt; filter(rt.alloc(), OTHER, ROWS)?.is_empty());
-    assert!(rt; filter(rt.alloc(), TABLE, &ROWS[..20]).is_err());
-    Ok(())
+fn keys_and_names(rt: HostRuntime) {
+    assert!(rt;
+        all(&[
+            has_lines(rt.alloc(), TABLE, "Int(42)\nab\nInt(43)\n") == Ok(true),
+            has_lines(rt.alloc(), OTHER, "") == Ok(true),
+            filter(rt.alloc(), TABLE, &ROWS[..20]).is_err(),
+        ])
+    );
 }

@@ -60,7 +60,8 @@ impl<T: ReadOnce> Source for Counted<T> {
 
     fn read_some(&mut self, buf: &mut [u8]) -> Result<usize, Failed>
         ensures bound { ReadsAtMost result buf.new }
-        ensures bytes { ReadConsumes (T.remaining self.old.inner) (T.remaining self.new.inner) result buf.new }
+        ensures bytes { ReadConsumes (T.remaining self.old.inner) (T.remaining self.new.inner)
+            result buf.new }
         ensures counts { Counts result self.old.failures self.new.failures }
         // The result is that of one read of the inner reader.
         ensures read { IsOfRead result (λ r. T.reads self.old.inner buf.old r buf.new self.new.inner) }
@@ -80,7 +81,8 @@ impl<T: WriteOnce> Sink for Counted<T> {
     fn write_some(&mut self, buf: &[u8]) -> Result<usize, Failed>
         ensures bound { WritesAtMost result buf.now }
         ensures some { IfOk result (λ n. 0 < length buf.now → 0 < n) }
-        ensures bytes { WriteAppends (T.contents self.old.inner) (T.contents self.new.inner) result buf.now }
+        ensures bytes { WriteAppends (T.contents self.old.inner) (T.contents self.new.inner)
+            result buf.now }
         ensures counts { Counts result self.old.failures self.new.failures }
         // The result is that of one write of the inner writer.
         ensures written { 0 < length buf.now → IsOfWrite result

@@ -50,7 +50,8 @@ pub trait WriteOnce: Write {
 }
 
 impl<T: Read> ReadOnce for T {
-    ghost reads = { λ old _ result new left. ReadsAtMost result new × ReadConsumes (T.remaining old) (T.remaining left) result new };
+    ghost reads = { λ old _ result new left. ReadsAtMost result new
+        × ReadConsumes (T.remaining old) (T.remaining left) result new };
 
     fn read_once(&mut self, buf: &mut [u8]) -> io::Result<usize> {
         self.read(buf)
@@ -58,7 +59,8 @@ impl<T: Read> ReadOnce for T {
 }
 
 impl<T: Write> WriteOnce for T {
-    ghost writes = { λ old bytes result new. WritesAtMost result bytes × WriteAppends (T.contents old) (T.contents new) result bytes };
+    ghost writes = { λ old bytes result new. WritesAtMost result bytes
+        × WriteAppends (T.contents old) (T.contents new) result bytes };
 
     ghost flushes = { λ old _ new. Keeps (T.contents old) (T.contents new) };
 

@@ -57,7 +57,8 @@ pub trait BytesRepr {
     ghost exact: { (ctx : Self.Ctx) → Exact to_end (format ctx) };
 
     /// The bytes that are written for a string spell it, in some context.
-    ghost spelled: { (text : List ℕ) → length text ≤ MAX_LEN → (ctx : Self.Ctx) × (format ctx).spells (spelling text) text };
+    ghost spelled: { (text : List ℕ) → length text ≤ MAX_LEN
+        → (ctx : Self.Ctx) × (format ctx).spells (spelling text) text };
 }
 
 /// A byte string of the kind `T`, borrowed or owned. Contracts see it as the list of its bytes.

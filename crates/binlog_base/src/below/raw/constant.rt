@@ -58,7 +58,8 @@ impl<'de, T: Constant, U: IntRepr<Primitive = T::Number>> MyDeserialize<'de> for
 
     ghost format = { λ _. sequence U.format (λ n. check (T.constant_of n)) };
 
-    ghost exact = { λ _. exact_sequence U.format _ U.exact (λ n. exact_check (T.constant_of n) (T.of_bytes n)) };
+    ghost exact = { λ _. exact_sequence U.format _ U.exact
+        (λ n. exact_check (T.constant_of n) (T.of_bytes n)) };
 
     const SIZE: Option<usize> = U::SIZE;
 

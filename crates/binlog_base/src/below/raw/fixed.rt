@@ -55,7 +55,8 @@ impl<O: ByteOrder, P: Holds<W>, const W: usize> IntRepr for Fixed<O, P, W> {
 
     ghost width = { fixed_width O.number_of P.Integer.coding.value W };
 
-    ghost spelled = { fixed_written P.Integer.coding O.number_of O.bytes_of O.reads_back O.length_bytes W P.room };
+    ghost spelled = { fixed_written P.Integer.coding O.number_of O.bytes_of
+        O.reads_back O.length_bytes W P.room };
 
     const SIZE: Option<usize> = Some(W);
 
@@ -146,7 +147,9 @@ impl IntRepr for u8 {
 
     ghost width = { fixed_width little_number plain_number 1 };
 
-    ghost spelled = { fixed_written (unsigned_coding 1 (lit≤ tt)) little_number little_bytes little_number-reads_back (λ n x. length-bytes_low_first 0 n x) 1 (record { some = lit≤ tt; most = lit≤ tt }) };
+    ghost spelled = { fixed_written (unsigned_coding 1 (lit≤ tt)) little_number little_bytes
+        little_number-reads_back (λ n x. length-bytes_low_first 0 n x) 1
+        (record { some = lit≤ tt; most = lit≤ tt }) };
 
     const SIZE: Option<usize> = Some(1);
 
@@ -175,7 +178,9 @@ impl IntRepr for i8 {
 
     ghost width = { fixed_width little_number twos_complement 1 };
 
-    ghost spelled = { fixed_written (signed_coding 1 (lit≤ tt)) little_number little_bytes little_number-reads_back (λ n x. length-bytes_low_first 0 n x) 1 (record { some = lit≤ tt; most = lit≤ tt }) };
+    ghost spelled = { fixed_written (signed_coding 1 (lit≤ tt)) little_number little_bytes
+        little_number-reads_back (λ n x. length-bytes_low_first 0 n x) 1
+        (record { some = lit≤ tt; most = lit≤ tt }) };
 
     const SIZE: Option<usize> = Some(1);
 

@@ -59,7 +59,8 @@ impl<'a> TableMapEvent<'a> {
     #[tactic(auto, using(binlog_base::proofs::Appending::appending))]
     fn write_metadata(&self, buf: &mut Vec<u8>) -> Result<(), AllocError>
         ensures { Appends result buf.old.items buf.new.items
-            (lenenc_string_bytes self.now.metadata ++ (self.now.null_bits ++ self.now.optional_metadata)) }
+            (lenenc_string_bytes self.now.metadata
+            ++ (self.now.null_bits ++ self.now.optional_metadata)) }
     {
         write_string(&self.columns_metadata, buf)?;
         write_bytes(self.null_bitmask.as_bytes(), buf)?;

@@ -246,7 +246,8 @@ impl<'a> IterCharset<'a> {
         ensures now { result ≡ charset_of self.old self.old.ordinal }
         ensures next { OnOk result (self.new.ordinal ≡ self.old.ordinal + 1) }
         ensures most { self.new.ordinal ≤ self.old.ordinal + 1 }
-        ensures later { OnOk result (Agree (self.old.ordinal + 1) (charset_of self.old) (charset_of self.new)) }
+        ensures later { OnOk result
+            (Agree (self.old.ordinal + 1) (charset_of self.old) (charset_of self.new)) }
         ensures spends { Spends self.old.taken self.old.room self.new.taken self.new.room }
     {
         match self.head {

@@ -64,7 +64,8 @@ struct Walk<'a> {
 
 // The real type of a column by its raw type and its chunk.
 fn type_of(raw: u8, chunk: Option<&[u8]>) -> Result<ColumnType, Fault>
-    ensures { result ≡ typed (real_type_of (raw_type_of (Some raw)) (option_map (λ c. c.now) chunk.entry)) }
+    ensures { result ≡ typed
+        (real_type_of (raw_type_of (Some raw)) (option_map (λ c. c.now) chunk.entry)) }
 {
     let raw_type = ColumnType::try_from(raw)?;
     Ok(real_type(raw_type, chunk)?)
@@ -86,8 +87,10 @@ fn next_sign(raw: u8, signs: &mut BitIter<'_>) -> bool
 #[tactic(auto, using(crate::proofs::ColumnWalk::named_later, crate::proofs::ColumnWalk::named_none))]
 fn next_name<'a>(names: &mut IterNames<'a>) -> Result<Option<ColumnName<'a>>, Fault>
     ensures now { result ≡ named (items lenenc_string names.old.bytes) 0 }
-    ensures later { (j : ℕ) → named (items lenenc_string names.new.bytes) j ≡ named (items lenenc_string names.old.bytes) (suc j) }
-    ensures spends { Spends names.old.taken (length names.old.bytes) names.new.taken (length names.new.bytes) }
+    ensures later { (j : ℕ) → named (items lenenc_string names.new.bytes) j
+        ≡ named (items lenenc_string names.old.bytes) (suc j) }
+    ensures spends { Spends names.old.taken (length names.old.bytes)
+        names.new.taken (length names.new.bytes) }
 {
     match names.take_item() {
         None => Ok(None),
@@ -104,12 +107,16 @@ fn next_charset(
 ) -> Result<u16, Fault>
     requires characters_left { characters.old.ordinal + 1 < 2 ^ 64 }
     requires enums_left { enums.old.ordinal + 1 < 2 ^ 64 }
-    ensures now { result ≡ charset_here column_type (row_charset characters.old 0) (row_charset enums.old 0) }
-    ensures characters { OnOk result (Advances (is_character column_type) (row_charset characters.old) (row_charset characters.new)) }
-    ensures enums { OnOk result (Advances (is_enum_or_set column_type) (row_charset enums.old) (row_charset enums.new)) }
+    ensures now { result
+        ≡ charset_here column_type (row_charset characters.old 0) (row_charset enums.old 0) }
+    ensures characters { OnOk result (Advances (is_character column_type)
+        (row_charset characters.old) (row_charset characters.new)) }
+    ensures enums { OnOk result (Advances (is_enum_or_set column_type)
+        (row_charset enums.old) (row_charset enums.new)) }
     ensures characters_most { characters.new.ordinal ≤ characters.old.ordinal + 1 }
     ensures enums_most { enums.new.ordinal ≤ enums.old.ordinal + 1 }
-    ensures characters_spent { Spends characters.old.taken characters.old.room characters.new.taken characters.new.room }
+    ensures characters_spent { Spends characters.old.taken characters.old.room
+        characters.new.taken characters.new.room }
     ensures enums_spent { Spends enums.old.taken enums.old.room enums.new.taken enums.new.room }
 {
     if column_type.is_character_type() {
@@ -272,7 +279,8 @@ impl<'a> TableColumns<'a> {
     /// Takes the next column, or its fault. This is `next`, with the count of the steps.
     #[tactic(auto, using(crate::proofs::ColumnWalk::walk_next, crate::proofs::ColumnWalk::walk_fault, crate::proofs::ColumnWalk::walk_end))]
     pub fn take_column(&mut self) -> Option<Result<TableColumn<'a>, Fault>>
-        ensures gives { YieldsFirstBy (λ r. result_map seen_column r) (λ s. s.columns) self.old result self.new }
+        ensures gives { YieldsFirstBy (λ r. result_map seen_column r) (λ s. s.columns)
+            self.old result self.new }
         ensures fault { self.new.fault ≡ self.old.fault }
         ensures steps { self.old.steps + count_of result ≤ self.new.steps }
         ensures most { self.new.most ≤ self.old.most + count_of result }

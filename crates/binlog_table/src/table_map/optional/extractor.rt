@@ -203,7 +203,8 @@ fn group_of<'a>(
     list: &Option<ColumnCharsets<'a>>,
 ) -> IterCharset<'a>
     ensures start { IsStart default.now list.now result }
-    ensures spends { Spends 0 (length (pair_bytes default.now) + length (list_or list.now)) result.taken result.room }
+    ensures spends { Spends 0 (length (pair_bytes default.now) + length (list_or list.now))
+        result.taken result.room }
 {
     let list = list_or_empty(list);
     match default {

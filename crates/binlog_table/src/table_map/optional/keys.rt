@@ -117,7 +117,8 @@ impl<'a> Model for IterPrimaryKey<'a> {
       room = length k.simple.bytes + length k.prefixed.bytes;
     } };
 
-    ghost invariant = { λ k. IsHeadFirst k.head (items lenenc k.simple.bytes) (items (pair_with lenenc) k.prefixed.bytes) };
+    ghost invariant = { λ k. IsHeadFirst k.head
+        (items lenenc k.simple.bytes) (items (pair_with lenenc) k.prefixed.bytes) };
 }
 
 // Takes the first item of two lists, of the second one where the first is at its end.

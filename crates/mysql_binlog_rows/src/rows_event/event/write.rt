@@ -92,7 +92,8 @@ impl<'a> RowsEvent<'a> {
     #[tactic(auto, using(binlog_base::proofs::Appending::appending))]
     fn write_parts(&self, buf: &mut Vec<u8>) -> Result<(), AllocError>
         ensures { Appends result buf.old.items buf.new.items
-            (extra_data_bytes (writes_extra_data self.now.event_type) self.now.extra_data ++ columns_bytes self.now) }
+            (extra_data_bytes (writes_extra_data self.now.event_type) self.now.extra_data
+            ++ columns_bytes self.now) }
     {
         let is_written = writes_extra_data(self.event_type);
         write_extra_data(is_written, &self.extra_data, buf)?;
@@ -112,7 +113,8 @@ impl<'a> RowsEvent<'a> {
     // Writes the bitmap of the image after the change, and the rows data.
     #[tactic(auto, using(binlog_base::proofs::Appending::appending))]
     fn write_after(&self, buf: &mut Vec<u8>) -> Result<(), AllocError>
-        ensures { Appends result buf.old.items buf.new.items (bitmap_bytes self.now.after ++ self.now.rows_data) }
+        ensures { Appends result buf.old.items buf.new.items
+            (bitmap_bytes self.now.after ++ self.now.rows_data) }
     {
         write_bitmap(&self.columns_after_image, buf)?;
         write_bytes(self.rows_data.as_bytes(), buf)

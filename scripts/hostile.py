@@ -38,7 +38,7 @@ PAIR = re.compile(IMAGE + b" -> " + IMAGE)
 FAULT = re.compile(
     rb"fault (?:UnexpectedEof|BadLenEnc|BytesRemaining|Unhandled|BadVarLen|NoColumnType|MissingMetadata|UnknownEnum|UnknownBlob|DecimalScale"
     rb"|DecimalGroup|TimeRange|YearRange|EmptyPair|Jsonb\([A-Za-z]+\)"
-    rb"|(?:UnknownOptionalField|UnknownJsonbType|UnknownLiteralType|UnknownJsonDiffOperation|UnknownColumnType|UnexpectedColumnType)\([0-9]+\))"
+    rb"|(?:UnknownJsonbType|UnknownLiteralType|UnknownJsonDiffOperation|UnknownColumnType|UnexpectedColumnType)\([0-9]+\))"
 )
 
 # The types of rows events: writes, updates, deletes, and the partial update.
@@ -276,6 +276,10 @@ MAKERS += [texts(15), texts(253), string, variant(ENUM, 2), variant(SET, 8), bit
 MAKERS += [blob(kind) for kind in (249, 250, 251, 252, 255, 242)] + [with_fraction(17, 4), with_fraction(18, 5), with_fraction(19, 3)]
 
 
+# Kinds of optional fields that no server writes today. A whole field of one is skipped.
+UNKNOWN_FIELDS = [0, 14, 255]
+
+
 def field(kind, value):
     return bytes([kind]) + lenenc(len(value)) + value
 
@@ -297,7 +301,7 @@ def charsets(r, default, listed, count):
 
 
 def optional_metadata(r, columns):
-    """Optional metadata for these columns: each field there or not, in any order."""
+    """Optional metadata for these columns: each field there or not, those of unknown kinds among them, in any order."""
     kinds = [column[0] for column in columns]
     real = [metadata[0] if kind == STRING and metadata[0] in (ENUM, SET) else kind for kind, metadata, _ in columns]
     names = b"".join(with_length(bytes(r.choices(b"abcxyz_ 19\xc3\xa9", k=r.randint(0, 9))), 1) for _ in columns)
@@ -313,6 +317,7 @@ def optional_metadata(r, columns):
         field(12, bits([r.random() < 0.9 for _ in columns], last_first=True)),
         field(13, numbers(r.choice([2, 2048]) for kind in real if kind == 242)),
     ]
+    fields += [field(kind, text(r, 9)) for kind in UNKNOWN_FIELDS]
     fields += charsets(r, 2, 3, sum(kind in (15, 252, 253, STRING) for kind in real))
     fields += charsets(r, 10, 11, sum(kind in (ENUM, SET) for kind in real))
     chosen = [value for value in fields if r.random() < 0.5]

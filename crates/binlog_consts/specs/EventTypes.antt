@@ -1,5 +1,4 @@
--- The numbers of event types. The number 0x29 is no event type here, and no event has the number of
--- the end mark.
+-- The numbers of event types. No event has the number of the end mark.
 use Rattle.std.specs.Prelude.{ℕ, List, [], ◌∷◌}
 use Rattle.binlog_consts.specs.declared.consts.event_type.EventType.{EventType}
 use Rattle.binlog_consts.specs.declared.consts.event_type.EventType.TheVariants as event
@@ -47,5 +46,6 @@ event_types =
     ∷ (0x26, event.XA_PREPARE_LOG_EVENT)
     ∷ (0x27, event.PARTIAL_UPDATE_ROWS_EVENT)
     ∷ (0x28, event.TRANSACTION_PAYLOAD_EVENT)
+    ∷ (0x29, event.HEARTBEAT_LOG_EVENT_V2)
     ∷ (0x2A, event.GTID_TAGGED_LOG_EVENT)
     ∷ []

@@ -1,5 +1,6 @@
 -- How many items the fields that are kept can hold.
-use Rattle.std.proofs.Common.{◌≡◌, ℕ, ◌+◌, ◌≤◌, List, [], ◌∷◌, length, map, Option, Some, None, Result, Ok, Err, refl, sym, ap, subst, arith}
+use Rattle.std.specs.Prelude.{filter, if◌then◌else◌}
+use Rattle.std.proofs.Common.{◌≡◌, ℕ, ◌+◌, ◌≤◌, Bool, true, false, List, [], ◌∷◌, length, map, Option, Some, None, Result, Ok, Err, refl, sym, ap, subst, arith}
 use Rattle.std.proofs.lemmas.List.{length-append}
 use Rattle.binlog_base.specs.declared.fault.Fault.{Fault}
 use Rattle.binlog_base.specs.Format.{◌>>=◌, take_bytes}
@@ -14,7 +15,7 @@ use Rattle.binlog_table.specs.declared.table_map.optional.fields.OptionalMetadat
 use Rattle.binlog_table.specs.declared.table_map.optional.fields.OptionalMetadataField.TheVariants as field
 use Rattle.binlog_table.specs.Lists.{DefaultCharset, default_charset, RawField, raw_field, low_bits, FieldsLeft}
 use Rattle.binlog_table.specs.Lemmas.Lists.{eats_low_bits}
-use Rattle.binlog_table.specs.Fields.{bits_for, default_charset_in, value_of, field_of, fields, or_else, last_of, default_in, charsets_in, names_in, simple_in, prefixed_in, enum_default_in, enum_charsets_in, kept}
+use Rattle.binlog_table.specs.Fields.{bits_for, default_charset_in, value_of, field_of, is_item, fields, or_else, last_of, default_in, charsets_in, names_in, simple_in, prefixed_in, enum_default_in, enum_charsets_in, kept}
 use Rattle.binlog_table.specs.Extracted.{list_or, pair_bytes, kept_bytes}
 
 -- the bytes of a field's list
@@ -78,6 +79,17 @@ all_fields n c [] = omega arith
 all_fields n c (Err e ∷ raw) = omega (arith, all_fields n c raw)
 all_fields n c (Ok r ∷ raw) = one_field (field_of n c r) _ (length r.value) _ (of_bytes n c r) (all_fields n c raw)
 
+-- fewer items weigh no more
+fewer : {A : Type 0} (w : A → ℕ) (b : Bool) (x : Result A Fault) (kept xs : List (Result A Fault)) → weigh w kept ≤ weigh w xs → weigh w (if b then x ∷ kept else kept) ≤ weigh w (x ∷ xs)
+fewer w true (Ok a) kept xs le = omega (arith, le)
+fewer w true (Err e) kept xs le = omega (arith, le)
+fewer w false (Ok a) kept xs le = omega (arith, le)
+fewer w false (Err e) kept xs le = omega (arith, le)
+
+filter_weigh : {A : Type 0} (w : A → ℕ) (test : Result A Fault → Bool) (xs : List (Result A Fault)) → weigh w (filter test xs) ≤ weigh w xs
+filter_weigh w test [] = omega arith
+filter_weigh w test (x ∷ xs) = fewer w (test x) x (filter test xs) xs (filter_weigh w test xs)
+
 or_list : (a b : Option (List ℕ)) → length (list_or (or_else a b)) ≤ length (list_or a) + length (list_or b)
 or_list None b = omega arith
 or_list (Some x) b = omega arith
@@ -122,4 +134,5 @@ kept_all (Ok f ∷ fs) = omega (arith, kept_all fs, kept_one f (before_fault fs)
 
 pub fields_bound : (f : FieldsLeft) → length (fields f) + kept_bytes (kept (before_fault (fields f))) ≤ length f.left.bytes
 fields_bound f =
-    omega (arith, kept_all (fields f), all_fields f.numeric f.columns (items raw_field f.left.bytes), items_weigh raw_field (λ r. length r.value) raw_bytes f.left.bytes)
+    let raw = items raw_field f.left.bytes in
+    omega (arith, kept_all (fields f), all_fields f.numeric f.columns (filter is_item raw), filter_weigh (λ r. length r.value) is_item raw, items_weigh raw_field (λ r. length r.value) raw_bytes f.left.bytes)

@@ -1,5 +1,6 @@
 -- Optional metadata: its fields, and which of them are kept.
-use Rattle.std.specs.Prelude.{◌≡◌, ℕ, Bool, false, List, [], ◌∷◌, map, count_by, Result, Ok, Err, Option, Some, None}
+use Rattle.std.specs.Prelude.{◌≡◌, ℕ, ◌==◌, Bool, true, false, List, [], ◌∷◌, map, filter, count_by, Result, Ok, Err, Option, Some, None}
+use Rattle.std.specs.List.{list_any}
 use Rattle.binlog_base.specs.declared.fault.Fault.{Fault}
 use Rattle.binlog_base.specs.declared.fault.Fault.TheVariants.{BytesRemaining, UnknownOptionalField}
 use Rattle.binlog_base.specs.declared.below.columns.column_type.ColumnType.{ColumnType}
@@ -50,15 +51,24 @@ value_of numeric columns kind.VECTOR_DIMENSIONALITY value = Ok (field.Dimensiona
 unfoldable pub field_of : ℕ → ℕ → RawField → Result OptionalMetadataField Fault
 field_of numeric columns raw = from_table optional_metadata_field_types UnknownOptionalField raw.kind >>= λ k. value_of numeric columns k raw.value
 
--- The fields and faults, in order. A field that is cut is the last item; a field of an unknown
--- kind,
--- or with a faulty value, is a fault in its place.
+-- whether a kind is known: the table of kinds has its number
+unfoldable pub is_known_kind : ℕ → Bool
+is_known_kind kind = list_any (λ row. kind == row.0) optional_metadata_field_types
+
+-- Whether a raw field is an item: a whole field is one where its kind is known, whatever its value.
+-- The fault of a field that is cut, or has a bad length, is an item, whatever the field's kind.
+abbrev pub is_item : Result RawField Fault → Bool
+is_item (Ok raw) = is_known_kind raw.kind
+is_item (Err e) = true
+
+-- The fields and faults, in order. A whole field of an unknown kind is skipped. A field that is cut
+-- is the last item; a field of a known kind with a faulty value is a fault in its place.
 abbrev pub fields : FieldsLeft → List (Result OptionalMetadataField Fault)
-fields f = map (λ r. r >>= field_of f.numeric f.columns) (items raw_field f.left.bytes)
+fields f = map (λ r. r >>= field_of f.numeric f.columns) (filter is_item (items raw_field f.left.bytes))
 
 -- these are the fields and faults that the bytes hold
 abbrev pub AreFields : FieldsLeft → List (Result OptionalMetadataField Fault) → Type 0
-AreFields f found = (raw : List (Result RawField Fault)) × AreItems raw_field f.left.bytes raw × (found ≡ map (λ r. r >>= field_of f.numeric f.columns) raw)
+AreFields f found = (raw : List (Result RawField Fault)) × AreItems raw_field f.left.bytes raw × (found ≡ map (λ r. r >>= field_of f.numeric f.columns) (filter is_item raw))
 
 -- ---- the fields that are kept
 

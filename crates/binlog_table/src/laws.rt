@@ -1,13 +1,13 @@
 //! Proved facts about table map events and optional metadata, each written as the contract of a
 //! function that does nothing.
 
-ghost use Rattle.std.specs.Prelude.{◌≡◌, ◌≢◌, ℕ, List, [], Option, Some, Result, Ok, slice_get};
+ghost use Rattle.std.specs.Prelude.{◌≡◌, ◌≢◌, ℕ, false, List, [], ◌++◌, Option, Some, Result, Ok, slice_get};
 ghost use Rattle.std.specs.Option.{option_map};
 ghost use Rattle.binlog_base.specs.declared.fault.Fault.{Fault};
 ghost use Rattle.binlog_base.specs.Items.{items, AreItems};
 ghost use Rattle.binlog_table.specs.declared.table_map.optional.fields.OptionalMetadataField.{OptionalMetadataField};
-ghost use Rattle.binlog_table.specs.Lists.{DefaultCharset, FieldsLeft, low_bits};
-ghost use Rattle.binlog_table.specs.Fields.{AreFields, fields};
+ghost use Rattle.binlog_table.specs.Lists.{DefaultCharset, FieldsLeft, RawField, raw_field, low_bits};
+ghost use Rattle.binlog_table.specs.Fields.{AreFields, fields, is_known_kind};
 ghost use Rattle.binlog_table.specs.Keys.{IsLongestIncreasing, increasing_prefix, key_at};
 ghost use Rattle.binlog_table.specs.KeysLeft.{key_from};
 ghost use Rattle.binlog_table.specs.Charsets.{charset_items};
@@ -43,6 +43,14 @@ pub fn fields_are_exact()
     ensures are { (f : FieldsLeft) → AreFields f (fields f) }
     ensures only { (f : FieldsLeft) (found : List (Result OptionalMetadataField Fault))
         → AreFields f found → found ≡ fields f }
+{}
+
+/// A whole field of an unknown kind makes no difference, whatever its value: the fields and faults are
+/// those of the bytes after it.
+pub fn unknown_fields_are_skipped()
+    ensures { (f : FieldsLeft) (x rest : List ℕ) (raw : RawField) → raw_field.spells x raw
+        → is_known_kind raw.kind ≡ false → f.left.bytes ≡ x ++ rest
+        → fields f ≡ fields (record f { left = record { bytes = rest; taken = f.left.taken } }) }
 {}
 
 /// `increasing_prefix` is the longest strictly increasing prefix of a list of numbers.

@@ -94,6 +94,8 @@ pub enum EventType {
     PARTIAL_UPDATE_ROWS_EVENT = 0x27,
     /// The events of a transaction, which may be compressed.
     TRANSACTION_PAYLOAD_EVENT = 0x28,
+    /// A `HEARTBEAT_EVENT` whose place in the log may be past 4 GiB.
+    HEARTBEAT_LOG_EVENT_V2 = 0x29,
     /// A `GTID_EVENT` whose identifier may have a tag, from MySQL 8.4 on.
     GTID_TAGGED_LOG_EVENT = 0x2A,
     /// The mark after the last event type. No event has its number, and `try_from` refuses it.
@@ -153,6 +155,7 @@ impl TryFrom<u8> for EventType {
             0x26 => Ok(EventType::XA_PREPARE_LOG_EVENT),
             0x27 => Ok(EventType::PARTIAL_UPDATE_ROWS_EVENT),
             0x28 => Ok(EventType::TRANSACTION_PAYLOAD_EVENT),
+            0x29 => Ok(EventType::HEARTBEAT_LOG_EVENT_V2),
             0x2A => Ok(EventType::GTID_TAGGED_LOG_EVENT),
             _ => Err(UnknownEventType(number)),
         }

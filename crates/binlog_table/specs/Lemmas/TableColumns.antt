@@ -1,6 +1,6 @@
 -- The faults of columns and of optional metadata are those that bytes can have; and a table has no
 -- column after its last one.
-use Rattle.std.specs.Prelude.{ℕ, zero, suc, ◌-◌, ◌≤◌, ◌==◌, nat_lt, Bool, true, false, List, [], ◌∷◌, ◌++◌, length, map, Option, Some, None, Result, Ok, Err, ⊤, if◌then◌else◌}
+use Rattle.std.specs.Prelude.{ℕ, zero, suc, ◌-◌, ◌≤◌, ◌==◌, nat_lt, Bool, true, false, List, [], ◌∷◌, ◌++◌, length, map, filter, Option, Some, None, Result, Ok, Err, ⊤, if◌then◌else◌}
 use Rattle.std.proofs.Common.{◌≡◌, refl, sym, subst}
 use Rattle.std.proofs.lemmas.Option.{slice_get_past}
 use Rattle.binlog_base.specs.declared.bits.BitOrder.TheVariants.{MostSignificantFirst}
@@ -28,7 +28,7 @@ use Rattle.binlog_table.specs.TableMap.{TableMap}
 use Rattle.binlog_table.specs.ColumnTypes.{column_type_at}
 use Rattle.binlog_table.specs.Lists.{DefaultCharset, RawField, raw_field, default_charset, low_bits, pair_with}
 use Rattle.binlog_table.specs.Lemmas.Lists.{exact_low_bits, eats_low_bits, exact_pair_with, eats_pair_with, exact_raw_field, eats_raw_field, exact_default_charset}
-use Rattle.binlog_table.specs.Fields.{whole, bits_for, default_charset_in, value_of, field_of}
+use Rattle.binlog_table.specs.Fields.{whole, bits_for, default_charset_in, value_of, field_of, is_item}
 use Rattle.binlog_table.specs.Keys.{unless, key_items, key_at as key_in}
 use Rattle.binlog_table.specs.Charsets.{pairs_from, above_from, charset_in as pair_at, listed, after, or_else, charset_above, charset_at as charset_in, zero_without}
 use Rattle.binlog_table.specs.Extracted.{list_or, pairs_or, kept_of, field_fault}
@@ -66,6 +66,14 @@ append_sound (x ∷ xs) ys hx hy = (hx.0, append_sound xs ys hx.1 hy)
 map_sound : {A B : Type 0} (g : Result A Fault → Result B Fault) (xs : List (Result A Fault)) → ((r : Result A Fault) → OfBytes r → OfBytes (g r)) → AllOfBytes xs → AllOfBytes (map g xs)
 map_sound g [] h s = tt
 map_sound g (x ∷ xs) h s = (h x s.0, map_sound g xs h s.1)
+
+cons_sound : {A : Type 0} (b : Bool) (x : Result A Fault) (kept : List (Result A Fault)) → OfBytes x → AllOfBytes kept → AllOfBytes (if b then x ∷ kept else kept)
+cons_sound true x kept h s = (h, s)
+cons_sound false x kept h s = s
+
+filter_sound : {A : Type 0} (test : Result A Fault → Bool) (xs : List (Result A Fault)) → AllOfBytes xs → AllOfBytes (filter test xs)
+filter_sound test [] s = tt
+filter_sound test (x ∷ xs) s = cons_sound (test x) x (filter test xs) s.0 (filter_sound test xs s.1)
 
 result_sound : {A B : Type 0} (g : A → B) (r : Result A Fault) → OfBytes r → OfBytes (result_map g r)
 result_sound g (Ok a) s = tt
@@ -217,4 +225,4 @@ field_sound n c raw = bind_of_bytes (from_table optional_metadata_field_types Un
 
 -- the fault of a field is one that bytes can have
 pub field_fault_of_bytes : (t : TableMap) (e : Fault) → field_fault t ≡ Some e → IsOfBytes e
-field_fault_of_bytes t e h = none_or (field_fault t) e (first_sound _ (map_sound _ (items raw_field t.optional_metadata) (λ r s. bind_of_bytes r _ s (λ raw. field_sound _ _ raw)) (items_sound raw_field exact_raw_field eats_raw_field t.optional_metadata))) h
+field_fault_of_bytes t e h = none_or (field_fault t) e (first_sound _ (map_sound _ (filter is_item (items raw_field t.optional_metadata)) (λ r s. bind_of_bytes r _ s (λ raw. field_sound _ _ raw)) (filter_sound is_item (items raw_field t.optional_metadata) (items_sound raw_field exact_raw_field eats_raw_field t.optional_metadata)))) h

@@ -222,9 +222,9 @@ impl<'a> RowsEvent<'a> {
     /// The iterator ends after its first fault. For each image, in order: in the image after the
     /// change of a `PARTIAL_UPDATE_ROWS_EVENT`, `BadLenEnc` or `UnexpectedEof` if the options or
     /// the partial bits can't be read; `UnexpectedEof` if the null bits are cut; the fault of the
-    /// first faulty field of the optional metadata (`UnknownOptionalField`, `BytesRemaining`,
-    /// `BadLenEnc`, `UnexpectedEof`); then, for each column of the event in order, the fault of its
-    /// type (`UnknownColumnType`, `UnexpectedColumnType`, `NoColumnType`), of its character set, its
+    /// first faulty field of the optional metadata (`BytesRemaining`, `BadLenEnc`,
+    /// `UnexpectedEof`); then, for each column of the event in order, the fault of its type
+    /// (`UnknownColumnType`, `UnexpectedColumnType`, `NoColumnType`), of its character set, its
     /// name and its key (`BadLenEnc`, `UnexpectedEof`), and, if it is in the image and isn't NULL,
     /// of its cell, as `BinlogValue` says. After the images, `EmptyPair` if they have no bytes.
     /// `Memory` if memory can't be allocated.

@@ -36,7 +36,7 @@ where
 }
 
 /// The table of event types in MySQL's documentation.
-const EVENT_TYPES: [(u8, EventType); 42] = [
+const EVENT_TYPES: [(u8, EventType); 43] = [
     (0x00, EventType::UNKNOWN_EVENT),
     (0x01, EventType::START_EVENT_V3),
     (0x02, EventType::QUERY_EVENT),
@@ -78,6 +78,7 @@ const EVENT_TYPES: [(u8, EventType); 42] = [
     (0x26, EventType::XA_PREPARE_LOG_EVENT),
     (0x27, EventType::PARTIAL_UPDATE_ROWS_EVENT),
     (0x28, EventType::TRANSACTION_PAYLOAD_EVENT),
+    (0x29, EventType::HEARTBEAT_LOG_EVENT_V2),
     (0x2A, EventType::GTID_TAGGED_LOG_EVENT),
 ];
 
@@ -235,7 +236,8 @@ fn versions_and_incidents(rt: HostRuntime) {
 fn refused_numbers(rt: HostRuntime) {
     assert!(rt;
         all(&[
-            EventType::try_from(0x29) == Err(UnknownEventType(0x29)),
+            EventType::try_from(0x29) == Ok(EventType::HEARTBEAT_LOG_EVENT_V2),
+            EventType::try_from(0x2b) == Err(UnknownEventType(0x2b)),
             EventType::try_from(0x2a) == Ok(EventType::GTID_TAGGED_LOG_EVENT),
             StatusVarKey::try_from(20) == Ok(StatusVarKey::DefaultTableEncryption),
             StatusVarKey::try_from(21) == Err(UnknownStatusVarKey(21)),
@@ -249,7 +251,7 @@ fn refused_numbers(rt: HostRuntime) {
     );
     assert!(rt;
         all(&[
-            u8::from(UnknownEventType(0x29)) == 0x29,
+            u8::from(UnknownEventType(0x2b)) == 0x2b,
             u8::from(UnknownOptionalMetadataFieldType(14)) == 14,
             u8::from(UnknownChecksumAlg(2)) == 2,
             u8::from(UnknownDuplicateHandling(3)) == 3,

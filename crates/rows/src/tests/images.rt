@@ -141,25 +141,20 @@ fn steps(alloc: Global, event: &RowsEvent<'_>, table: &TableMapEvent<'_>) -> (u1
 const NAMED: &[u8] =
     b"\x01\0\0\0\0\0\x01\0\x01d\0\x01t\0\x02\x03\x0f\x02\x0a\0\x02\x04\x04\x01a\x01b";
 
-/// The steps for the rows of an event over a table.
-fn steps_in(
-    alloc: Global,
-    table: &TableMapEvent<'_>,
-    rows: &[u8],
-    event_type: EventType,
-) -> Result<(u128, u128, u128), Fault> {
-    let event = read(rows, event_type, 10)?;
-    Ok(steps(alloc, &event, table))
-}
+/// The table `NAMED`, with a field of an unknown kind before that of the names.
+const NAMED_AFTER_UNKNOWN: &[u8] =
+    b"\x01\0\0\0\0\0\x01\0\x01d\0\x01t\0\x02\x03\x0f\x02\x0a\0\x02\x0e\x01\x07\x04\x04\x01a\x01b";
 
-/// The steps for the rows of an event over the table `NAMED`.
+/// The steps for the rows of an event over a table.
 fn steps_of(
     alloc: Global,
+    table: &[u8],
     rows: &[u8],
     event_type: EventType,
 ) -> Result<(u128, u128, u128), Fault> {
-    let table: TableMapEvent<'_> = ParseBuf(NAMED).parse(8)?;
-    steps_in(alloc, &table, rows, event_type)
+    let table: TableMapEvent<'_> = ParseBuf(table).parse(8)?;
+    let event = read(rows, event_type, 10)?;
+    Ok(steps(alloc, &event, &table))
 }
 
 #[test]
@@ -168,11 +163,13 @@ fn steps_of_plans(rt: HostRuntime) {
     let write = EventType::WRITE_ROWS_EVENT;
     assert!(rt;
         all(&[
-            steps_of(alloc, TWO_ROWS, write) == Ok((0, 5, 5)),
+            steps_of(alloc, NAMED, TWO_ROWS, write) == Ok((0, 5, 5)),
+            // A field of an unknown kind is no step.
+            steps_of(alloc, NAMED_AFTER_UNKNOWN, TWO_ROWS, write) == Ok((0, 5, 5)),
             // An update has two images, and so two plans.
-            steps_of(alloc, UPDATED, EventType::UPDATE_ROWS_EVENT) == Ok((0, 10, 10)),
+            steps_of(alloc, NAMED, UPDATED, EventType::UPDATE_ROWS_EVENT) == Ok((0, 10, 10)),
             // There are no rows.
-            steps_of(alloc, &TWO_ROWS[..12], write) == Ok((0, 0, 0)),
+            steps_of(alloc, NAMED, &TWO_ROWS[..12], write) == Ok((0, 0, 0)),
         ])
     );
 }

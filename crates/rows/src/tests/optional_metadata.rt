@@ -57,7 +57,32 @@ fn faults_and_names(rt: HostRuntime) {
         all(&[
             are_fault_and_name(&[1, 2, 0x80, 0, 4, 2, 1, 0x61], Fault::BytesRemaining),
             are_fault_and_name(&[1, 0, 4, 2, 1, 0x61], Fault::UnexpectedEof),
-            are_fault_and_name(&[0x0e, 0, 4, 2, 1, 0x61], Fault::UnknownOptionalField(14)),
+        ])
+    );
+}
+
+/// Whether the items are this fault alone.
+fn are_fault(metadata: &[u8], fault: Fault) -> bool {
+    let mut items = items(metadata);
+    is_fault(&items.next(), fault) && items.next().is_none()
+}
+
+#[test]
+fn fields_of_unknown_kinds(rt: HostRuntime) {
+    let mut skipped = items(&[0x0e, 0, 4, 2, 1, 0x61]);
+    let mut around = items(&[0, 1, 7, 4, 2, 1, 0x61, 0xff, 2, 1, 2]);
+    assert!(rt;
+        all(&[
+            is_name_a(&skipped.next()),
+            skipped.next().is_none(),
+            skipped.taken() == 1,
+            is_name_a(&around.next()),
+            around.next().is_none(),
+            items(&[0x0e, 0]).next().is_none(),
+            // One that is cut, or has a bad length.
+            are_fault(&[0x0e, 5, 0x61], Fault::UnexpectedEof),
+            are_fault(&[0x0e], Fault::UnexpectedEof),
+            are_fault(&[0x0e, 0xfb], Fault::BadLenEnc),
         ])
     );
 }
@@ -300,8 +325,8 @@ fn signs_and_names(rt: HostRuntime) -> Result<(), Fail> {
 
 #[test]
 fn fields_are_counted(rt: HostRuntime) -> Result<(), Fail> {
-    // The second of three fields is faulty.
-    let bytes = &[4, 0, 14, 0, 4, 0];
+    // The second of three known fields is faulty; a field of an unknown kind doesn't count.
+    let bytes = &[4, 0, 14, 0, 1, 1, 0, 4, 0];
     let mut fields = OptionalMetadataIter::new(0, 0, bytes);
     let refused = OptionalMetaExtractor::take_from(&mut fields).is_err();
     assert!(rt;

@@ -39,7 +39,7 @@ fn prints(alloc: Global, all: &[&str], status: u8, text: &str) -> Result<bool, A
 }
 
 /// Events: the type, the table, the rows event, the status, and what is printed.
-const EVENTS: [(&str, &str, &str, u8, &str); 46] = [
+const EVENTS: [(&str, &str, &str, u8, &str); 54] = [
     // Two inserted rows, and the same with digits in either case and a text of no bytes.
     (
         "1E",
@@ -247,6 +247,67 @@ const EVENTS: [(&str, &str, &str, u8, &str); 46] = [
         0,
         "- -> {@0=42, @1=x6162}\n- -> {@0=-1, @1=NULL}\n",
     ),
+    // A whole field of an unknown kind is skipped. One that is cut is a fault.
+    (
+        "1E",
+        "010000000000010001640001740002030F020A00020E0107040401610162",
+        "010000000000010002000203002A00000002616202FFFFFFFF",
+        0,
+        "- -> {a=42, b=x6162}\n- -> {a=-1, b=NULL}\n",
+    ),
+    (
+        "1E",
+        "010000000000010001640001740002030F020A00020E0561",
+        "010000000000010002000203002A00000002616202FFFFFFFF",
+        1,
+        "fault UnexpectedEof\n",
+    ),
+    // The skipped field is followed by a known one whose value is too short.
+    (
+        "1E",
+        "010000000000010001640001740002030F020A00020E000100",
+        "010000000000010002000203002A00000002616202FFFFFFFF",
+        1,
+        "fault UnexpectedEof\n",
+    ),
+    // What is a fault beside a skipped field is that of the rows event: a cut cell, cut null bits,
+    // a pair without bytes, options that can't be read.
+    (
+        "1E",
+        "010000000000010001640001740002030F020A00020E00",
+        "010000000000010002000203002A",
+        1,
+        "fault UnexpectedEof\n",
+    ),
+    (
+        "1E",
+        "010000000000010001640001740002030F020A00020E00",
+        "0100000000000100020009FF0100",
+        1,
+        "fault UnexpectedEof\n",
+    ),
+    (
+        "1E",
+        "010000000000010001640001740002030F020A00020E00",
+        "01000000000001000200020005",
+        1,
+        "fault EmptyPair\n",
+    ),
+    (
+        "27",
+        "010000000000010001640001740002030F020A00020E00",
+        "01000000000001000200020003FB",
+        1,
+        "fault BadLenEnc\n",
+    ),
+    // A type that isn't a rows event's.
+    (
+        "29",
+        TABLE,
+        "010000000000010002000203002A00000002616202FFFFFFFF",
+        0,
+        "- -> {@0=42, @1=x6162}\n- -> {@0=-1, @1=NULL}\n",
+    ),
     // The fault of the key belongs to column 1, so the cell of column 0 comes before it.
     (
         "1E",
@@ -270,17 +331,17 @@ const EVENTS: [(&str, &str, &str, u8, &str); 46] = [
         1,
         "fault BadLenEnc\n",
     ),
-    // An unknown field comes before the cells, and after the null bits.
+    // A faulty field comes before the cells, and after the null bits.
     (
         "1E",
-        "010000000000010001640001740002030F020A00020E00",
+        "010000000000010001640001740002030F020A000201020000",
         "010000000000010002000203002A",
         1,
-        "fault UnknownOptionalField(14)\n",
+        "fault BytesRemaining\n",
     ),
     (
         "1E",
-        "010000000000010001640001740002030F020A00020E00",
+        "010000000000010001640001740002030F020A000201020000",
         "0100000000000100020009FF0100",
         1,
         "fault UnexpectedEof\n",
@@ -288,17 +349,17 @@ const EVENTS: [(&str, &str, &str, u8, &str); 46] = [
     // No column is in the image, and none at all is in the event.
     (
         "1E",
-        "010000000000010001640001740002030F020A00020E00",
+        "010000000000010001640001740002030F020A000201020000",
         "01000000000001000200020005",
         1,
-        "fault UnknownOptionalField(14)\n",
+        "fault BytesRemaining\n",
     ),
     (
         "1E",
-        "010000000000010001640001740002030F020A00020E00",
+        "010000000000010001640001740002030F020A000201020000",
         "010000000000010002000005",
         1,
-        "fault UnknownOptionalField(14)\n",
+        "fault BytesRemaining\n",
     ),
     // A cell of each form of text: the bits of floats, a date, a time; of the types FLOAT, DOUBLE,
     // DATE and TIME2.
@@ -346,7 +407,7 @@ const EVENTS: [(&str, &str, &str, u8, &str); 46] = [
         0,
         "{} -> {}\n{} -> {}\n",
     ),
-    // The options of the after-image can't be read. An unknown field is a fault of the before-
+    // The options of the after-image can't be read. A faulty field is a fault of the before-
     // image.
     (
         "27",
@@ -357,10 +418,10 @@ const EVENTS: [(&str, &str, &str, u8, &str); 46] = [
     ),
     (
         "27",
-        "010000000000010001640001740002030F020A00020E00",
+        "010000000000010001640001740002030F020A000201020000",
         "01000000000001000200020003FB",
         1,
-        "fault UnknownOptionalField(14)\n",
+        "fault BytesRemaining\n",
     ),
 ];
 
@@ -654,7 +715,7 @@ fn lines_of_faults(rt: HostRuntime) {
 }
 
 /// Arguments that aren't the program's.
-const NO_WORDS: [&[&str]; 20] = [
+const NO_WORDS: [&[&str]; 19] = [
     &[],
     &["8", "1E", "10", "10", TABLE],
     &["8", "1E", "10", "10", TABLE, "00", "00"],
@@ -663,7 +724,6 @@ const NO_WORDS: [&[&str]; 20] = [
     &["", "1E", "10", "10", TABLE, "00"],
     &["+8", "1E", "10", "10", TABLE, "00"],
     &["-8", "1E", "10", "10", TABLE, "00"],
-    &["8", "29", "10", "10", TABLE, "00"],
     &["8", "2B", "10", "10", TABLE, "00"],
     &["8", "1", "10", "10", TABLE, "00"],
     &["8", "01E", "10", "10", TABLE, "00"],

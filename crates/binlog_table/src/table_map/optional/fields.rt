@@ -1,11 +1,11 @@
 //! The fields of optional metadata.
 
-ghost use Rattle.std.specs.Prelude.{◌≡◌, ℕ, ◌*◌, ◌≤◌, ◌^◌, ◌<◌, ◌+◌, length};
+ghost use Rattle.std.specs.Prelude.{◌≡◌, ℕ, ◌*◌, ◌≤◌, ◌^◌, ◌<◌, ◌+◌, length, Some, None, if◌then◌else◌};
 ghost use Rattle.std.specs.Iterator.{YieldsFirst, item_count};
 ghost use Rattle.binlog_base.specs.Items.{result_map};
 ghost use Rattle.binlog_table.specs.Lists.{RawField as Raw, raw_field, count_of};
 ghost use Rattle.binlog_table.specs.Lemmas.Lists.{exact_raw_field, eats_raw_field};
-ghost use Rattle.binlog_table.specs.Fields.{bits_for, default_charset_in, field_of, fields};
+ghost use Rattle.binlog_table.specs.Fields.{bits_for, default_charset_in, value_of, field_of, is_known_kind, fields};
 
 use super::charsets::DefaultCharset;
 use super::items::{Items, ListKind, ListOf};
@@ -104,83 +104,131 @@ fn default_charset(value: &[u8]) -> Result<DefaultCharset<'_>, Fault>
     buf.parse(())
 }
 
-// Reads the value of a field, in a table with so many numeric columns, and so many columns in all.
-#[tactic(auto, unfolding(crate::specs::Fields::field_of))]
-fn field_of<'a>(
-    raw: RawField<'a>,
+// Reads the value of a field of this kind, in a table with so many numeric columns, and so many
+// columns in all.
+fn value_of<'a>(
+    kind: OptionalMetadataFieldType,
+    value: &'a [u8],
     numeric: usize,
     columns: usize,
 ) -> Result<OptionalMetadataField<'a>, Fault>
-    ensures { result ≡ field_of numeric columns (record {
-      kind = raw.entry.kind;
-      value = raw.entry.value.now;
-    }) }
+    ensures { result ≡ value_of numeric columns kind value.entry.now }
 {
-    let value = raw.value;
-    match OptionalMetadataFieldType::try_from(raw.kind) {
-        Err(error) => Err(Fault::UnknownOptionalField(error.0)),
-        Ok(OptionalMetadataFieldType::SIGNEDNESS) => {
+    match kind {
+        OptionalMetadataFieldType::SIGNEDNESS => {
             Ok(OptionalMetadataField::Signedness(bits_for(value, numeric)?))
         }
-        Ok(OptionalMetadataFieldType::DEFAULT_CHARSET) => {
+        OptionalMetadataFieldType::DEFAULT_CHARSET => {
             Ok(OptionalMetadataField::DefaultCharset(default_charset(value)?))
         }
-        Ok(OptionalMetadataFieldType::COLUMN_CHARSET) => {
+        OptionalMetadataFieldType::COLUMN_CHARSET => {
             Ok(OptionalMetadataField::ColumnCharset(ListOf::new(value)))
         }
-        Ok(OptionalMetadataFieldType::COLUMN_NAME) => {
+        OptionalMetadataFieldType::COLUMN_NAME => {
             Ok(OptionalMetadataField::ColumnName(ListOf::new(value)))
         }
-        Ok(OptionalMetadataFieldType::SET_STR_VALUE) => {
+        OptionalMetadataFieldType::SET_STR_VALUE => {
             Ok(OptionalMetadataField::SetStrValue(ListOf::new(value)))
         }
-        Ok(OptionalMetadataFieldType::ENUM_STR_VALUE) => {
+        OptionalMetadataFieldType::ENUM_STR_VALUE => {
             Ok(OptionalMetadataField::EnumStrValue(ListOf::new(value)))
         }
-        Ok(OptionalMetadataFieldType::GEOMETRY_TYPE) => {
+        OptionalMetadataFieldType::GEOMETRY_TYPE => {
             Ok(OptionalMetadataField::GeometryType(ListOf::new(value)))
         }
-        Ok(OptionalMetadataFieldType::SIMPLE_PRIMARY_KEY) => {
+        OptionalMetadataFieldType::SIMPLE_PRIMARY_KEY => {
             Ok(OptionalMetadataField::SimplePrimaryKey(ListOf::new(value)))
         }
-        Ok(OptionalMetadataFieldType::PRIMARY_KEY_WITH_PREFIX) => Ok(
+        OptionalMetadataFieldType::PRIMARY_KEY_WITH_PREFIX => Ok(
             OptionalMetadataField::PrimaryKeyWithPrefix(ListOf::new(value)),
         ),
-        Ok(OptionalMetadataFieldType::ENUM_AND_SET_DEFAULT_CHARSET) => Ok(
+        OptionalMetadataFieldType::ENUM_AND_SET_DEFAULT_CHARSET => Ok(
             OptionalMetadataField::EnumAndSetDefaultCharset(default_charset(value)?),
         ),
-        Ok(OptionalMetadataFieldType::ENUM_AND_SET_COLUMN_CHARSET) => Ok(
+        OptionalMetadataFieldType::ENUM_AND_SET_COLUMN_CHARSET => Ok(
             OptionalMetadataField::EnumAndSetColumnCharset(ListOf::new(value)),
         ),
-        Ok(OptionalMetadataFieldType::COLUMN_VISIBILITY) => Ok(
-            OptionalMetadataField::ColumnVisibility(bits_for(value, columns)?),
-        ),
-        Ok(OptionalMetadataFieldType::VECTOR_DIMENSIONALITY) => {
+        OptionalMetadataFieldType::COLUMN_VISIBILITY => Ok(OptionalMetadataField::ColumnVisibility(
+            bits_for(value, columns)?,
+        )),
+        OptionalMetadataFieldType::VECTOR_DIMENSIONALITY => {
             Ok(OptionalMetadataField::Dimensionality(ListOf::new(value)))
         }
     }
 }
 
+// Reads a whole field, in a table with so many numeric columns, and so many columns in all. `None`
+// where its kind is unknown, whatever its value.
+#[tactic(auto, unfolding(crate::specs::Fields::field_of, crate::specs::Fields::is_known_kind))]
+fn field_of<'a>(
+    raw: RawField<'a>,
+    numeric: usize,
+    columns: usize,
+) -> Option<Result<OptionalMetadataField<'a>, Fault>>
+    ensures { result ≡ if is_known_kind raw.entry.kind
+        then Some (field_of numeric columns (record {
+          kind = raw.entry.kind;
+          value = raw.entry.value.now;
+        })) else None }
+{
+    let kind = OptionalMetadataFieldType::try_from(raw.kind).ok()?;
+    Some(value_of(kind, raw.value, numeric, columns))
+}
+
+// Takes the next field of a known kind, or the fault in its place; whole fields of other kinds before
+// it are skipped. The table has so many numeric columns, and so many columns in all.
+fn next_field<'a>(
+    raw: &mut Items<'a, RawFields>,
+    numeric: usize,
+    columns: usize,
+) -> Option<Result<OptionalMetadataField<'a>, Fault>>
+    ensures gives { YieldsFirst
+        (λ left. fields (record { numeric = numeric; columns = columns; left = left }))
+        raw.old result raw.new }
+    ensures room { length raw.new.bytes + count_of result ≤ length raw.old.bytes }
+{
+    while let Some(item) = raw.take_item() {
+        match item {
+            Ok(whole) => {
+                if let Some(field) = field_of(whole, numeric, columns) {
+                    return Some(field);
+                }
+            }
+            Err(e) => return Some(Err(e)),
+        }
+    }
+    None
+}
+
 /// An iterator over the fields of optional metadata, in order.
 ///
-/// Where a field has an unknown kind or a faulty value, its fault is an item, and others follow it:
-/// `UnknownOptionalField`, `UnexpectedEof` or `BadLenEnc` for what is read of the value, and
-/// `BytesRemaining` where bits have bytes after them. A field that is cut, or whose length can't be
-/// read, is the last item: `UnexpectedEof` or `BadLenEnc`. Contracts see how many numeric columns
-/// and columns the table has, the bytes that are left, and how many items were taken.
+/// A whole field of a kind that isn't one of `OptionalMetadataFieldType` is skipped, whatever its
+/// value. Where a field of a known kind has a faulty value, its fault is an item, and others follow
+/// it: `UnexpectedEof` or `BadLenEnc` for what is read of the value, and `BytesRemaining` where bits
+/// have bytes after them. A field that is cut, or whose length can't be read, is the last item,
+/// whatever its kind: `UnexpectedEof` or `BadLenEnc`. Contracts see how many numeric columns and
+/// columns the table has, the bytes that are left, and how many items were taken.
 #[derive(Debug, Drop)]
 pub struct OptionalMetadataIter<'a> {
     numeric: usize,
     columns: usize,
     raw: Items<'a, RawFields>,
+    taken: u64,
 }
 
 impl<'a> Model for OptionalMetadataIter<'a> {
+    ghost use Rattle.std.specs.Prelude.{◌+◌, ◌<◌, ◌^◌, length};
     ghost use Rattle.binlog_table.specs.Lists.{FieldsLeft};
 
     ghost Value = { FieldsLeft };
 
-    ghost view = { λ i. record { numeric = i.numeric; columns = i.columns; left = i.raw } };
+    ghost view = { λ i. record {
+      numeric = i.numeric;
+      columns = i.columns;
+      left = record { bytes = i.raw.bytes; taken = i.taken };
+    } };
+
+    ghost invariant = { λ i. i.taken + length i.raw.bytes < 2 ^ 64 };
 }
 
 impl<'a> OptionalMetadataIter<'a> {
@@ -197,30 +245,29 @@ impl<'a> OptionalMetadataIter<'a> {
             numeric,
             columns,
             raw: ListOf::<RawFields>::new(bytes).iter(),
+            taken: 0,
         }
     }
 }
 
 impl<'a> OptionalMetadataIter<'a> {
     /// Takes the next field, or the fault in its place. This is `next`, with the count of the items
-    /// that were taken.
+    /// that were taken; skipped fields don't count.
     pub fn take_field(&mut self) -> Option<Result<OptionalMetadataField<'a>, Fault>>
         ensures gives { YieldsFirst fields self.old result self.new }
         ensures taken { self.new.left.taken ≡ self.old.left.taken + count_of result }
         ensures room { length self.new.left.bytes + count_of result ≤ length self.old.left.bytes }
     {
-        let raw = match self.raw.take_item()? {
-            Ok(raw) => raw,
-            Err(e) => return Some(Err(e)),
-        };
-        Some(field_of(raw, self.numeric, self.columns))
+        let field = next_field(&mut self.raw, self.numeric, self.columns)?;
+        self.taken += 1;
+        Some(field)
     }
 
-    /// Returns how many fields and faults were taken.
+    /// Returns how many fields and faults were taken; skipped fields don't count.
     pub fn taken(&self) -> u64
         ensures { result ≡ self.now.left.taken }
     {
-        self.raw.taken()
+        self.taken
     }
 }
 

@@ -15,9 +15,8 @@ names and types, `primary_key` and `unique_not_null` (pairs of a column and a pr
 fact, item by item, and what is extracted for rows with the server's answers: the names, signs, key
 and charsets of the columns.
 
-Some comparisons are left out, since the server may count other columns than `binlog_table` does:
-for a table with signs and a YEAR column, the signs and all that is extracted; for a table with a
-geometry, INET4, INET6 or UUID column, the charsets of the columns.
+The events are read as MariaDB's, whose YEAR columns have signs and whose geometry columns have
+charsets.
 
 The tests run in a copy of the workspace, by `rt try --test`; the gate doesn't run them.
 """
@@ -41,20 +40,17 @@ NAMES_IN_A_LINE = (
 
 ONE_BYTE = {4, 5, 17, 18, 19, 242, 245, 249, 250, 251, 252, 255}
 TWO_BYTES = {15, 16, 246, 247, 248, 253, 254}
-YEAR = 13
 
-NUMERIC_TYPES = set("tinyint smallint mediumint int bigint float double decimal".split())
+# The SQL types of columns with signs, of which YEAR is always unsigned.
+NUMERIC_TYPES = set("tinyint smallint mediumint int bigint float double decimal year".split())
 # The SQL types of columns with charsets, and the field that lists the charsets of their group.
 GROUP_OF = dict.fromkeys(
     "char varchar tinytext text mediumtext longtext"
-    " binary varbinary tinyblob blob mediumblob longblob".split(),
+    " binary varbinary tinyblob blob mediumblob longblob inet4 inet6 uuid"
+    " geometry point linestring polygon multipoint multilinestring multipolygon"
+    " geometrycollection".split(),
     "COLUMN_CHARSET",
 ) | dict.fromkeys(["enum", "set"], "ENUM_AND_SET_COLUMN_CHARSET")
-# The SQL types that the server may count in other groups.
-OTHER_GROUPS = set(
-    "geometry point linestring polygon multipoint multilinestring multipolygon geometrycollection"
-    " inet4 inet6 uuid".split()
-)
 
 CHECKS = """
 use crate::table_map::TableMapEvent;
@@ -62,7 +58,7 @@ use crate::table_map::optional::{
     ColumnCharsets, DefaultCharset, IterNames, IterSignedness, IterStrValues,
     OptionalMetaExtractor, OptionalMetadataField, StrValues,
 };
-use binlog_base::below::ParseBuf;
+use binlog_base::below::{ParseBuf, Server};
 use binlog_base::fault::Fault;
 use std::alloc::Global;
 use std::process::Abort;
@@ -70,7 +66,8 @@ use std::process::Abort;
 type Field<'a> = Option<Result<OptionalMetadataField<'a>, Fault>>;
 
 fn read(bytes: &[u8], post_header_len: u8) -> Result<TableMapEvent<'_>, Fault> {
-    ParseBuf(bytes).parse(post_header_len)
+    let table: TableMapEvent<'_> = ParseBuf(bytes).parse(post_header_len)?;
+    Ok(table.with_server(Server::MariaDb))
 }
 
 fn is_table(table: &TableMapEvent<'_>, id: u64, database: &[u8], name: &[u8], optional: &[u8]) -> bool {
@@ -260,8 +257,8 @@ fn has_charset_by_column(
     let mut of_enums_and_sets = extracted.iter_enum_and_set_charset();
     for (index, charset) in expected.iter().enumerate() {
         let found = match table.get_column_type(index) {
-            Ok(Some(kind)) if kind.is_character_type() => of_text.next(),
-            Ok(Some(kind)) if kind.is_enum_or_set_type() => of_enums_and_sets.next(),
+            Ok(Some(kind)) if Server::MariaDb.is_character(kind) => of_text.next(),
+            Ok(Some(kind)) if Server::MariaDb.is_enum_or_set(kind) => of_enums_and_sets.next(),
             _ => None,
         };
         if found.unwrap_or(Ok(0)) != Ok(*charset) {
@@ -374,16 +371,6 @@ class Event:
     def has_optional_metadata(self):
         return bool(self.case[3])
 
-    def has_signs_of_years(self):
-        years = any(number == YEAR for number, _ in self.case[4])
-        return years and "SIGNEDNESS" in self.facts
-
-    def is_extracted(self):
-        return bool(self.facts) and not self.has_signs_of_years()
-
-    def has_other_groups(self):
-        return any(sql_type(column) in OTHER_GROUPS for column in self.line["columns"])
-
     def fields(self):
         """The name and the value of each optional field, in order."""
         kinds = [FIELDS[kind] for kind in self.line["kinds"]]
@@ -400,8 +387,8 @@ class Event:
         """Whether each numeric column is unsigned, by the server's answer."""
         if "SIGNEDNESS" not in self.facts:
             return []
-        columns = self.line["columns"]
-        return ["unsigned" in column["type"] for column in columns if sql_type(column) in NUMERIC_TYPES]
+        numeric = [column for column in self.line["columns"] if sql_type(column) in NUMERIC_TYPES]
+        return [sql_type(column) == "year" or "unsigned" in column["type"] for column in numeric]
 
     def key(self):
         """The indexes of the columns of the key, by the server's answer."""
@@ -454,8 +441,6 @@ fn line_{event.number}(rt: &impl Abort, alloc: Global) {{
 
 
 def condition_of(event, name, value):
-    if name == "SIGNEDNESS" and event.has_signs_of_years():
-        return "fields.next().is_some()"
     alloc = "alloc, " if name in TAKES_MEMORY else ""
     return f"is_{name.lower()}(&fields.next(), {alloc}{literal(value)})"
 
@@ -468,7 +453,7 @@ fn fields_of_line_{event.number}(rt: &impl Abort, alloc: Global, table: &TableMa
     for name, value in event.fields():
         text += asserted(event, condition_of(event, name, value), name)
     text += asserted(event, "fields.next().is_none()", "more fields")
-    if event.is_extracted():
+    if event.facts:
         text += f"    extracted_of_line_{event.number}(rt, table);\n"
     return text + "}\n"
 
@@ -480,14 +465,11 @@ fn extracted_of_line_{event.number}(rt: &impl Abort, table: &TableMapEvent<'_>) 
     let extracted = extracted.expect(rt, "line {event.number}: a fault among the fields");
 """
     conditions = {
-        "count of fields": f"extracted.fields_count() == {len(event.facts)}",
         "signs": f"gives_bits(extracted.iter_signedness(), {literal(event.signs())})",
         "names": f"gives_names(extracted.iter_column_name(), {literal(event.names())})",
         "key": f"gives(extracted.iter_primary_key(), {literal(event.key())})",
+        "charsets": f"has_charset_by_column(table, &extracted, {literal(event.charsets())})",
     }
-    if not event.has_other_groups():
-        charsets = literal(event.charsets())
-        conditions["charsets"] = f"has_charset_by_column(table, &extracted, {charsets})"
     for what, condition in conditions.items():
         text += asserted(event, condition, what)
     return text + "}\n"
@@ -497,7 +479,7 @@ def functions_of(event):
     text = table_function(event)
     if event.facts is not None:
         text += fields_function(event)
-    if event.is_extracted():
+    if event.facts:
         text += extracted_function(event)
     return text
 
@@ -530,22 +512,12 @@ def print_counts(events):
     described = [event for event in events if event.facts]
     if not described:
         return
-    extracted = [event for event in described if event.is_extracted()]
-    by_column = [event for event in extracted if not event.has_other_groups()]
-    years = len(described) - len(extracted)
     fields = Counter(name for event in described for name in event.facts)
-    fields["SIGNEDNESS"] -= years
     print(f"{len(described)} with facts about it, to which these fields were compared:")
     for name, _ in FIELDS.values():
         if fields[name]:
             print(f"  {fields[name]} {name}")
-    print(f"{len(extracted)} tables of which the names, signs and key were extracted and compared")
-    print(f"{len(by_column)} tables of which the charsets were extracted and compared by column")
-    print(f"{years} tables left out of SIGNEDNESS and of what is extracted: signs of YEAR columns")
-    print(
-        f"{len(extracted) - len(by_column)} tables left out of the charsets by column:"
-        " geometry, INET4, INET6 or UUID columns"
-    )
+    print("of each the names, signs, key and charsets were extracted and compared by column")
 
 
 def main():

@@ -4,6 +4,7 @@ pub mod Faults
 pub mod Format
 pub mod Tables
 pub mod ColumnTypes
+pub mod Servers
 pub mod Coding
 pub mod Codings
 pub mod Fixed

@@ -7,8 +7,8 @@ mod parse;
 mod raw;
 
 pub use columns::{
-    Column, ColumnFlags, ColumnType, GeometryType, Row, UnknownColumnType, UnknownGeometryType,
-    Value, new_row_raw,
+    Column, ColumnFlags, ColumnType, GeometryType, Row, Server, UnknownColumnType,
+    UnknownGeometryType, Value, new_row_raw,
 };
 pub use io::{
     Counted, Failed, OfWidth, ReadOnce, Sink, Source, WriteOnce, read_exact, read_of_width,

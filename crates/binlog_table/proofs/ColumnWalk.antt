@@ -7,7 +7,8 @@ use Rattle.binlog_base.specs.declared.below.columns.column_type.ColumnType.{Colu
 use Rattle.binlog_base.specs.Numbers.{lenenc}
 use Rattle.binlog_base.specs.Strings.{lenenc_string}
 use Rattle.binlog_base.specs.Items.{items}
-use Rattle.binlog_base.specs.ColumnTypes.{is_character, is_enum_or_set}
+use Rattle.binlog_base.specs.declared.below.columns.server.Server.{Server}
+use Rattle.binlog_base.specs.Servers.{character_group, enum_or_set_group}
 use Rattle.binlog_table.specs.Lists.{DefaultCharset}
 use Rattle.binlog_table.specs.declared.table_map.optional.columns.Walk.{Walk}
 use Rattle.binlog_table.specs.ColumnTypes.{json_count}
@@ -87,8 +88,8 @@ named_later xs ys x h j = rw h refl
 pub named_none : (xs ys : List (Result (List ℕ) Fault)) → xs ≡ [] → ys ≡ [] → (j : ℕ) → named ys j ≡ named xs (suc j)
 named_none xs ys h k j = rw (h, k) refl
 
-pub sign_later : (raw : ℕ) (rest all : List ℕ) (old new : List Bool) → all ≡ raw ∷ rest → new ≡ bits_after (is_numeric_number raw) old → (j : ℕ) → sign_left rest new j ≡ sign_left all old (suc j)
-sign_later raw rest all old new e h j = rw (e, h) refl
+pub sign_later : (server : Server) (raw : ℕ) (rest all : List ℕ) (old new : List Bool) → all ≡ raw ∷ rest → new ≡ bits_after (is_numeric_number server raw) old → (j : ℕ) → sign_left server rest new j ≡ sign_left server all old (suc j)
+sign_later server raw rest all old new e h j = rw (e, h) refl
 
 pub json_later : (n m raw : ℕ) (rest all : List ℕ) → all ≡ raw ∷ rest → m ≡ n + cond (eqb raw 245) 1 0 → (j : ℕ) → m + json_count (take j rest) ≡ n + json_count (take (suc j) all)
 json_later n m raw rest all e h j =
@@ -103,12 +104,12 @@ ordinal_same : (group : ColumnType → Bool) (s t : ℕ → Result ColumnType Fa
 ordinal_same group s t h zero = refl
 ordinal_same group s t h (suc j) = rw (h 0, ordinal_same group (λ k. s (suc k)) (λ k. t (suc k)) (λ k. h (suc k)) j) refl
 
-pub charset_later : (f g f' g' : ℕ → Result ℕ Fault) (s t : ℕ → Result ColumnType Fault) (type : ColumnType) → s 0 ≡ Ok type → ((j : ℕ) → t j ≡ s (suc j))
-    → Advances (is_character type) f f' → Advances (is_enum_or_set type) g g' → (j : ℕ) → charset_by f' g' t j ≡ charset_by f g s (suc j)
-charset_later f g f' g' s t type first h ff gg j =
-    let c : ordinal_of is_character t j ≡ ordinal_of is_character (λ k. s (suc k)) j = ordinal_same is_character t (λ k. s (suc k)) h j in
-    let e : ordinal_of is_enum_or_set t j ≡ ordinal_of is_enum_or_set (λ k. s (suc k)) j = ordinal_same is_enum_or_set t (λ k. s (suc k)) h j in
-    rw (h j, c, e, first, advance_at (is_character type) f f' ff (ordinal_of is_character (λ k. s (suc k)) j), advance_at (is_enum_or_set type) g g' gg (ordinal_of is_enum_or_set (λ k. s (suc k)) j)) refl
+pub charset_later : (server : Server) (f g f' g' : ℕ → Result ℕ Fault) (s t : ℕ → Result ColumnType Fault) (type : ColumnType) → s 0 ≡ Ok type → ((j : ℕ) → t j ≡ s (suc j))
+    → Advances (character_group server type) f f' → Advances (enum_or_set_group server type) g g' → (j : ℕ) → charset_by server f' g' t j ≡ charset_by server f g s (suc j)
+charset_later server f g f' g' s t type first h ff gg j =
+    let c : ordinal_of (character_group server) t j ≡ ordinal_of (character_group server) (λ k. s (suc k)) j = ordinal_same (character_group server) t (λ k. s (suc k)) h j in
+    let e : ordinal_of (enum_or_set_group server) t j ≡ ordinal_of (enum_or_set_group server) (λ k. s (suc k)) j = ordinal_same (enum_or_set_group server) t (λ k. s (suc k)) h j in
+    rw (h j, c, e, first, advance_at (character_group server type) f f' ff (ordinal_of (character_group server) (λ k. s (suc k)) j), advance_at (enum_or_set_group server type) g g' gg (ordinal_of (enum_or_set_group server) (λ k. s (suc k)) j)) refl
 
 -- ---- at the first column
 
@@ -125,11 +126,11 @@ later_at : (n b : Bool) (bits : List Bool) (k : ℕ) → n && slice_index_or (bi
 later_at n true bits k = let one : 1 + k ≡ suc k = omega arith in rw (one, later_bit bits k) refl
 later_at n false bits k = let none : 0 + k ≡ k = omega arith in rw none refl
 
-pub sign_law : (types : List ℕ) (bits : List Bool) (i : ℕ) → sign_left types bits i ≡ sign_in types bits i
-sign_law [] bits i = refl
-sign_law (raw ∷ types) bits zero = first_sign (is_numeric_number raw) bits
-sign_law (raw ∷ types) bits (suc i) = sign_law types (bits_after (is_numeric_number raw) bits) i ∙ later_at (is_numeric_at types i) (is_numeric_number raw) bits (numeric_count (take i types)) ∙
-    ap (λ (k : ℕ). is_numeric_at types i && slice_index_or bits k false) (sym (sum_by-cons (λ x. cond (is_numeric_number x) 1 0) raw (take i types)))
+pub sign_law : (server : Server) (types : List ℕ) (bits : List Bool) (i : ℕ) → sign_left server types bits i ≡ sign_in server types bits i
+sign_law server [] bits i = refl
+sign_law server (raw ∷ types) bits zero = first_sign (is_numeric_number server raw) bits
+sign_law server (raw ∷ types) bits (suc i) = sign_law server types (bits_after (is_numeric_number server raw) bits) i ∙ later_at (is_numeric_at server types i) (is_numeric_number server raw) bits (numeric_count server (take i types)) ∙
+    ap (λ (k : ℕ). is_numeric_at server types i && slice_index_or bits k false) (sym (sum_by-cons (λ x. cond (is_numeric_number server x) 1 0) raw (take i types)))
 
 group_start : (c : CharsetsLeft) (d : Option DefaultCharset) (list : Option (List ℕ)) → IsStart d list c → (k : ℕ) → row_charset c k ≡ charset_of_group d list k
 group_start c d list s k = charsets_of_table c s.ordinal k ∙ rw (s.default, s.pairs, s.list) refl
@@ -139,33 +140,33 @@ pub columns_start : (p q : Parts) (n : ℕ) → ((j : ℕ) → q.type j ≡ p.ty
 columns_start p q n type chunk sign charset name key json =
     columns_same (column_by q) (column_by p) n (λ j. column_is p q j j (type j) (chunk j) (sign j) (charset j) (name j) (key j) (json j))
 
-pub charset_start : (c e : CharsetsLeft) (d ed : Option DefaultCharset) (list elist : Option (List ℕ)) (s t : ℕ → Result ColumnType Fault) → IsStart d list c → IsStart ed elist e
-    → ((j : ℕ) → s j ≡ t j) → (j : ℕ) → charset_by (row_charset c) (row_charset e) s j ≡ charset_by (charset_of_group d list) (charset_of_group ed elist) t j
-charset_start c e d ed list elist s t sc se h j =
+pub charset_start : (server : Server) (c e : CharsetsLeft) (d ed : Option DefaultCharset) (list elist : Option (List ℕ)) (s t : ℕ → Result ColumnType Fault) → IsStart d list c → IsStart ed elist e
+    → ((j : ℕ) → s j ≡ t j) → (j : ℕ) → charset_by server (row_charset c) (row_charset e) s j ≡ charset_by server (charset_of_group d list) (charset_of_group ed elist) t j
+charset_start server c e d ed list elist s t sc se h j =
     rw (
       h j,
-      ordinal_same is_character s t h j,
-      ordinal_same is_enum_or_set s t h j,
-      group_start c d list sc (ordinal_of is_character t j),
-      group_start e ed elist se (ordinal_of is_enum_or_set t j),
+      ordinal_same (character_group server) s t h j,
+      ordinal_same (enum_or_set_group server) s t h j,
+      group_start c d list sc (ordinal_of (character_group server) t j),
+      group_start e ed elist se (ordinal_of (enum_or_set_group server) t j),
     ) refl
 
 -- ---- a walk
 
-pub walk_follows : (v w : Walk) (raw : ℕ) (type : ColumnType) → v.types.now ≡ raw ∷ w.types.now → type_left v 0 ≡ Ok type
-    → ((j : ℕ) → chunk_left w.chunks j ≡ chunk_left v.chunks (suc j)) → w.signs ≡ bits_after (is_numeric_number raw) v.signs
-    → Advances (is_character type) (row_charset v.characters) (row_charset w.characters) → Advances (is_enum_or_set type) (row_charset v.enums) (row_charset w.enums)
+pub walk_follows : (v w : Walk) (raw : ℕ) (type : ColumnType) → w.server ≡ v.server → v.types.now ≡ raw ∷ w.types.now → type_left v 0 ≡ Ok type
+    → ((j : ℕ) → chunk_left w.chunks j ≡ chunk_left v.chunks (suc j)) → w.signs ≡ bits_after (is_numeric_number v.server raw) v.signs
+    → Advances (character_group v.server type) (row_charset v.characters) (row_charset w.characters) → Advances (enum_or_set_group v.server type) (row_charset v.enums) (row_charset w.enums)
     → ((j : ℕ) → named (items lenenc_string w.names.bytes) j ≡ named (items lenenc_string v.names.bytes) (suc j))
     → w.column ≡ v.column + 1 → ((i : ℕ) → v.column < i → key_from (suc v.column) w.keys.keys i ≡ key_from v.column v.keys.keys i)
     → w.json_place ≡ v.json_place + cond (eqb raw 245) 1 0 → Follows (parts_left v) (parts_left w)
 unfolding parts_left
-walk_follows v w raw type types first chunks signs characters enums names column keys json =
+walk_follows v w raw type server types first chunks signs characters enums names column keys json =
     let types_later : (j : ℕ) → type_left w j ≡ type_left v (suc j) = λ j. rw (types, chunks j) refl in
     record {
       type = types_later;
       chunk = chunks;
-      sign = sign_later raw w.types.now v.types.now v.signs w.signs types signs;
-      charset = charset_later (row_charset v.characters) (row_charset v.enums) (row_charset w.characters) (row_charset w.enums) (type_left v) (type_left w) type first types_later characters enums;
+      sign = λ j. rw server (sign_later v.server raw w.types.now v.types.now v.signs w.signs types signs j);
+      charset = λ j. rw server (charset_later v.server (row_charset v.characters) (row_charset v.enums) (row_charset w.characters) (row_charset w.enums) (type_left v) (type_left w) type first types_later characters enums j);
       name = names;
       key = λ j. rw column (key_later v.column v.keys.keys w.keys.keys keys j);
       json_place = json_later v.json_place w.json_place raw w.types.now v.types.now types json;
@@ -176,22 +177,22 @@ abbrev parts_with : TableMap → Kept → Parts
 parts_with t k = record {
   type = type_at t;
   chunk = chunk_at t.types t.metadata;
-  sign = λ i. sign_in t.types (list_or k.signs) i;
-  charset = λ i. charset_by (charset_of_group k.default k.charsets) (charset_of_group k.enum_default k.enum_charsets) (type_at t) i;
+  sign = λ i. sign_in t.server t.types (list_or k.signs) i;
+  charset = λ i. charset_by t.server (charset_of_group k.default k.charsets) (charset_of_group k.enum_default k.enum_charsets) (type_at t) i;
   name = λ i. named (items lenenc_string (list_or k.names)) i;
   key = λ i. key_in (key_items (items lenenc (list_or k.simple)) (items (pair_with lenenc) (list_or k.prefixed))) i;
   json_place = λ i. json_count (take i t.types);
 }
 
-pub walk_start : (w : Walk) (t : TableMap) (k : Kept) → k ≡ kept_of t → w.types.now ≡ t.types → w.chunks ≡ record { types = t.types; metadata = Some t.metadata } → w.signs ≡ list_or k.signs
+pub walk_start : (w : Walk) (t : TableMap) (k : Kept) → k ≡ kept_of t → w.server ≡ t.server → w.types.now ≡ t.types → w.chunks ≡ record { types = t.types; metadata = Some t.metadata } → w.signs ≡ list_or k.signs
     → IsStart k.default k.charsets w.characters → IsStart k.enum_default k.enum_charsets w.enums → w.names ≡ record { bytes = list_or k.names; taken = 0 }
     → w.keys.keys ≡ key_items (items lenenc (list_or k.simple)) (items (pair_with lenenc) (list_or k.prefixed)) → w.column ≡ 0 → w.json_place ≡ 0
     → columns_left w ≡ columns_by (column_at t) (length t.types)
 unfolding columns_left parts_left column_at
-walk_start w t k is types chunks signs characters enums names keys column json =
+walk_start w t k is server types chunks signs characters enums names keys column json =
     let types_same : (j : ℕ) → type_left w j ≡ type_at t j = λ j. rw (types, chunks) refl in
     subst (λ (x : Kept). columns_by (column_by (parts_left w)) (length w.types.now) ≡ columns_by (column_by (parts_with t x)) (length t.types)) is
     (ap (λ (n : ℕ). columns_by (column_by (parts_left w)) n) (ap length types) ∙
-    columns_start (parts_with t k) (parts_left w) (length t.types) types_same (λ j. rw chunks refl) (λ j. rw (types, signs) (sign_law t.types (list_or k.signs) j))
-    (charset_start w.characters w.enums k.default k.enum_default k.charsets k.enum_charsets (type_left w) (type_at t) characters enums types_same)
+    columns_start (parts_with t k) (parts_left w) (length t.types) types_same (λ j. rw chunks refl) (λ j. rw (server, types, signs) (sign_law t.server t.types (list_or k.signs) j))
+    (λ j. rw server (charset_start t.server w.characters w.enums k.default k.enum_default k.charsets k.enum_charsets (type_left w) (type_at t) characters enums types_same j))
     (λ j. rw names refl) (λ j. rw (column, keys) (keys_of_table _ j)) (λ j. rw (json, types) (omega arith)))

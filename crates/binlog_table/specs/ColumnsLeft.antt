@@ -3,9 +3,10 @@ use Rattle.std.specs.Prelude.{◌≡◌, ℕ, zero, suc, ◌+◌, ◌<◌, ◌^�
 use Rattle.std.specs.Option.{option_map}
 use Rattle.binlog_base.specs.declared.fault.Fault.{Fault}
 use Rattle.binlog_base.specs.declared.below.columns.column_type.ColumnType.{ColumnType}
+use Rattle.binlog_base.specs.declared.below.columns.server.Server.{Server}
 use Rattle.binlog_base.specs.Strings.{lenenc_string}
 use Rattle.binlog_base.specs.Items.{items}
-use Rattle.binlog_base.specs.ColumnTypes.{is_character, is_enum_or_set}
+use Rattle.binlog_base.specs.Servers.{character_group, enum_or_set_group}
 use Rattle.binlog_table.specs.declared.table_map.optional.columns.Walk.{Walk}
 use Rattle.binlog_table.specs.declared.table_map.optional.columns.TableColumn.{TableColumn}
 use Rattle.binlog_table.specs.Chunks.{chunk_left}
@@ -36,10 +37,10 @@ abbrev pub bit_here : Bool → List Bool → Bool
 bit_here true bits = first_bit bits
 bit_here false bits = false
 
-abbrev pub sign_left : List ℕ → List Bool → ℕ → Bool
-sign_left [] bits j = false
-sign_left (raw ∷ types) bits zero = bit_here (is_numeric_number raw) bits
-sign_left (raw ∷ types) bits (suc j) = sign_left types (bits_after (is_numeric_number raw) bits) j
+abbrev pub sign_left : Server → List ℕ → List Bool → ℕ → Bool
+sign_left server [] bits j = false
+sign_left server (raw ∷ types) bits zero = bit_here (is_numeric_number server raw) bits
+sign_left server (raw ∷ types) bits (suc j) = sign_left server types (bits_after (is_numeric_number server raw) bits) j
 
 abbrev pub type_left : Walk → ℕ → Result ColumnType Fault
 type_left w j = typed (real_type_of (raw_type_of (slice_get w.types.now j)) (chunk_left w.chunks j))
@@ -49,8 +50,8 @@ unfoldable pub parts_left : Walk → Parts
 parts_left w = record {
   type = type_left w;
   chunk = chunk_left w.chunks;
-  sign = sign_left w.types.now w.signs;
-  charset = charset_by (row_charset w.characters) (row_charset w.enums) (type_left w);
+  sign = sign_left w.server w.types.now w.signs;
+  charset = charset_by w.server (row_charset w.characters) (row_charset w.enums) (type_left w);
   name = named (items lenenc_string w.names.bytes);
   key = key_left w.column w.keys.keys;
   json_place = λ j. w.json_place + json_count (take j w.types.now);
@@ -67,8 +68,8 @@ pub record Follows (p q : Parts) : Type 0 where
   pub json_place : (j : ℕ) → q.json_place j ≡ p.json_place (suc j)
 
 -- the charset of a column of a type, by those of the next ordinals of the groups
-abbrev pub charset_here : ColumnType → Result ℕ Fault → Result ℕ Fault → Result ℕ Fault
-charset_here type character enum = if is_character type then character else (if is_enum_or_set type then enum else Ok 0)
+abbrev pub charset_here : Server → ColumnType → Result ℕ Fault → Result ℕ Fault → Result ℕ Fault
+charset_here server type character enum = if character_group server type then character else (if enum_or_set_group server type then enum else Ok 0)
 
 -- a group of which a column was asked, if it is in the group
 abbrev pub Advances : Bool → (ℕ → Result ℕ Fault) → (ℕ → Result ℕ Fault) → Type 0

@@ -34,7 +34,7 @@ pub record IsStart (d : Option DefaultCharset) (ns : Option (List ℕ)) (c : Cha
 -- ---- by the table map event alone
 
 abbrev pub fields_of : TableMap → FieldsLeft
-fields_of t = record { numeric = numeric_count t.types; columns = t.columns_count; left = record { bytes = t.optional_metadata; taken = 0 } }
+fields_of t = record { numeric = numeric_count t.server t.types; columns = t.columns_count; left = record { bytes = t.optional_metadata; taken = 0 } }
 
 abbrev pub kept_of : TableMap → Kept
 kept_of t = kept (before_fault (fields (fields_of t)))

@@ -4,12 +4,14 @@ use Rattle.std.specs.List.{list_any}
 use Rattle.binlog_base.specs.declared.fault.Fault.{Fault}
 use Rattle.binlog_base.specs.declared.fault.Fault.TheVariants.{BytesRemaining, UnknownOptionalField}
 use Rattle.binlog_base.specs.declared.below.columns.column_type.ColumnType.{ColumnType}
+use Rattle.binlog_base.specs.declared.below.columns.server.Server.{Server}
 use Rattle.binlog_base.specs.declared.bits.BitOrder.TheVariants.{MostSignificantFirst}
 use Rattle.binlog_base.specs.Format.{◌>>=◌}
 use Rattle.binlog_base.specs.Bits.{bit_list}
 use Rattle.binlog_base.specs.Tables.{from_table}
 use Rattle.binlog_base.specs.Items.{AreItems, items}
-use Rattle.binlog_base.specs.ColumnTypes.{column_type_of, is_numeric}
+use Rattle.binlog_base.specs.ColumnTypes.{column_type_of}
+use Rattle.binlog_base.specs.Servers.{numeric_group}
 use Rattle.binlog_consts.specs.OptionalMetadata.{optional_metadata_field_types}
 use Rattle.binlog_consts.specs.declared.consts.optional_metadata.OptionalMetadataFieldType.{OptionalMetadataFieldType}
 use Rattle.binlog_consts.specs.declared.consts.optional_metadata.OptionalMetadataFieldType.TheVariants as kind
@@ -129,13 +131,13 @@ kept fs = record { signs = last_of signs_in fs; default = last_of default_in fs;
 
 -- ---- the columns with a sign bit
 
-abbrev pub numeric_of : Result ColumnType Fault → Bool
-numeric_of (Ok type) = is_numeric type
-numeric_of (Err e) = false
+abbrev pub in_group : (ColumnType → Bool) → Result ColumnType Fault → Bool
+in_group group (Ok type) = group type
+in_group group (Err e) = false
 
--- whether a raw type is known and numeric
-unfoldable pub is_numeric_number : ℕ → Bool
-is_numeric_number raw = numeric_of (column_type_of raw)
+-- whether a raw type is known, and numeric to the server
+unfoldable pub is_numeric_number : Server → ℕ → Bool
+is_numeric_number server raw = in_group (numeric_group server) (column_type_of raw)
 
-abbrev pub numeric_count : List ℕ → ℕ
-numeric_count types = count_by is_numeric_number types
+abbrev pub numeric_count : Server → List ℕ → ℕ
+numeric_count server types = count_by (is_numeric_number server) types

@@ -4,17 +4,18 @@ use Rattle.std.specs.Option.{option_map}
 use Rattle.binlog_base.specs.declared.fault.Fault.{Fault}
 use Rattle.binlog_base.specs.declared.fault.Fault.TheVariants.{NoColumnType}
 use Rattle.binlog_base.specs.declared.below.columns.column_type.ColumnType.{ColumnType}
+use Rattle.binlog_base.specs.declared.below.columns.server.Server.{Server}
 use Rattle.binlog_base.specs.Format.{◌>>=◌}
 use Rattle.binlog_base.specs.Numbers.{lenenc}
 use Rattle.binlog_base.specs.Strings.{lenenc_string}
 use Rattle.binlog_base.specs.Items.{items, result_map}
-use Rattle.binlog_base.specs.ColumnTypes.{is_character, is_enum_or_set}
+use Rattle.binlog_base.specs.Servers.{character_group, enum_or_set_group}
 use Rattle.binlog_table.specs.declared.table_map.bad_column_type.BadColumnType.{BadColumnType}
 use Rattle.binlog_table.specs.TableMap.{TableMap}
 use Rattle.binlog_table.specs.Chunks.{chunk_at}
 use Rattle.binlog_table.specs.ColumnTypes.{column_type_at, json_count, fault_of}
 use Rattle.binlog_table.specs.Lists.{DefaultCharset, low_bits, pair_with}
-use Rattle.binlog_table.specs.Fields.{is_numeric_number, numeric_count}
+use Rattle.binlog_table.specs.Fields.{in_group, is_numeric_number, numeric_count}
 use Rattle.binlog_table.specs.Keys.{key_items, key_at as key_in}
 use Rattle.binlog_table.specs.Charsets.{charset_at as charset_in, zero_without}
 use Rattle.binlog_table.specs.Extracted.{list_or, pairs_or, kept_of, field_fault}
@@ -75,20 +76,16 @@ named [] i = Ok None
 named (x ∷ xs) zero = result_map Some x
 named (x ∷ xs) (suc i) = named xs i
 
-abbrev pub is_numeric_at : List ℕ → ℕ → Bool
-is_numeric_at [] i = false
-is_numeric_at (raw ∷ types) zero = is_numeric_number raw
-is_numeric_at (raw ∷ types) (suc i) = is_numeric_at types i
+abbrev pub is_numeric_at : Server → List ℕ → ℕ → Bool
+is_numeric_at server [] i = false
+is_numeric_at server (raw ∷ types) zero = is_numeric_number server raw
+is_numeric_at server (raw ∷ types) (suc i) = is_numeric_at server types i
 
--- the k-th numeric column has the k-th bit
-abbrev pub sign_in : List ℕ → List Bool → ℕ → Bool
-sign_in types bits i = is_numeric_at types i && slice_index_or bits (numeric_count (take i types)) false
+-- the k-th column that is numeric to the server has the k-th bit
+abbrev pub sign_in : Server → List ℕ → List Bool → ℕ → Bool
+sign_in server types bits i = is_numeric_at server types i && slice_index_or bits (numeric_count server (take i types)) false
 
 -- the place of column i in a group of types: how many columns before it are in the group
-abbrev pub in_group : (ColumnType → Bool) → Result ColumnType Fault → Bool
-in_group group (Ok type) = group type
-in_group group (Err e) = false
-
 abbrev pub one_more : Bool → ℕ → ℕ
 one_more true n = suc n
 one_more false n = n
@@ -97,11 +94,12 @@ abbrev pub ordinal_of : (ColumnType → Bool) → (ℕ → Result ColumnType Fau
 ordinal_of group type zero = 0
 ordinal_of group type (suc i) = one_more (in_group group (type 0)) (ordinal_of group (λ k. type (suc k)) i)
 
--- the charset of column i, by those of the places of two groups; a column of neither has 0
-abbrev pub charset_by : (ℕ → Result ℕ Fault) → (ℕ → Result ℕ Fault) → (ℕ → Result ColumnType Fault) → ℕ → Result ℕ Fault
-charset_by characters enums type i =
-    if in_group is_character (type i) then characters (ordinal_of is_character type i) else
-    (if in_group is_enum_or_set (type i) then enums (ordinal_of is_enum_or_set type i) else Ok 0)
+-- the charset of column i, by those of the places of two groups of the server; a column of neither
+-- has 0
+abbrev pub charset_by : Server → (ℕ → Result ℕ Fault) → (ℕ → Result ℕ Fault) → (ℕ → Result ColumnType Fault) → ℕ → Result ℕ Fault
+charset_by server characters enums type i =
+    if in_group (character_group server) (type i) then characters (ordinal_of (character_group server) type i) else
+    (if in_group (enum_or_set_group server) (type i) then enums (ordinal_of (enum_or_set_group server) type i) else Ok 0)
 
 abbrev pub charset_of_group : Option DefaultCharset → Option (List ℕ) → ℕ → Result ℕ Fault
 charset_of_group d list k = zero_without (charset_in (option_map (λ d. d.default) d) (pairs_or d) (items (low_bits 16) (list_or list)) k)
@@ -112,10 +110,10 @@ abbrev pub type_at : TableMap → ℕ → Result ColumnType Fault
 type_at t i = typed (column_type_at t.types t.metadata i)
 
 abbrev pub sign_at : TableMap → ℕ → Bool
-sign_at t i = sign_in t.types (list_or (kept_of t).signs) i
+sign_at t i = sign_in t.server t.types (list_or (kept_of t).signs) i
 
 abbrev pub charset_at : TableMap → ℕ → Result ℕ Fault
-charset_at t i = charset_by (charset_of_group (kept_of t).default (kept_of t).charsets) (charset_of_group (kept_of t).enum_default (kept_of t).enum_charsets) (type_at t) i
+charset_at t i = charset_by t.server (charset_of_group (kept_of t).default (kept_of t).charsets) (charset_of_group (kept_of t).enum_default (kept_of t).enum_charsets) (type_at t) i
 
 abbrev pub name_at : TableMap → ℕ → Result (Option (List ℕ)) Fault
 name_at t i = named (items lenenc_string (list_or (kept_of t).names)) i

@@ -14,19 +14,31 @@ ghost use Rattle.binlog_table.specs.Charsets.{charset_items};
 ghost use Rattle.binlog_table.specs.CharsetsLeft.{CharsetsLeft, charsets_of};
 ghost use Rattle.binlog_table.specs.Extracted.{IsStart, pairs_or, list_or};
 ghost use Rattle.binlog_table.specs.TableColumns.{Column, column_at, table_columns};
-ghost use Rattle.binlog_table.specs.TableMap.{TableMap, table_map};
+ghost use Rattle.binlog_base.specs.declared.below.columns.server.Server.{Server};
+ghost use Rattle.binlog_table.specs.TableMap.{TableMap, of_server, table_map_of};
 ghost use Rattle.binlog_table.specs.TableMapWritten.{IsTableMap, written_table_map};
 
 use crate::table_map::optional::ListKind;
 
-/// What is written of a table map event spells the event, and so is read as the same event, for each
-/// post-header length with a table id of six bytes.
+/// What is written of a table map event spells the event, and so is read as the same event of the same
+/// server, for each post-header length with a table id of six bytes.
 #[tactic(auto, using(crate::specs::Lemmas::TableMapWritten::written_table_map_spelled, crate::specs::Lemmas::TableMapWritten::written_table_map_reads_back))]
 pub fn written_table_maps_read_back()
     ensures spelled { (t : TableMap) → IsTableMap t → (n : ℕ) → n ≢ 6
-        → (table_map n).spells (written_table_map t) t }
+        → (table_map_of t.server n).spells (written_table_map t) t }
     ensures reads_back { (t : TableMap) → IsTableMap t → (n : ℕ) → n ≢ 6
-        → (table_map n).parse (written_table_map t) ≡ Ok (t, []) }
+        → (table_map_of t.server n).parse (written_table_map t) ≡ Ok (t, []) }
+{}
+
+/// No byte of a table map event tells the server: bytes that are read as an event of one server are
+/// read as the same event of each other, or are refused for each with the same fault.
+pub fn servers_share_the_layout()
+    ensures spelled { (s r : Server) (n : ℕ) (x : List ℕ) (t : TableMap)
+        → (table_map_of s n).spells x t → (table_map_of r n).spells x (of_server r t) }
+    ensures refused { (s r : Server) (n : ℕ) (x : List ℕ) (e : Fault)
+        → (table_map_of s n).refuses x e → (table_map_of r n).refuses x e }
+    ensures server { (s : Server) (n : ℕ) (x : List ℕ) (t : TableMap)
+        → (table_map_of s n).spells x t → t.server ≡ s }
 {}
 
 /// The items of a list are those that its bytes hold, up to the first fault, and no others.

@@ -5,8 +5,9 @@ use Rattle.std.specs.List.{concat}
 use Rattle.std.proofs.lemmas.List.{append-nil}
 use Rattle.binlog_base.specs.declared.fault.Fault.{Fault}
 use Rattle.binlog_base.specs.Lemmas.Format.{ok_is, err_is, ok_or_err}
-use Rattle.binlog_table.specs.TableMap.{TableMap, table_map}
-use Rattle.binlog_table.specs.Lemmas.TableMap.{exact_table_map}
+use Rattle.binlog_base.specs.declared.below.columns.server.Server.{Server}
+use Rattle.binlog_table.specs.TableMap.{TableMap, of_server, table_map_of}
+use Rattle.binlog_table.specs.Lemmas.TableMap.{exact_table_map, same_table_map}
 use Rattle.mysql_binlog_rows.specs.RowsEvent.{RowsEvent, rows_event}
 use Rattle.mysql_binlog_rows.specs.Lemmas.RowsEvent.{exact_rows_event}
 use Rattle.mysql_binlog_rows.specs.Images.{Pair, pair}
@@ -17,7 +18,7 @@ use Rattle.mysql_binlog_rows.proofs.Covers.{covers_one}
 
 table_one : (i : Input) (t u : TableMap) → IsTable i t → IsTable i u → t ≡ u
 table_one i t u ht hu =
-    let ef = exact_table_map i.table_post_header_len in
+    let ef = exact_table_map i.server i.table_post_header_len in
     ap (λ (p : TableMap × List ℕ). p.0) (ok_is (t, []) (u, []) (sym (ef.complete i.table t ht) ∙ ef.complete i.table u hu))
 
 event_one : (i : Input) (d e : RowsEvent) → IsEvent i d → IsEvent i e → d ≡ e
@@ -46,7 +47,7 @@ all_decode i parts ps h = record {
 -- ---- a refused event can't be read, and has only one fault
 
 abbrev table_at : Input → Result (TableMap × List ℕ) Fault
-table_at i = (table_map i.table_post_header_len).parse i.table
+table_at i = (table_map_of i.server i.table_post_header_len).parse i.table
 
 abbrev event_at : Input → Result (RowsEvent × List ℕ) Fault
 event_at i = (rows_event i.ctx).parse i.rows
@@ -56,7 +57,7 @@ refusal e = Err e
 
 pub table_refused : {A : Type 0} (i : Input) (d e : Fault) → table_at i ≡ Err d → IsRefused i e → refusal {A = A} d ≡ refusal e
 table_refused {A} i d e h r =
-    let ef = exact_table_map i.table_post_header_len in
+    let ef = exact_table_map i.server i.table_post_header_len in
     elim r [
       | inl l ↦ ap (refusal {A = A}) (err_is d e (sym h ∙ ef.refused_complete i.table e l))
       | inr o ↦ absurd (ok_or_err (table_at i) (o.0, []) d (ef.complete i.table o.0 o.1) h)
@@ -64,7 +65,7 @@ table_refused {A} i d e h r =
 
 pub event_refused : {A : Type 0} (i : Input) (t : TableMap) (d e : Fault) → IsTable i t → event_at i ≡ Err d → IsRefused i e → refusal {A = A} d ≡ refusal e
 event_refused {A} i t d e is h r =
-    let tf = exact_table_map i.table_post_header_len in
+    let tf = exact_table_map i.server i.table_post_header_len in
     let ef = exact_rows_event i.ctx in
     elim r [
       | inl l ↦ absurd (ok_or_err (table_at i) (t, []) e (tf.complete i.table t is) (tf.refused_complete i.table e l))
@@ -73,9 +74,20 @@ event_refused {A} i t d e is h r =
 
 pub none_refused : (i : Input) (t : TableMap) (v : RowsEvent) (e : Fault) → IsTable i t → IsEvent i v → IsRefused i e → ⊥
 none_refused i t v e is_table is_event r =
-    let tf = exact_table_map i.table_post_header_len in
+    let tf = exact_table_map i.server i.table_post_header_len in
     let ef = exact_rows_event i.ctx in
     elim r [
       | inl l ↦ ok_or_err (table_at i) (t, []) e (tf.complete i.table t is_table) (tf.refused_complete i.table e l)
       | inr o ↦ ok_or_err (event_at i) (v, []) e (ef.complete i.rows v is_event) (ef.refused_complete i.rows e o.2)
     ]
+
+-- ---- an event that is read, or refused, as MySQL's is the same event of each server
+
+pub read_as : (s r : Server) (n : ℕ) (x : List ℕ) (t u : TableMap) → (table_map_of s n).spells x t → u ≡ of_server r t → (table_map_of r n).spells x u
+read_as s r n x t u h is = rw is ((same_table_map s r n).spells x t h)
+
+pub refused_as : (s r : Server) (n : ℕ) (x : List ℕ) (e : Fault) → (table_map_of s n).refuses x e → (table_map_of r n).refuses x e
+refused_as s r n x e h = (same_table_map s r n).refuses x e h
+
+pub fault_as : (s r : Server) (n : ℕ) (x : List ℕ) (e : Fault) → (table_map_of s n).parse x ≡ Err e → (table_map_of r n).parse x ≡ Err e
+fault_as s r n x e h = (exact_table_map r n).refused_complete x e (refused_as s r n x e ((exact_table_map s n).refused_sound x e h))

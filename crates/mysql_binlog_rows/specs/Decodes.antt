@@ -3,24 +3,31 @@ use Rattle.std.specs.Prelude.{◌≡◌, ◌≢◌, ℕ, List, Option, None, Res
 use Rattle.std.specs.List.{concat}
 use Rattle.binlog_base.specs.declared.fault.Fault.{Fault}
 use Rattle.binlog_base.specs.declared.fault.Fault.TheVariants.{Memory}
-use Rattle.binlog_table.specs.TableMap.{TableMap, table_map}
+use Rattle.binlog_base.specs.declared.below.columns.server.Server.{Server}
+use Rattle.binlog_base.specs.declared.below.columns.server.Server.TheVariants.{MySql}
+use Rattle.binlog_table.specs.TableMap.{TableMap, table_map_of}
 use Rattle.mysql_binlog_rows.specs.declared.rows_event.event.RowsEventCtx.{RowsEventCtx}
 use Rattle.mysql_binlog_rows.specs.RowsEvent.{RowsEvent, rows_event}
 use Rattle.mysql_binlog_rows.specs.Images.{Pair, pair}
 use Rattle.mysql_binlog_rows.specs.Cover.{ArePairs, Covers}
 
--- the bytes of both events, and what is needed to read them
+-- the server, the bytes of both its events, and what is needed to read them
 pub record Input : Type 0 where
+  pub server : Server
   pub table : List ℕ
   pub table_post_header_len : ℕ
   pub rows : List ℕ
   pub ctx : RowsEventCtx
 
+abbrev pub input_of : Server → List ℕ → ℕ → List ℕ → RowsEventCtx → Input
+input_of server table table_post_header_len rows ctx = record { server = server; table = table; table_post_header_len = table_post_header_len; rows = rows; ctx = ctx }
+
+-- those of MySQL
 abbrev pub input : List ℕ → ℕ → List ℕ → RowsEventCtx → Input
-input table table_post_header_len rows ctx = record { table = table; table_post_header_len = table_post_header_len; rows = rows; ctx = ctx }
+input table table_post_header_len rows ctx = input_of MySql table table_post_header_len rows ctx
 
 abbrev pub IsTable : Input → TableMap → Type 0
-IsTable i t = (table_map i.table_post_header_len).spells i.table t
+IsTable i t = (table_map_of i.server i.table_post_header_len).spells i.table t
 
 abbrev pub IsEvent : Input → RowsEvent → Type 0
 IsEvent i e = (rows_event i.ctx).spells i.rows e
@@ -45,7 +52,7 @@ pub record IsAllPairs (i : Input) (parts : List (List ℕ)) (pairs : List Pair) 
 -- an event is refused with this fault; the table map event's fault if both are refused
 abbrev pub IsRefused : Input → Fault → Type 0
 IsRefused i e =
-    (table_map i.table_post_header_len).refuses i.table e
+    (table_map_of i.server i.table_post_header_len).refuses i.table e
     ⊎ ((t : TableMap) × IsTable i t × (rows_event i.ctx).refuses i.rows e)
 
 -- The result of decoding the input; `view` takes the pairs and the fault out of a successful result.

@@ -4,6 +4,6 @@ mod decode;
 mod event;
 mod rows;
 
-pub use decode::{Decoded, decode_pairs};
+pub use decode::{Decoded, decode_pairs, decode_pairs_of};
 pub use event::{RowsEvent, RowsEventCtx};
 pub use rows::{RowPair, RowsEventRows};

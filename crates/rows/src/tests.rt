@@ -14,6 +14,7 @@ mod optional_metadata;
 mod partial;
 mod program;
 mod readers;
+mod servers;
 mod table_map;
 mod times;
 mod trees;

@@ -252,3 +252,26 @@ pub reads_from_parses : {X Y : Type 0} (to_end takes : Bool) (view : X → Y) (f
 reads_from_parses to_end false view f ef r old new h = parses_read to_end view f ef r old new h
 reads_from_parses to_end true view f ef (Ok x) old new h = parses_read to_end view f ef (Ok x) old new h
 reads_from_parses to_end true view f ef (Err e) old new h = λ other. parses_read to_end view f ef (Err e) old new (h other)
+
+-- ---- the same format, with another value
+
+-- what spells a value in the first format spells in the second the value that is made of it, and
+-- both refuse the same bytes with the same fault
+pub record IsSame {A B : Type 0} (m : A → B) (f : Format A) (g : Format B) : Type 0 where
+  pub spells : (x : List ℕ) (a : A) → f.spells x a → g.spells x (m a)
+  pub refuses : (x : List ℕ) (e : Fault) → f.refuses x e → g.refuses x e
+
+pub same_sequence : {A B C : Type 0} (m : B → C) (f : Format A) (g : A → Format B) (h : A → Format C) → ((a : A) → IsSame m (g a) (h a)) → IsSame m (sequence f g) (sequence f h)
+same_sequence m f g h same = record {
+  spells = λ x b s. (s.0, s.1, s.2, s.3, s.4, (same s.0).spells s.2 b s.5);
+  refuses = λ x e r. elim r [
+    | inl l ↦ inl l
+    | inr o ↦ inr (o.0, o.1, o.2, o.3, o.4, (same o.0).refuses o.2 e o.5)
+  ];
+}
+
+pub same_map_value : {A B C : Type 0} (m : B → C) (f : Format A) (g : A → B) → IsSame m (map_value f g) (map_value f (λ a. m (g a)))
+same_map_value m f g = same_sequence m f (λ a. no_bytes (g a)) (λ a. no_bytes (m (g a))) (λ a. record {
+  spells = λ x b s. (s.0, ap m s.1);
+  refuses = λ x e r. r;
+})

@@ -5,6 +5,7 @@ mod column_flags;
 mod column_type;
 mod geometry;
 mod row;
+mod server;
 mod value;
 
 pub use column::Column;
@@ -12,4 +13,5 @@ pub use column_flags::ColumnFlags;
 pub use column_type::{ColumnType, UnknownColumnType};
 pub use geometry::{GeometryType, UnknownGeometryType};
 pub use row::{Row, new_row_raw};
+pub use server::Server;
 pub use value::Value;

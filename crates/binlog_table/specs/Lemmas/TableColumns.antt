@@ -10,7 +10,8 @@ use Rattle.binlog_base.specs.declared.below.columns.column_type.ColumnType.{Colu
 use Rattle.binlog_base.specs.Faults.{IsOfBytes, OfBytes}
 use Rattle.binlog_base.specs.Format.{Format, IsExact}
 use Rattle.binlog_base.specs.Tables.{from_table}
-use Rattle.binlog_base.specs.ColumnTypes.{is_character, is_enum_or_set}
+use Rattle.binlog_base.specs.declared.below.columns.server.Server.{Server}
+use Rattle.binlog_base.specs.Servers.{character_group, enum_or_set_group}
 use Rattle.binlog_base.specs.Numbers.{lenenc}
 use Rattle.binlog_base.specs.Strings.{lenenc_string}
 use Rattle.binlog_base.specs.Items.{AreItems, Eats, items, before_fault, first_fault, result_map}
@@ -28,11 +29,11 @@ use Rattle.binlog_table.specs.TableMap.{TableMap}
 use Rattle.binlog_table.specs.ColumnTypes.{column_type_at}
 use Rattle.binlog_table.specs.Lists.{DefaultCharset, RawField, raw_field, default_charset, low_bits, pair_with}
 use Rattle.binlog_table.specs.Lemmas.Lists.{exact_low_bits, eats_low_bits, exact_pair_with, eats_pair_with, exact_raw_field, eats_raw_field, exact_default_charset}
-use Rattle.binlog_table.specs.Fields.{whole, bits_for, default_charset_in, value_of, field_of, is_item}
+use Rattle.binlog_table.specs.Fields.{in_group, whole, bits_for, default_charset_in, value_of, field_of, is_item}
 use Rattle.binlog_table.specs.Keys.{unless, key_items, key_at as key_in}
 use Rattle.binlog_table.specs.Charsets.{pairs_from, above_from, charset_in as pair_at, listed, after, or_else, charset_above, charset_at as charset_in, zero_without}
 use Rattle.binlog_table.specs.Extracted.{list_or, pairs_or, kept_of, field_fault}
-use Rattle.binlog_table.specs.TableColumns.{typed, named, in_group, ordinal_of, charset_by, charset_of_group, type_at, charset_at, name_at, key_at, column_at}
+use Rattle.binlog_table.specs.TableColumns.{typed, named, ordinal_of, charset_by, charset_of_group, type_at, charset_at, name_at, key_at, column_at}
 
 -- ---- results and lists whose faults are of bytes
 
@@ -154,13 +155,13 @@ charset_sound default pairs list k p l = above_sound 0 default pairs list k p l
 group_sound : (d : Option DefaultCharset) (list : Option (List ℕ)) (k : ℕ) → OfBytes (charset_of_group d list k)
 group_sound d list k = zero_sound _ (charset_sound _ (pairs_or d) (items (low_bits 16) (list_or list)) k (pairs_sound d) (items_sound (low_bits 16) (exact_low_bits 16) (eats_low_bits 16) (list_or list)))
 
-by_sound : (f g : ℕ → Result ℕ Fault) (type : ℕ → Result ColumnType Fault) (i : ℕ) → ((k : ℕ) → OfBytes (f k)) → ((k : ℕ) → OfBytes (g k)) → OfBytes (charset_by f g type i)
-by_sound f g type i hf hg =
-    let character = f (ordinal_of is_character type i) in
-    let enum = g (ordinal_of is_enum_or_set type i) in
+by_sound : (server : Server) (f g : ℕ → Result ℕ Fault) (type : ℕ → Result ColumnType Fault) (i : ℕ) → ((k : ℕ) → OfBytes (f k)) → ((k : ℕ) → OfBytes (g k)) → OfBytes (charset_by server f g type i)
+by_sound server f g type i hf hg =
+    let character = f (ordinal_of (character_group server) type i) in
+    let enum = g (ordinal_of (enum_or_set_group server) type i) in
     let no_charset : Result ℕ Fault = Ok 0 in
-    let is_enum = in_group is_enum_or_set (type i) in
-    cond_of_bytes (in_group is_character (type i)) character (if is_enum then enum else no_charset) (hf _) (cond_of_bytes is_enum enum no_charset (hg _) tt)
+    let is_enum = in_group (enum_or_set_group server) (type i) in
+    cond_of_bytes (in_group (character_group server) (type i)) character (if is_enum then enum else no_charset) (hf _) (cond_of_bytes is_enum enum no_charset (hg _) tt)
 
 -- ---- columns
 
@@ -174,7 +175,7 @@ unfolding column_at
 column_sound t i =
     let k = kept_of t in
     bind_of_bytes (type_at t i) _ (type_sound (column_type_at t.types t.metadata i)) (λ type.
-    bind_of_bytes (charset_at t i) _ (by_sound (charset_of_group k.default k.charsets) (charset_of_group k.enum_default k.enum_charsets) (type_at t) i (group_sound k.default k.charsets) (group_sound k.enum_default k.enum_charsets)) (λ charset.
+    bind_of_bytes (charset_at t i) _ (by_sound t.server (charset_of_group k.default k.charsets) (charset_of_group k.enum_default k.enum_charsets) (type_at t) i (group_sound k.default k.charsets) (group_sound k.enum_default k.enum_charsets)) (λ charset.
     bind_of_bytes (name_at t i) _ (named_sound _ i (items_sound lenenc_string exact_lenenc_string eats_lenenc_string (list_or k.names))) (λ name.
     bind_of_bytes (key_at t i) _ (key_sound _ i (keys_sound (list_or k.simple) (list_or k.prefixed))) (λ is_key. tt))))
 

@@ -7,7 +7,7 @@ use Rattle.binlog_base.specs.Numbers.{lenenc_bytes}
 use Rattle.binlog_base.specs.Lemmas.NumbersWritten.{little_written, lenenc_written}
 use Rattle.binlog_base.specs.Strings.{skip_bytes, u8_string_bytes, lenenc_string_bytes}
 use Rattle.binlog_base.specs.Lemmas.Strings.{u8_string_written, lenenc_string_written}
-use Rattle.binlog_table.specs.TableMap.{TableMap, table_id, table_map}
+use Rattle.binlog_table.specs.TableMap.{TableMap, table_id, table_map_of}
 use Rattle.binlog_table.specs.TableMapWritten.{IsTableMap, name_bytes, columns_bytes, written_table_map}
 use Rattle.binlog_table.specs.Lemmas.TableMap.{exact_table_map}
 
@@ -27,8 +27,8 @@ unfolding name_bytes
 name_then name more = append_assoc (u8_string_bytes name) (0 ∷ []) more
 
 -- What is written of an event spells it.
-pub written_table_map_spelled : (n : ℕ) (t : TableMap) → n ≢ 6 → IsTableMap t → (table_map n).spells (written_table_map t) t
-unfolding table_map written_table_map columns_bytes
+pub written_table_map_spelled : (n : ℕ) (t : TableMap) → n ≢ 6 → IsTableMap t → (table_map_of t.server n).spells (written_table_map t) t
+unfolding table_map_of written_table_map columns_bytes
 written_table_map_spelled n t other w =
     let columns = columns_bytes t in (
       t.table_id,
@@ -110,5 +110,5 @@ written_table_map_spelled n t other w =
     )
 
 -- So it is read as the same event.
-pub written_table_map_reads_back : (n : ℕ) (t : TableMap) → n ≢ 6 → IsTableMap t → (table_map n).parse (written_table_map t) ≡ Ok (t, [])
-written_table_map_reads_back n t other w = (exact_table_map n).complete (written_table_map t) t (written_table_map_spelled n t other w)
+pub written_table_map_reads_back : (n : ℕ) (t : TableMap) → n ≢ 6 → IsTableMap t → (table_map_of t.server n).parse (written_table_map t) ≡ Ok (t, [])
+written_table_map_reads_back n t other w = (exact_table_map t.server n).complete (written_table_map t) t (written_table_map_spelled n t other w)

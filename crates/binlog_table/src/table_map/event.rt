@@ -9,7 +9,7 @@ use super::optional::OptionalMetadataIter;
 use super::table_id::TableId;
 use binlog_base::below::{
     BareBytes, ColumnType, EofBytes, IntRepr, LeU16, LenEnc, MyDeserialize, ParseBuf, RawBytes,
-    Skip, U8, U8Bytes, UnknownColumnType,
+    Server, Skip, U8, U8Bytes, UnknownColumnType,
 };
 use binlog_base::bits::{BitOrder, BitView, bitmap_len};
 use binlog_base::fault::Fault;
@@ -21,6 +21,7 @@ use std::marker::Model;
 /// table id. The optional metadata is kept as bytes.
 #[derive(Debug, PartialEq, Eq, Drop)]
 pub struct TableMapEvent<'a> {
+    server: Server,
     table_id: TableId,
     flags: u16,
     database_name: RawBytes<'a, U8Bytes>,
@@ -39,6 +40,7 @@ impl<'a> Model for TableMapEvent<'a> {
     ghost Value = { TableMap };
 
     ghost view = { λ t. record {
+      server = t.server;
       table_id = t.table_id;
       flags = t.flags;
       database = t.database_name;
@@ -51,6 +53,7 @@ impl<'a> Model for TableMapEvent<'a> {
     } };
 
     ghost invariant = { λ t. IsTableMap (record {
+      server = t.server;
       table_id = t.table_id;
       flags = t.flags;
       database = t.database_name;
@@ -63,6 +66,7 @@ impl<'a> Model for TableMapEvent<'a> {
     }) };
 
     ghost inverse = { λ t. record {
+      server = t.server;
       table_id = t.table_id;
       flags = t.flags;
       database_name = t.database;
@@ -84,7 +88,7 @@ impl<'a> TableMapEvent<'a> {
     ghost use Rattle.binlog_base.specs.declared.bits.BitOrder.TheVariants.{LeastSignificantFirst};
     ghost use Rattle.binlog_base.specs.Bits.{bits_of};
     ghost use Rattle.binlog_base.specs.Format.{Parses};
-    ghost use Rattle.binlog_table.specs.TableMap.{table_map};
+    ghost use Rattle.binlog_table.specs.TableMap.{table_map, of_server};
     ghost use Rattle.binlog_table.specs.Extracted.{fields_of};
     ghost use Rattle.binlog_table.specs.Chunks.{chunk_at, HasChunk};
     ghost use Rattle.binlog_table.specs.ColumnTypes.{raw_type_of, real_type_of, column_type_at, json_count};
@@ -101,7 +105,7 @@ impl<'a> TableMapEvent<'a> {
     }
 
     // Reads all parts of the event, one after the other.
-    #[tactic(auto, unfolding(crate::specs::TableMap::table_map))]
+    #[tactic(auto, unfolding(crate::specs::TableMap::table_map_of))]
     fn read(post_header_len: u8, buf: &mut ParseBuf<'a>) -> Result<Self, Fault>
         ensures { Parses (table_map post_header_len) result buf.old.0.now buf.new.0.now }
     {
@@ -117,6 +121,7 @@ impl<'a> TableMapEvent<'a> {
         let null_bitmask = buf.parse(bitmap_len(columns_count as usize))?;
         let optional_metadata = buf.parse(())?;
         Ok(TableMapEvent {
+            server: Server::MySql,
             table_id,
             flags,
             database_name,
@@ -127,6 +132,22 @@ impl<'a> TableMapEvent<'a> {
             null_bitmask,
             optional_metadata,
         })
+    }
+
+    /// Returns the same event, read as one of the server's: its optional metadata is read by the
+    /// server's groups of column types.
+    pub fn with_server(self, server: Server) -> Self
+        ensures { result ≡ of_server server self.entry }
+    {
+        TableMapEvent { server, ..self }
+    }
+
+    /// Returns the server by whose groups of column types the optional metadata is read: MySQL
+    /// unless `with_server` said otherwise.
+    pub fn server(&self) -> Server
+        ensures { result ≡ self.now.server }
+    {
+        self.server
     }
 
     /// Returns the table id: the number by which rows events refer to the table.
@@ -208,11 +229,12 @@ impl<'a> TableMapEvent<'a> {
     pub fn iter_optional_meta(&self) -> OptionalMetadataIter<'_>
         ensures { result ≡ fields_of self.now }
     {
+        let server = self.server;
         let numeric = self
             .columns_type
             .as_bytes()
             .iter()
-            .filter(|raw| is_numeric(**raw))
+            .filter(|raw| is_numeric(server, **raw))
             .count();
         OptionalMetadataIter::new(
             numeric,
@@ -300,6 +322,7 @@ impl<'a> TableMapEvent<'a> {
 impl<'de> MyDeserialize<'de> for TableMapEvent<'de> {
     ghost use Rattle.std.specs.Prelude.{true};
     ghost use Rattle.binlog_base.specs.Format.{Parses, ReadsAll};
+    ghost use Rattle.binlog_base.specs.declared.below.columns.server.Server.TheVariants.{MySql};
     ghost use Rattle.binlog_table.specs.TableMap as Spec;
     ghost use Rattle.binlog_table.specs.Lemmas.TableMap.{exact_table_map};
 
@@ -311,7 +334,7 @@ impl<'de> MyDeserialize<'de> for TableMapEvent<'de> {
 
     ghost to_end = { true };
 
-    ghost exact = { exact_table_map };
+    ghost exact = { exact_table_map MySql };
 
     const SIZE: Option<usize> = None;
 

@@ -8,7 +8,7 @@ ghost use Rattle.binlog_base.specs.ColumnTypes.{column_type_of};
 ghost use Rattle.binlog_table.specs.Fields.{is_numeric_number};
 
 use super::bad_column_type::BadColumnType;
-use binlog_base::below::{ColumnType, Constant, IntRepr, ParseBuf, U8};
+use binlog_base::below::{ColumnType, Constant, IntRepr, ParseBuf, Server, U8};
 use binlog_base::fault::Fault;
 
 // Returns how many bytes of metadata a column of this type has; 0 for TYPED_ARRAY, whose metadata
@@ -123,13 +123,13 @@ pub(super) fn real_type(
     }
 }
 
-/// Whether a raw type is known and numeric.
+/// Whether a raw type is known, and numeric to the server.
 #[tactic(auto, unfolding(crate::specs::Fields::is_numeric_number))]
-pub(super) fn is_numeric(raw: u8) -> bool
-    ensures { result ≡ is_numeric_number raw }
+pub(super) fn is_numeric(server: Server, raw: u8) -> bool
+    ensures { result ≡ is_numeric_number server raw }
 {
     match ColumnType::from_number(raw) {
-        Ok(column_type) => column_type.is_numeric_type(),
+        Ok(column_type) => server.is_numeric(column_type),
         Err(_) => false,
     }
 }

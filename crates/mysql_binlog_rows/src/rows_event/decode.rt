@@ -4,11 +4,11 @@ ghost use Rattle.std.specs.Prelude.{◌≡◌, IfOk, IfErr};
 ghost use Rattle.binlog_base.specs.declared.fault.Fault.TheVariants as Fault;
 ghost use Rattle.mysql_binlog_rows.specs.Images.{pair};
 ghost use Rattle.mysql_binlog_rows.specs.Cover.{Covers};
-ghost use Rattle.mysql_binlog_rows.specs.Decodes.{input, DecodesAs};
+ghost use Rattle.mysql_binlog_rows.specs.Decodes.{input, input_of, DecodesAs};
 
 use super::event::{RowsEvent, RowsEventCtx};
 use super::rows::RowPair;
-use binlog_base::below::ParseBuf;
+use binlog_base::below::{ParseBuf, Server};
 use binlog_base::fault::Fault;
 use binlog_table::table_map::TableMapEvent;
 use std::alloc::Global;
@@ -50,7 +50,7 @@ fn pairs_of(
 }
 
 /// Reads a table map event and a rows event of MySQL's binary log, and all pairs of rows of the
-/// rows event up to its first fault.
+/// rows event up to its first fault. It is `decode_pairs_of` for `Server::MySql`.
 ///
 /// `table_bytes` and `rows_bytes` are the events' bodies: the bytes after the event header, without
 /// a checksum.
@@ -71,7 +71,32 @@ pub fn decode_pairs(
     ensures { DecodesAs (λ d. (d.pairs.items, d.fault))
         (input table_bytes.now table_post_header_len rows_bytes.now ctx) result }
 {
+    decode_pairs_of(
+        alloc,
+        Server::MySql,
+        table_bytes,
+        table_post_header_len,
+        rows_bytes,
+        ctx,
+    )
+}
+
+/// Reads a table map event and a rows event of the server's binary log, and all pairs of rows of the
+/// rows event up to its first fault, as `decode_pairs` does: the table map event is read as one of
+/// the server's.
+pub fn decode_pairs_of(
+    alloc: Global,
+    server: Server,
+    table_bytes: &[u8],
+    table_post_header_len: u8,
+    rows_bytes: &[u8],
+    ctx: RowsEventCtx,
+) -> Result<Decoded, Fault>
+    ensures { DecodesAs (λ d. (d.pairs.items, d.fault))
+        (input_of server table_bytes.now table_post_header_len rows_bytes.now ctx) result }
+{
     let table: TableMapEvent<'_> = ParseBuf(table_bytes).parse(table_post_header_len)?;
+    let table = table.with_server(server);
     let event: RowsEvent<'_> = ParseBuf(rows_bytes).parse(ctx)?;
     pairs_of(alloc, &table, &event)
 }

@@ -3,7 +3,7 @@
 ghost use Rattle.std.specs.Prelude.{◌≡◌, ◌≢◌, ◌≤◌, ◌++◌, ℕ, IfOk, length};
 ghost use Rattle.binlog_base.specs.Strings.{lenenc_string_bytes};
 ghost use Rattle.binlog_base.specs.Writing.{Appends};
-ghost use Rattle.binlog_table.specs.TableMap.{table_map};
+ghost use Rattle.binlog_table.specs.TableMap.{table_map_of};
 ghost use Rattle.binlog_table.specs.TableMapWritten.{name_bytes, columns_bytes, written_table_map};
 
 use super::TableMapEvent;
@@ -73,6 +73,7 @@ impl<'a> TableMapEvent<'a> {
         ensures { IfOk result (λ owned. owned ≡ self.entry) }
     {
         Ok(TableMapEvent {
+            server: self.server,
             table_id: self.table_id,
             flags: self.flags,
             database_name: self.database_name.into_owned(alloc)?,
@@ -90,6 +91,7 @@ impl<'a> TableMapEvent<'a> {
         ensures { IfOk result (λ copy. copy ≡ self.now) }
     {
         Ok(TableMapEvent {
+            server: self.server,
             table_id: self.table_id,
             flags: self.flags,
             database_name: self.database_name.clone(alloc)?,
@@ -112,7 +114,8 @@ impl<'a> MySerialize for TableMapEvent<'a> {
     fn serialize(&self, buf: &mut Vec<u8>) -> Result<(), AllocError>
         ensures appends { Appends result buf.old.items buf.new.items (written_table_map self.now) }
         // The bytes spell the event, for each post-header length with a table id of six bytes.
-        ensures spelled { (n : ℕ) → n ≢ 6 → (table_map n).spells (written_table_map self.now) self.now }
+        ensures spelled { (n : ℕ) → n ≢ 6
+            → (table_map_of self.now.server n).spells (written_table_map self.now) self.now }
     {
         // The use of a field gives the proof the event's invariant.
         let _ = &self.table_id;

@@ -6,7 +6,8 @@ ghost use Rattle.std.specs.Iterator.{YieldsFirstBy, item_count};
 ghost use Rattle.binlog_base.specs.Items.{items, result_map};
 ghost use Rattle.binlog_base.specs.Strings.{lenenc_string};
 ghost use Rattle.binlog_base.specs.declared.below.columns.column_type.ColumnType.TheVariants.{MYSQL_TYPE_JSON};
-ghost use Rattle.binlog_base.specs.ColumnTypes.{column_number, is_character, is_enum_or_set};
+ghost use Rattle.binlog_base.specs.ColumnTypes.{column_number};
+ghost use Rattle.binlog_base.specs.Servers.{character_group, enum_or_set_group};
 ghost use Rattle.binlog_table.specs.ColumnTypes.{raw_type_of, real_type_of};
 ghost use Rattle.binlog_table.specs.Fields.{is_numeric_number, fields};
 ghost use Rattle.binlog_table.specs.CharsetsLeft.{row_charset};
@@ -23,7 +24,7 @@ use super::names::ColumnName;
 use crate::table_map::TableMapEvent;
 use crate::table_map::column_chunks::ColumnChunks;
 use crate::table_map::metadata::{is_numeric, real_type};
-use binlog_base::below::ColumnType;
+use binlog_base::below::{ColumnType, Server};
 use binlog_base::bits::BitIter;
 use binlog_base::fault::Fault;
 use std::marker::Model;
@@ -50,6 +51,7 @@ pub struct TableColumn<'a> {
 /// What is left of a table's columns, and of the lists that tell of them.
 #[derive(Drop)]
 struct Walk<'a> {
+    server: Server,
     types: &'a [u8],
     chunks: ColumnChunks<'a>,
     signs: BitIter<'a>,
@@ -72,11 +74,11 @@ fn type_of(raw: u8, chunk: Option<&[u8]>) -> Result<ColumnType, Fault>
 }
 
 // The sign of the next column; only a numeric one takes a bit.
-fn next_sign(raw: u8, signs: &mut BitIter<'_>) -> bool
-    ensures now { result ≡ bit_here (is_numeric_number raw) signs.old }
-    ensures left { signs.new ≡ bits_after (is_numeric_number raw) signs.old }
+fn next_sign(server: Server, raw: u8, signs: &mut BitIter<'_>) -> bool
+    ensures now { result ≡ bit_here (is_numeric_number server raw) signs.old }
+    ensures left { signs.new ≡ bits_after (is_numeric_number server raw) signs.old }
 {
-    if is_numeric(raw) {
+    if is_numeric(server, raw) {
         signs.next().unwrap_or(false)
     } else {
         false
@@ -101,6 +103,7 @@ fn next_name<'a>(names: &mut IterNames<'a>) -> Result<Option<ColumnName<'a>>, Fa
 
 // The charset of the next column, by its type.
 fn next_charset(
+    server: Server,
     column_type: ColumnType,
     characters: &mut IterCharset<'_>,
     enums: &mut IterCharset<'_>,
@@ -108,10 +111,10 @@ fn next_charset(
     requires characters_left { characters.old.ordinal + 1 < 2 ^ 64 }
     requires enums_left { enums.old.ordinal + 1 < 2 ^ 64 }
     ensures now { result
-        ≡ charset_here column_type (row_charset characters.old 0) (row_charset enums.old 0) }
-    ensures characters { OnOk result (Advances (is_character column_type)
+        ≡ charset_here server column_type (row_charset characters.old 0) (row_charset enums.old 0) }
+    ensures characters { OnOk result (Advances (character_group server column_type)
         (row_charset characters.old) (row_charset characters.new)) }
-    ensures enums { OnOk result (Advances (is_enum_or_set column_type)
+    ensures enums { OnOk result (Advances (enum_or_set_group server column_type)
         (row_charset enums.old) (row_charset enums.new)) }
     ensures characters_most { characters.new.ordinal ≤ characters.old.ordinal + 1 }
     ensures enums_most { enums.new.ordinal ≤ enums.old.ordinal + 1 }
@@ -119,9 +122,9 @@ fn next_charset(
         characters.new.taken characters.new.room }
     ensures enums_spent { Spends enums.old.taken enums.old.room enums.new.taken enums.new.room }
 {
-    if column_type.is_character_type() {
+    if server.is_character(column_type) {
         characters.next_in_row()
-    } else if column_type.is_enum_or_set_type() {
+    } else if server.is_enum_or_set(column_type) {
         enums.next_in_row()
     } else {
         Ok(0)
@@ -158,8 +161,13 @@ fn next_column<'a>(walk: &mut Walk<'a>) -> Result<TableColumn<'a>, Fault>
     walk.column += 1;
     let metadata = walk.chunks.next_chunk();
     let column_type = type_of(*raw, metadata)?;
-    let unsigned = next_sign(*raw, &mut walk.signs);
-    let charset = next_charset(column_type, &mut walk.characters, &mut walk.enums)?;
+    let unsigned = next_sign(walk.server, *raw, &mut walk.signs);
+    let charset = next_charset(
+        walk.server,
+        column_type,
+        &mut walk.characters,
+        &mut walk.enums,
+    )?;
     let name = next_name(&mut walk.names)?;
     let is_key = walk.keys.is_key(index)?;
     let json_place = walk.json_place;
@@ -191,6 +199,7 @@ fn walk_of<'a>(
     ensures room { HasRoom result }
 {
     Walk {
+        server: table.server(),
         types,
         chunks: table.column_chunks(),
         signs: kept.iter_signedness(),

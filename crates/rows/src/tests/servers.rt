@@ -7,6 +7,7 @@ use binlog_consts::consts::EventType;
 use binlog_table::laws::servers_share_the_layout;
 use binlog_table::table_map::TableMapEvent;
 use binlog_table::table_map::optional::TableColumns;
+use bitflags::Flags;
 use mysql_binlog_rows::row::BinlogRow;
 use mysql_binlog_rows::rows_event::{RowsEventCtx, decode_pairs_of};
 use mysql_binlog_rows::value::BinlogValue;

@@ -8,3 +8,4 @@ pub mod Sequences
 pub mod Fractions
 pub mod Known
 pub mod Filled
+pub mod Cuts

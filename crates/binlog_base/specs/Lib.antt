@@ -16,6 +16,8 @@ pub mod Bits
 pub mod Failures
 pub mod Sources
 pub mod Values
+pub mod Cuts
+pub mod ColumnLists
 pub mod Equality
 pub mod Laws
 pub mod PackedTimes

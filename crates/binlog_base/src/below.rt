@@ -7,7 +7,7 @@ mod parse;
 mod raw;
 
 pub use columns::{
-    Column, ColumnFlags, ColumnType, GeometryType, Row, Server, UnknownColumnType,
+    Column, ColumnFlags, ColumnList, ColumnType, GeometryType, Row, Server, UnknownColumnType,
     UnknownGeometryType, Value, new_row_raw,
 };
 pub use io::{
@@ -19,5 +19,5 @@ pub use raw::{
     BareBytes, BeI16, BeI24, BeI32, BeU16, BeU24, BeU32, BeU40, BeU48, BytesRepr, Const, Constant,
     EofBytes, Fixed, I8, IntRepr, LeI16, LeI24, LeI32, LeI48, LeI64, LeU16, LeU24, LeU32, LeU48,
     LeU64, LenEnc, RawBytes, RawFlags, RawInt, Skip, U8, U8Bytes, VarLen, lenenc_int_len,
-    read_number, write_bytes,
+    read_number, same_bytes, write_bytes,
 };

@@ -30,6 +30,10 @@ pub record TableMap : Type 0 where
 abbrev pub of_server : Server → TableMap → TableMap
 of_server server t = record t { server = server }
 
+-- the same event without the number of its table and its flags: all that it tells of the table
+abbrev pub without_id : TableMap → TableMap
+without_id t = record t { table_id = 0; flags = 0 }
+
 -- The parts of a server's event, one after the other: table id, flags, database, any byte, table, any
 -- byte, the count of the columns, a type byte for each, the columns' metadata, a null bit for each,
 -- and the optional metadata to the end.

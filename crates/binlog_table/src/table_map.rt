@@ -11,4 +11,13 @@ mod table_id;
 pub use bad_column_type::BadColumnType;
 pub use column_chunks::ColumnChunks;
 pub use event::TableMapEvent;
+pub use optional::{
+    ColumnCharsets, ColumnName, ColumnNames, DefaultCharset, EnumStrValue, EnumStrValues,
+    EnumsStrValues, GeometryTypes, IterCharset, IterCharsets, IterColumnName, IterEnumStrValues,
+    IterGeometryTypes, IterIndexes, IterKeys, IterNames, IterNonDefault, IterPrimaryKey,
+    IterSetStrValues, IterSignedness, IterStrValues, IterVectorDimensionalities, NonDefaultCharset,
+    NonDefaultCharsets, OptionalMetaExtractor, OptionalMetadataField, OptionalMetadataIter,
+    PrimaryKeyWithPrefix, PrimaryKeysWithPrefix, SetStrValue, SetStrValues, SetsStrValues,
+    SimplePrimaryKey, StrValue, StrValues, TableColumn, TableColumns, VectorDimensionalities,
+};
 pub use table_id::TableId;

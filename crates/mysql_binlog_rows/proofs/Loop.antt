@@ -16,22 +16,17 @@ pub with_front-twice : (a b : List (Option Cell)) (r : Read) → with_front a (w
 with_front-twice a b (Ok x) = ap (λ (t : List (Option Cell)). Ok (t, x.1)) (sym (append_assoc a b x.0))
 with_front-twice a b (Err e) = refl
 
-absent_next : (bs : List Bool) (s : Slot) (ss : List Slot) (end : Option Fault) (nulls : List Bool) (x : List ℕ) → s.present ≡ false
-    → (slot_cells bs (s ∷ ss) end nulls).parse x ≡ (slot_cells bs ss end nulls).parse x
-unfolding slot_cells
-absent_next bs s ss end nulls x h = rw h refl
-
-value_next : (bs : List Bool) (s : Slot) (ss : List Slot) (end : Option Fault) (nulls : List Bool) (x y : List ℕ) (v : Cell) → s.present ≡ true
+value_next : (bs : List Bool) (s : Slot) (ss : List Slot) (end : Option Fault) (nulls : List Bool) (x y : List ℕ) (v : Cell)
     → (slot_cell (get_or nulls 0 false) bs s).parse x ≡ Ok (v, y)
     → (slot_cells bs (s ∷ ss) end nulls).parse x ≡ with_front (Some v ∷ []) ((slot_cells bs ss end (drop 1 nulls)).parse y)
 unfolding slot_cells slot_cell
-value_next bs s ss end nulls x y v h e = rw (h, e) refl
+value_next bs s ss end nulls x y v e = rw e refl
 
-fault_next : (bs : List Bool) (s : Slot) (ss : List Slot) (end : Option Fault) (nulls : List Bool) (x : List ℕ) (e : Fault) → s.present ≡ true
+fault_next : (bs : List Bool) (s : Slot) (ss : List Slot) (end : Option Fault) (nulls : List Bool) (x : List ℕ) (e : Fault)
     → (slot_cell (get_or nulls 0 false) bs s).parse x ≡ Err e
     → (slot_cells bs (s ∷ ss) end nulls).parse x ≡ Err e
 unfolding slot_cells slot_cell
-fault_next bs s ss end nulls x e h f = rw (h, f) refl
+fault_next bs s ss end nulls x e f = rw f refl
 
 -- the column at i is the first of those that are left
 slot_here : (ss : List Slot) (i : ℕ) (s : Slot) → i < length ss → s ≡ get_or ss i s → drop i ss ≡ s ∷ drop (i + 1) ss
@@ -43,30 +38,23 @@ null_here nulls k = get_or-drop k nulls 0 false ∙ ap (λ (j : ℕ). get_or nul
 null_more : (nulls : List Bool) (k : ℕ) → drop 1 (drop k nulls) ≡ drop (k + 1) nulls
 null_more nulls k = drop-drop 1 k nulls
 
-pub goes_absent : (bs : List Bool) (front : List (Option Cell)) (ss : List Slot) (end : Option Fault) (nulls : List Bool) (i k : ℕ) (x : List ℕ) (s : Slot) (total : Read)
-    → i < length ss → s ≡ get_or ss i s → s.present ≡ false
-    → with_front front ((slot_cells bs (drop i ss) end (drop k nulls)).parse x) ≡ total
-    → with_front front ((slot_cells bs (drop (i + 1) ss) end (drop k nulls)).parse x) ≡ total
-goes_absent bs front ss end nulls i k x s total lt is p so_far =
-    ap (with_front front) (sym (ap (λ (ts : List Slot). (slot_cells bs ts end (drop k nulls)).parse x) (slot_here ss i s lt is) ∙ absent_next bs s (drop (i + 1) ss) end (drop k nulls) x p)) ∙ so_far
-
 pub goes_on : (bs : List Bool) (front : List (Option Cell)) (ss : List Slot) (end : Option Fault) (nulls : List Bool) (i k : ℕ) (x y : List ℕ) (s : Slot) (v : Cell) (total : Read)
-    → i < length ss → s ≡ get_or ss i s → s.present ≡ true → (slot_cell (get_or nulls k false) bs s).parse x ≡ Ok (v, y)
+    → i < length ss → s ≡ get_or ss i s → (slot_cell (get_or nulls k false) bs s).parse x ≡ Ok (v, y)
     → with_front front ((slot_cells bs (drop i ss) end (drop k nulls)).parse x) ≡ total
     → with_front (front ++ Some v ∷ []) ((slot_cells bs (drop (i + 1) ss) end (drop (k + 1) nulls)).parse y) ≡ total
-goes_on bs front ss end nulls i k x y s v total lt is p e so_far =
+goes_on bs front ss end nulls i k x y s v total lt is e so_far =
     let here = ap (λ (ts : List Slot). (slot_cells bs ts end (drop k nulls)).parse x) (slot_here ss i s lt is) in
-    let one = value_next bs s (drop (i + 1) ss) end (drop k nulls) x y v p (ap (λ (b : Bool). (slot_cell b bs s).parse x) (null_here nulls k) ∙ e) in
+    let one = value_next bs s (drop (i + 1) ss) end (drop k nulls) x y v (ap (λ (b : Bool). (slot_cell b bs s).parse x) (null_here nulls k) ∙ e) in
     let later = ap (λ (ns : List Bool). with_front (Some v ∷ []) ((slot_cells bs (drop (i + 1) ss) end ns).parse y)) (null_more nulls k) in
     sym (with_front-twice front (Some v ∷ []) ((slot_cells bs (drop (i + 1) ss) end (drop (k + 1) nulls)).parse y)) ∙ ap (with_front front) (sym (here ∙ one ∙ later)) ∙ so_far
 
 pub stops : (bs : List Bool) (front : List (Option Cell)) (ss : List Slot) (end : Option Fault) (nulls : List Bool) (i k : ℕ) (x : List ℕ) (s : Slot) (e : Fault) (total : Read)
-    → i < length ss → s ≡ get_or ss i s → s.present ≡ true → (slot_cell (get_or nulls k false) bs s).parse x ≡ Err e
+    → i < length ss → s ≡ get_or ss i s → (slot_cell (get_or nulls k false) bs s).parse x ≡ Err e
     → with_front front ((slot_cells bs (drop i ss) end (drop k nulls)).parse x) ≡ total
     → total ≡ Err e
-stops bs front ss end nulls i k x s e total lt is p f so_far =
+stops bs front ss end nulls i k x s e total lt is f so_far =
     let here = ap (λ (ts : List Slot). (slot_cells bs ts end (drop k nulls)).parse x) (slot_here ss i s lt is) in
-    let one = fault_next bs s (drop (i + 1) ss) end (drop k nulls) x e p (ap (λ (b : Bool). (slot_cell b bs s).parse x) (null_here nulls k) ∙ f) in
+    let one = fault_next bs s (drop (i + 1) ss) end (drop k nulls) x e (ap (λ (b : Bool). (slot_cell b bs s).parse x) (null_here nulls k) ∙ f) in
     sym so_far ∙ ap (with_front front) (here ∙ one)
 
 pub all_read : (bs : List Bool) (front : List (Option Cell)) (ss : List Slot) (end : Option Fault) (nulls : List Bool) (i : ℕ) (x : List ℕ) (total : Read)

@@ -19,8 +19,9 @@ use Rattle.mysql_binlog_rows.specs.RowsEvent.{RowsEvent, image_columns, has_befo
 use Rattle.mysql_binlog_rows.specs.RowsEventWritten.{IsRowsEvent}
 use Rattle.mysql_binlog_rows.specs.Cells.{Cell, cell}
 use Rattle.mysql_binlog_rows.specs.Images.{BinlogRow, row_column, row_of, is_json, nullable_cell, cells, options_of, image, maybe_image, has_options, pair}
-use Rattle.mysql_binlog_rows.specs.Plans.{Planned, slot_of, nothing_then, planned_then, first_column, after_first, planned_from, unless_refused, plan_of, plans_of, slots_in, slot_count, slot_cell, slot_cells, planned_image, planned_maybe, planned_pair}
+use Rattle.mysql_binlog_rows.specs.Plans.{Planned, slot_of, nothing_then, planned_then, first_column, after_first, planned_from, unless_refused, plan_of, plans_of, walked_in, slot_count, slot_cell, slot_cells, planned_image, planned_maybe, planned_pair}
 use Rattle.mysql_binlog_rows.specs.Rows.{IsDescribed, columns_in}
+use Rattle.mysql_binlog_rows.proofs.SamePlan.{after_least}
 
 bind_same : {A B : Type 0} (r : Result A Fault) (f g : A → Result B Fault) → ((a : A) → f a ≡ g a) → r >>= f ≡ r >>= g
 bind_same (Ok a) f g h = h a
@@ -90,16 +91,16 @@ partial_by : (b : Bool) (bs : List Bool) (k : ℕ) → unwrap_or (option_map (λ
 partial_by true bs k = refl
 partial_by false bs k = refl
 
-same_cell : (is_null : Bool) (bs : List Bool) (c : Column) (present : Bool) (x : List ℕ) → (slot_cell is_null bs (slot_of c present)).parse x ≡ (nullable_cell is_null bs c).parse x
+same_cell : (is_null : Bool) (bs : List Bool) (c : Column) (x : List ℕ) → (slot_cell is_null bs (slot_of c)).parse x ≡ (nullable_cell is_null bs c).parse x
 unfolding slot_cell nullable_cell cell
-same_cell is_null bs c present x = rw (partial_by (is_json c.column_type) bs c.json_place) refl
+same_cell is_null bs c x = rw (partial_by (is_json c.column_type) bs c.json_place) refl
 
 column_reads : (t : TableMap) (bs : List Bool) (i : ℕ) (c : Column) (present : Bool) (others : Planned) (ps nulls : List Bool) (x : List ℕ) → column_at t i ≡ Ok c
     → ((ns : List Bool) (y : List ℕ) → by_plan bs others ns y ≡ by_table t bs (suc i) ps ns y)
     → by_plan bs (planned_then t i (Ok c) present others) nulls x ≡ by_table t bs i (present ∷ ps) nulls x
 unfolding slot_cells cells
 column_reads t bs i c true others ps nulls x is h =
-    rw (is, same_cell (slice_index_or nulls 0 false) bs c true x)
+    rw (is, same_cell (slice_index_or nulls 0 false) bs c x)
     (grow_both ((nullable_cell (slice_index_or nulls 0 false) bs c).parse x) (slot_cells bs others.slots others.fault (drop 1 nulls)).parse (cells t bs (suc i) ps (drop 1 nulls)).parse (row_column t i c) others.columns (h (drop 1 nulls)))
 column_reads t bs i c false others ps nulls x is h = rw is (h nulls x)
 
@@ -150,12 +151,12 @@ unfolding slot_cells
 fields_read t bs None ps nulls x = cells_read t bs ps 0 (length t.types) (column_at t) (omega arith) (from_zero t) nulls x
 fields_read t bs (Some e) ps nulls x = refl
 
-pub image_reads : (t : TableMap) (o : Bool) (ps : List Bool) (x : List ℕ) → (planned_image (plan_of t o ps)).parse x ≡ (image t o ps).parse x
+pub image_reads : (t : TableMap) (o : Bool) (ps : List Bool) (x : List ℕ) → (planned_image o (plan_of t ps)).parse x ≡ (image t o ps).parse x
 unfolding planned_image image
 image_reads t o ps x =
     bind_same ((options_of t o).parse x) _ _ (λ b. bind_same ((bit_list LeastSignificantFirst (count_set ps)).parse b.1) _ _ (λ r. fields_read t b.0 (field_fault t) ps r.0 r.1))
 
-maybe_reads : (t : TableMap) (o : Bool) (present : Option (List Bool)) (x : List ℕ) → (planned_maybe (option_map (plan_of t o) present)).parse x ≡ (maybe_image t o present).parse x
+maybe_reads : (t : TableMap) (o : Bool) (present : Option (List Bool)) (x : List ℕ) → (planned_maybe o (option_map (plan_of t) present)).parse x ≡ (maybe_image t o present).parse x
 maybe_reads t o None x = refl
 maybe_reads t o (Some ps) x = rw (image_reads t o ps x) refl
 
@@ -168,7 +169,7 @@ plans_read t e x =
 -- ---- how many columns a plan has
 
 slots_all : (t : TableMap) (ps : List Bool) (i n : ℕ) (f : ℕ → Result Column Fault) → i + n ≡ length t.types → ((j : ℕ) → f j ≡ column_at t (i + j))
-    → ((j : ℕ) → j < length ps → (c : Column) × (column_at t (i + j) ≡ Ok c)) → length (planned_from t i (columns_by f n) ps).slots ≡ length ps
+    → ((j : ℕ) → j < length ps → (c : Column) × (column_at t (i + j) ≡ Ok c)) → (planned_from t i (columns_by f n) ps).walked ≡ length ps
 slots_all t [] i n f whole each h = refl
 slots_all t (p ∷ ps) i zero f whole each h =
     let first = h 0 (omega arith) in
@@ -183,18 +184,18 @@ slots_all t (p ∷ ps) i (suc n) f whole each h =
     (next.0, ap (column_at t) (omega arith) ∙ next.1)) in
     rw here (ap suc later)
 
-plan_slots : (t : TableMap) (o : Bool) (ps : List Bool) → IsDescribed t (length ps) → slots_in (Some (plan_of t o ps)) ≡ length ps
-plan_slots t o ps d = rw d.fields (slots_all t ps 0 (length t.types) (column_at t) (omega arith) (from_zero t) (λ j lt. let c = d.columns j lt in (c.0, sym (from_zero t j) ∙ c.1)))
+plan_slots : (t : TableMap) (ps : List Bool) → IsDescribed t (length ps) → walked_in (Some (plan_of t ps)) ≡ length ps
+plan_slots t ps d = rw d.fields (slots_all t ps 0 (length t.types) (column_at t) (omega arith) (from_zero t) (λ j lt. let c = d.columns j lt in (c.0, sym (from_zero t j) ∙ c.1)))
 
 bits_counted : (order : BitOrder) (bytes : List ℕ) (i n : ℕ) → length (bits_from order bytes i n) ≡ n
 bits_counted order bytes i zero = refl
 bits_counted order bytes i (suc n) = ap suc (bits_counted order bytes (suc i) n)
 
-image_least : (t : TableMap) (has : Bool) (n : ℕ) (o : Option (List ℕ)) → IsDescribed t n → is_some o ≡ true → slots_in (option_map (plan_of t has) (image_columns n o)) ≡ n
-image_least t has n None d h = absurd cc
-image_least t has n (Some bytes) d h =
+image_least : (t : TableMap) (n : ℕ) (o : Option (List ℕ)) → IsDescribed t n → is_some o ≡ true → walked_in (option_map (plan_of t) (image_columns n o)) ≡ n
+image_least t n None d h = absurd cc
+image_least t n (Some bytes) d h =
     let count = bits_counted LeastSignificantFirst bytes 0 n in
-    plan_slots t has (bits_of LeastSignificantFirst n bytes) (subst (λ (k : ℕ). IsDescribed t k) (sym count) d) ∙ count
+    plan_slots t (bits_of LeastSignificantFirst n bytes) (subst (λ (k : ℕ). IsDescribed t k) (sym count) d) ∙ count
 
 pub columns_most : (n : ℕ) (o : Option (List ℕ)) → columns_in (image_columns n o) ≤ n
 columns_most n None = omega arith
@@ -208,7 +209,9 @@ some_image _ = inr refl
 
 pub slots_least : (t : TableMap) (e : RowsEvent) → IsRowsEvent e → IsDescribed t e.num_columns → e.num_columns ≤ slot_count (plans_of t e)
 slots_least t e is d =
+    let before = image_columns e.num_columns e.before in
+    let after = image_columns e.num_columns e.after in
     elim (some_image e.event_type) [
-      | inl h ↦ let n = image_least t false e.num_columns e.before d (is.before.there ∙ h) in omega (arith, n)
-      | inr h ↦ let n = image_least t (has_options e.event_type) e.num_columns e.after d (is.after.there ∙ h) in omega (arith, n)
+      | inl h ↦ let n = image_least t e.num_columns e.before d (is.before.there ∙ h) in omega (arith, n)
+      | inr h ↦ let n = image_least t e.num_columns e.after d (is.after.there ∙ h) in omega (arith, n, after_least t (has_options e.event_type) before after)
     ]

@@ -8,6 +8,7 @@ pub mod RowValues
 pub mod NotPlain
 pub mod Options
 pub mod Plans
+pub mod After
 pub mod Cover
 pub mod Laws
 pub mod Rows

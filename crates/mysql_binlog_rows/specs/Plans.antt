@@ -1,12 +1,15 @@
 -- What an iterator over pairs keeps of a table map event, and how it reads images by that.
 use Rattle.std.specs.Prelude.{ℕ, suc, Bool, true, false, List, [], ◌∷◌, length, drop, slice_index_or, unwrap_or, Option, Some, None, Result, Ok, Err, ◌+◌, if◌then◌else◌}
+use Rattle.std.specs.Bool.{beq}
+use Rattle.std.specs.Cmp.Lexicographic.{pointwise}
 use Rattle.std.specs.Option.{option_map}
 use Rattle.binlog_base.specs.declared.bits.BitOrder.TheVariants.{LeastSignificantFirst}
 use Rattle.binlog_base.specs.declared.fault.Fault.{Fault}
 use Rattle.binlog_base.specs.declared.fault.Fault.TheVariants.{NoColumnType}
 use Rattle.binlog_base.specs.Format.{Format, no_bytes, refusal, check, sequence, map_value, choice}
 use Rattle.binlog_base.specs.Bits.{count_set, bit_list}
-use Rattle.binlog_base.specs.Values.{ColumnView, Null}
+use Rattle.binlog_base.specs.ColumnLists.{ColumnList}
+use Rattle.binlog_base.specs.Values.{ColumnView, column_flags_of, Null}
 use Rattle.binlog_table.specs.TableMap.{TableMap}
 use Rattle.binlog_table.specs.ColumnTypes.{json_count}
 use Rattle.binlog_table.specs.Extracted.{field_fault}
@@ -14,39 +17,43 @@ use Rattle.binlog_table.specs.TableColumns.{Column, table_columns}
 use Rattle.mysql_binlog_rows.specs.declared.value.form.Form.{Form}
 use Rattle.mysql_binlog_rows.specs.RowsEvent.{RowsEvent, image_columns}
 use Rattle.mysql_binlog_rows.specs.Cells.{Cell, PlainCell, form_of, cell_by}
-use Rattle.mysql_binlog_rows.specs.Images.{BinlogRow, Pair, row_column, is_json, partial_bits, has_options}
+use Rattle.mysql_binlog_rows.specs.Images.{BinlogRow, Pair, default_name, row_flags, row_column, is_json, partial_bits, has_options}
 
 -- ---- what is kept
 
--- how the cells of a column are read, or their fault; for a JSON column, how many columns before it
--- have the raw type JSON; and whether the column is in the image
+-- how the cells of a column are read, or their fault; and, for a JSON column, how many columns before
+-- it have the raw type JSON
 pub record Slot : Type 0 where
   pub form : Result Form Fault
   pub json_place : Option ℕ
-  pub present : Bool
 
--- The columns of an event up to the first with a fault; those in the image as rows have them; and
--- the fault.
+-- Of the columns of an event up to the first with a fault: how the cells of those in the image are
+-- read; those in the image as rows have them; how many columns there are; and the fault.
 pub record Planned : Type 0 where
   pub slots : List Slot
   pub columns : List ColumnView
+  pub walked : ℕ
   pub fault : Option Fault
+
+-- column i of a table, as rows have it, by the names of the table in a list of columns
+abbrev pub column_in : ColumnList → ℕ → Column → ColumnView
+column_in l i c = record { column_type = c.column_type; schema = l.schema; table = l.table; org_table = l.table; name = unwrap_or c.name (default_name i); flags = column_flags_of (row_flags c.unsigned c.is_key); character_set = c.charset }
 
 abbrev pub json_place_of : Column → Option ℕ
 json_place_of c = if is_json c.column_type then Some c.json_place else None
 
-abbrev pub slot_of : Column → Bool → Slot
-slot_of c present = record { form = form_of c.column_type (unwrap_or c.metadata []) c.unsigned; json_place = json_place_of c; present = present }
+abbrev pub slot_of : Column → Slot
+slot_of c = record { form = form_of c.column_type (unwrap_or c.metadata []) c.unsigned; json_place = json_place_of c }
 
 abbrev pub when_present : {A : Type 0} → Bool → A → List A → List A
 when_present true x more = x ∷ more
 when_present false x more = more
 
 abbrev pub nothing_then : Option Fault → Planned
-nothing_then fault = record { slots = []; columns = []; fault = fault }
+nothing_then fault = record { slots = []; columns = []; walked = 0; fault = fault }
 
 abbrev pub column_then : TableMap → ℕ → Column → Bool → Planned → Planned
-column_then t i c present others = record { slots = slot_of c present ∷ others.slots; columns = when_present present (row_column t i c) others.columns; fault = others.fault }
+column_then t i c present others = record { slots = when_present present (slot_of c) others.slots; columns = when_present present (row_column t i c) others.columns; walked = suc others.walked; fault = others.fault }
 
 abbrev pub planned_then : TableMap → ℕ → Result Column Fault → Bool → Planned → Planned
 planned_then t i (Ok c) present others = column_then t i c present others
@@ -71,32 +78,49 @@ abbrev pub unless_refused : Option Fault → Planned → Planned
 unless_refused None planned = planned
 unless_refused (Some e) planned = nothing_then (Some e)
 
--- how images with the same bitmap are read: whether they have options, the count of null bits, how
--- many columns of the table have the raw type JSON, and the columns of the event
+-- how images with the same bitmap are read: the count of null bits, how many columns of the table
+-- have the raw type JSON, and the columns of the event
 pub record Plan : Type 0 where
-  pub has_options : Bool
   pub count : ℕ
   pub json_columns : ℕ
   pub planned : Planned
 
-abbrev pub plan_of : TableMap → Bool → List Bool → Plan
-plan_of t has_options present = record { has_options = has_options; count = count_set present; json_columns = json_count t.types; planned = unless_refused (field_fault t) (planned_from t 0 (table_columns t) present) }
+abbrev pub plan_of : TableMap → List Bool → Plan
+plan_of t present = record { count = count_set present; json_columns = json_count t.types; planned = unless_refused (field_fault t) (planned_from t 0 (table_columns t) present) }
 
--- how the pairs of an event are read
+-- how many columns were walked over for a plan
+abbrev pub walked_in : Option Plan → ℕ
+walked_in None = 0
+walked_in (Some p) = p.planned.walked
+
+-- how the pairs of an event are read: the plans of both images, whether the images after the change
+-- have options, and how many columns were walked over to make the plans
 pub record Plans : Type 0 where
   pub before : Option Plan
   pub after : Option Plan
+  pub has_options : Bool
+  pub walked : ℕ
+
+-- whether the event has both images, and they have the same columns
+abbrev pub same_columns : Option (List Bool) → Option (List Bool) → Bool
+same_columns (Some a) (Some b) = pointwise beq a b
+same_columns (Some a) None = false
+same_columns None b = false
+
+-- where both images have the same columns, they share the plan that was made for the first
+abbrev pub walked_apart : Bool → Option Plan → ℕ
+walked_apart true p = 0
+walked_apart false p = walked_in p
+
+abbrev pub plans_by : TableMap → Bool → Option (List Bool) → Option (List Bool) → Plans
+plans_by t options before after = record { before = option_map (plan_of t) before; after = option_map (plan_of t) after; has_options = options; walked = walked_in (option_map (plan_of t) before) + walked_apart (same_columns before after) (option_map (plan_of t) after) }
 
 abbrev pub plans_of : TableMap → RowsEvent → Plans
-plans_of t e = record { before = option_map (plan_of t false) (image_columns e.num_columns e.before); after = option_map (plan_of t (has_options e.event_type)) (image_columns e.num_columns e.after) }
+plans_of t e = plans_by t (has_options e.event_type) (image_columns e.num_columns e.before) (image_columns e.num_columns e.after)
 
--- for how many columns a plan was made
-abbrev pub slots_in : Option Plan → ℕ
-slots_in None = 0
-slots_in (Some p) = length p.planned.slots
-
+-- how many columns were walked over to make the plans
 abbrev pub slot_count : Plans → ℕ
-slot_count p = slots_in p.before + slots_in p.after
+slot_count p = p.walked
 
 -- ---- how images are read by it
 
@@ -114,22 +138,20 @@ slot_cell is_null partials s = choice is_null (no_bytes (PlainCell Null)) (seque
 unfoldable pub slot_cells : List Bool → List Slot → Option Fault → List Bool → Format (List (Option Cell))
 slot_cells partials [] end nulls = ends end
 slot_cells partials (s ∷ slots) end nulls =
-    choice s.present
-    (sequence (slot_cell (slice_index_or nulls 0 false) partials s) (λ v. map_value (slot_cells partials slots end (drop 1 nulls)) (λ vs. Some v ∷ vs)))
-    (slot_cells partials slots end nulls)
+    sequence (slot_cell (slice_index_or nulls 0 false) partials s) (λ v. map_value (slot_cells partials slots end (drop 1 nulls)) (λ vs. Some v ∷ vs))
 
-abbrev pub planned_options : Plan → Format (List Bool)
-planned_options p = choice p.has_options (partial_bits p.json_columns) (no_bytes [])
+abbrev pub planned_options : Bool → Plan → Format (List Bool)
+planned_options options p = choice options (partial_bits p.json_columns) (no_bytes [])
 
-unfoldable pub planned_image : Plan → Format BinlogRow
-planned_image p =
-    sequence (planned_options p) (λ partials.
+unfoldable pub planned_image : Bool → Plan → Format BinlogRow
+planned_image options p =
+    sequence (planned_options options p) (λ partials.
     sequence (bit_list LeastSignificantFirst p.count) (λ nulls.
     map_value (slot_cells partials p.planned.slots p.planned.fault nulls) (λ values. record { columns = p.planned.columns; values = values })))
 
-abbrev pub planned_maybe : Option Plan → Format (Option BinlogRow)
-planned_maybe None = no_bytes None
-planned_maybe (Some p) = map_value (planned_image p) Some
+abbrev pub planned_maybe : Bool → Option Plan → Format (Option BinlogRow)
+planned_maybe options None = no_bytes None
+planned_maybe options (Some p) = map_value (planned_image options p) Some
 
 unfoldable pub planned_pair : Plans → Format Pair
-planned_pair p = sequence (planned_maybe p.before) (λ before. map_value (planned_maybe p.after) (λ after. (before, after)))
+planned_pair p = sequence (planned_maybe false p.before) (λ before. map_value (planned_maybe p.has_options p.after) (λ after. (before, after)))

@@ -2,14 +2,17 @@
 
 mod column;
 mod column_flags;
+mod column_list;
 mod column_type;
 mod geometry;
 mod row;
 mod server;
+mod shared_bytes;
 mod value;
 
 pub use column::Column;
 pub use column_flags::ColumnFlags;
+pub use column_list::ColumnList;
 pub use column_type::{ColumnType, UnknownColumnType};
 pub use geometry::{GeometryType, UnknownGeometryType};
 pub use row::{Row, new_row_raw};

@@ -9,7 +9,7 @@ mod integer;
 mod length;
 mod skip;
 
-pub use bytes::{BareBytes, BytesRepr, EofBytes, RawBytes, U8Bytes, write_bytes};
+pub use bytes::{BareBytes, BytesRepr, EofBytes, RawBytes, U8Bytes, same_bytes, write_bytes};
 pub use constant::{Const, Constant};
 pub use fixed::{
     BeI16, BeI24, BeI32, BeU16, BeU24, BeU32, BeU40, BeU48, Fixed, I8, LeI16, LeI24, LeI32, LeI48,

@@ -9,7 +9,7 @@ use super::optional::OptionalMetadataIter;
 use super::table_id::TableId;
 use binlog_base::below::{
     BareBytes, ColumnType, EofBytes, IntRepr, LeU16, LenEnc, MyDeserialize, ParseBuf, RawBytes,
-    Server, Skip, U8, U8Bytes, UnknownColumnType,
+    Server, Skip, U8, U8Bytes, UnknownColumnType, same_bytes,
 };
 use binlog_base::bits::{BitOrder, BitView, bitmap_len};
 use binlog_base::fault::Fault;
@@ -80,7 +80,7 @@ impl<'a> Model for TableMapEvent<'a> {
 }
 
 impl<'a> TableMapEvent<'a> {
-    ghost use Rattle.std.specs.Prelude.{◌≡◌, ◌≤◌, ◌↔◌, ℕ, List, Some, IfOk, length, slice_get};
+    ghost use Rattle.std.specs.Prelude.{◌≡◌, ◌≤◌, ◌↔◌, ℕ, List, Some, IfOk, IsTrue, length, slice_get};
     ghost use Rattle.binlog_base.specs.Strings.{u8_string};
     ghost use Rattle.std.specs.Option.{option_map};
     ghost use Rattle.std.specs.Cow.{cow_str_bytes};
@@ -88,7 +88,7 @@ impl<'a> TableMapEvent<'a> {
     ghost use Rattle.binlog_base.specs.declared.bits.BitOrder.TheVariants.{LeastSignificantFirst};
     ghost use Rattle.binlog_base.specs.Bits.{bits_of};
     ghost use Rattle.binlog_base.specs.Format.{Parses};
-    ghost use Rattle.binlog_table.specs.TableMap.{table_map, of_server};
+    ghost use Rattle.binlog_table.specs.TableMap.{table_map, of_server, without_id};
     ghost use Rattle.binlog_table.specs.Extracted.{fields_of};
     ghost use Rattle.binlog_table.specs.Chunks.{chunk_at, HasChunk};
     ghost use Rattle.binlog_table.specs.ColumnTypes.{raw_type_of, real_type_of, column_type_at, json_count};
@@ -148,6 +148,24 @@ impl<'a> TableMapEvent<'a> {
         ensures { result ≡ self.now.server }
     {
         self.server
+    }
+
+    /// Returns whether another event tells the same of its table: whether the servers are the same, and
+    /// all parts but the table id and the flags are the same bytes.
+    pub fn tells_the_same(&self, other: &TableMapEvent<'_>) -> bool
+        ensures { IsTrue result ↔ (without_id self.now ≡ without_id other.now) }
+    {
+        self.server == other.server
+            && self.columns_count == other.columns_count
+            && same_bytes(self.columns_type.as_bytes(), other.columns_type.as_bytes())
+            && same_bytes(
+                self.columns_metadata.as_bytes(),
+                other.columns_metadata.as_bytes(),
+            )
+            && same_bytes(self.null_bitmask.as_bytes(), other.null_bitmask.as_bytes())
+            && same_bytes(self.optional_metadata_raw(), other.optional_metadata_raw())
+            && same_bytes(self.table_name_raw(), other.table_name_raw())
+            && same_bytes(self.database_name_raw(), other.database_name_raw())
     }
 
     /// Returns the table id: the number by which rows events refer to the table.
@@ -261,6 +279,9 @@ impl<'a> TableMapEvent<'a> {
     /// `Ok(None)` where the table has no such column. Fails with `Unknown` where no column type has
     /// the number of the type byte, and with `Unexpected` where the metadata of a STRING column
     /// gives a type other than STRING, ENUM and SET.
+    ///
+    /// A call walks over the metadata of all columns before this one, so all columns of a wide table
+    /// take long: 2,150,000,000 instructions for 10,000 columns. `TableColumns` gives them in one walk.
     pub fn get_column_type(&self, index: usize) -> Result<Option<ColumnType>, BadColumnType>
         ensures { result ≡ column_type_at self.now.types self.now.metadata index }
     {
@@ -304,6 +325,9 @@ impl<'a> TableMapEvent<'a> {
     ///
     /// `None` where the table has no such column, where this column or one before it has an unknown
     /// type, and where the chunk of this column or of one before it is cut.
+    ///
+    /// A call walks over the metadata of all columns before this one, so all columns of a wide table
+    /// take long: 2,150,000,000 instructions for 10,000 columns. `TableColumns` gives them in one walk.
     pub fn get_column_metadata(&self, index: usize) -> Option<&[u8]>
         ensures chunk { option_map (λ c. c.now) result ≡ chunk_at self.now.types self.now.metadata index }
         // The columns' metadata begins with the chunks of the columns up to this one, and the

@@ -1,6 +1,6 @@
 //! Reads the images of rows, by a plan that is made once for an event.
 
-ghost use Rattle.std.specs.Prelude.{◌≡◌, ◌≤◌, ◌<◌, ◌+◌, ◌^◌, false, IfOk, IfErr, map, length, slice_index_or, unwrap_or};
+ghost use Rattle.std.specs.Prelude.{◌≡◌, ◌≤◌, ◌<◌, ◌+◌, ◌^◌, ◌++◌, ◌∷◌, [], false, IfOk, IfErr, map, length, slice_index_or};
 ghost use Rattle.std.specs.Option.{option_map};
 ghost use Rattle.binlog_base.specs.declared.fault.Fault.TheVariants as Fault;
 ghost use Rattle.binlog_base.specs.Format.{Parses, ParsesAs, OrMemory};
@@ -8,13 +8,13 @@ ghost use Rattle.binlog_base.specs.Items.{result_map};
 ghost use Rattle.binlog_table.specs.ColumnsLeft.{seen_column};
 ghost use Rattle.mysql_binlog_rows.specs.Cells.{cell_of};
 ghost use Rattle.binlog_base.specs.Values.{column_flags_of};
-ghost use Rattle.mysql_binlog_rows.specs.Images.{default_name, row_flags, row_column};
-ghost use Rattle.mysql_binlog_rows.specs.Plans.{json_place_of, slot_of, first_column, after_first, planned_from, plan_of, planned_options, planned_image, is_partial_slot, slot_cell, slot_cells};
+ghost use Rattle.mysql_binlog_rows.specs.Images.{row_flags};
+ghost use Rattle.mysql_binlog_rows.specs.Plans.{column_in, json_place_of, slot_of, first_column, after_first, planned_from, plan_of, planned_options, planned_image, is_partial_slot, slot_cell, slot_cells};
 
 use super::binlog_row::BinlogRow;
 use crate::value::{BinlogValue, Form, form_of, read_json, read_plain};
 use binlog_base::below::{
-    Column, ColumnFlags, ColumnType, IntRepr, LenEnc, MyDeserialize, ParseBuf, Value,
+    Column, ColumnFlags, ColumnList, ColumnType, IntRepr, LenEnc, MyDeserialize, ParseBuf, Value,
 };
 use binlog_base::bits::{BitOrder, BitView};
 use binlog_base::fault::Fault;
@@ -25,13 +25,12 @@ use std::alloc::Global;
 use std::marker::Model;
 use std::rc::RcSlice;
 
-/// A column of the event, as a plan keeps it: how its cells are read, the place of a JSON column
-/// among the table's, and whether it is in the image.
+/// A column in the image, as a plan keeps it: how its cells are read, and the place of a JSON column
+/// among the table's.
 #[derive(Drop)]
 struct Slot {
     form: Result<Form, Fault>,
     json_place: Option<usize>,
-    present: bool,
 }
 
 impl Model for Slot {
@@ -39,15 +38,16 @@ impl Model for Slot {
 
     ghost Value = { Spec.Slot };
 
-    ghost view = { λ s. record { form = s.form; json_place = s.json_place; present = s.present } };
+    ghost view = { λ s. record { form = s.form; json_place = s.json_place } };
 }
 
-/// The columns of an event up to the first with a fault: how the cells of each are read; those in
-/// the image, as rows have them; and the fault.
+/// Of the columns of an event up to the first with a fault: how the cells of those in the image are
+/// read; those in the image, as rows have them; how many columns there are; and the fault.
 #[derive(Drop)]
 struct Planned {
     slots: Vec<Slot>,
-    columns: Vec<Column>,
+    columns: ColumnList,
+    walked: usize,
     fault: Option<Fault>,
 }
 
@@ -56,17 +56,23 @@ impl Model for Planned {
 
     ghost Value = { Spec.Planned };
 
-    ghost view = { λ p. record { slots = p.slots.items; columns = p.columns.items; fault = p.fault } };
+    ghost view = { λ p. record {
+      slots = p.slots.items;
+      columns = p.columns.columns;
+      walked = p.walked;
+      fault = p.fault;
+    } };
 }
 
-/// How images with the same bitmap of columns are read. A plan is made once for an event.
+/// How images with the same bitmap of columns are read. A plan is made once for an event, and serves
+/// both images where they have the same columns.
 #[derive(Drop)]
 pub(crate) struct Plan {
-    has_options: bool,
     count: usize,
     json_columns: usize,
     slots: Vec<Slot>,
     columns: RcSlice<Column>,
+    walked: usize,
     fault: Option<Fault>,
 }
 
@@ -77,10 +83,14 @@ impl Model for Plan {
     ghost Value = { Spec.Plan };
 
     ghost view = { λ p. record {
-      has_options = p.has_options;
       count = p.count;
       json_columns = p.json_columns;
-      planned = record { slots = p.slots.items; columns = rc_slice_items p.columns; fault = p.fault };
+      planned = record {
+        slots = p.slots.items;
+        columns = rc_slice_items p.columns;
+        walked = p.walked;
+        fault = p.fault;
+      };
     } };
 }
 
@@ -96,44 +106,29 @@ fn flags_of(unsigned: bool, is_key: bool) -> ColumnFlags
     }
 }
 
-// Returns the column with its name: the given one, or `@` and the column's index.
-fn with_name(
+// Adds the column of this index as rows have it: its type, name, flags and character set. Its name
+// is the given one, or `@` and the column's index.
+fn add_column(
     alloc: Global,
-    column: Column,
-    name: &Option<ColumnName<'_>>,
-    index: usize,
-) -> Result<Column, Fault>
-    ensures given { IfOk result
-        (λ c. c ≡ record column { name = unwrap_or name.now (default_name index) }) }
-    ensures err { IfErr result (λ e. e ≡ Fault.Memory) }
-{
-    match name {
-        Some(name) => Ok(column.with_name(alloc, name.name_raw())?),
-        None => {
-            let name = format!(in alloc; "@{}", index)?;
-            Ok(column.with_name(alloc, name.as_bytes())?)
-        }
-    }
-}
-
-// Returns the column of this index as rows have it: its type, database, table, name, flags and
-// character set.
-fn row_column(
-    alloc: Global,
-    table: &TableMapEvent<'_>,
+    columns: &mut ColumnList,
     index: usize,
     column: &TableColumn<'_>,
-) -> Result<Column, Fault>
-    ensures column { IfOk result (λ c. c ≡ row_column table.now index (seen_column column.now)) }
+) -> Result<(), Fault>
+    ensures column { IfOk result (λ _. columns.new ≡ record columns.old { columns
+        = columns.old.columns ++ column_in columns.old index (seen_column column.now) ∷ [] }) }
     ensures err { IfErr result (λ e. e ≡ Fault.Memory) }
 {
-    let described = Column::new(column.column_type)
-        .with_flags(flags_of(column.unsigned, column.is_key))
-        .with_character_set(column.charset)
-        .with_schema(alloc, table.database_name_raw())?
-        .with_table(alloc, table.table_name_raw())?
-        .with_org_table(alloc, table.table_name_raw())?;
-    with_name(alloc, described, &column.name, index)
+    let flags = flags_of(column.unsigned, column.is_key);
+    match &column.name {
+        Some(name) => {
+            columns.add(column.column_type, name.name_raw(), flags, column.charset)?;
+        }
+        None => {
+            let name = format!(in alloc; "@{}", index)?;
+            columns.add(column.column_type, name.as_bytes(), flags, column.charset)?;
+        }
+    }
+    Ok(())
 }
 
 // Takes the next column of a table, or its fault; `NoColumnType` after the last column.
@@ -161,31 +156,34 @@ fn json_place_of(column: &TableColumn<'_>) -> Option<usize>
 }
 
 // Returns how the cells of a column are read.
-fn slot_of(column: &TableColumn<'_>, present: bool) -> Slot
-    ensures { result ≡ slot_of (seen_column column.now) present }
+fn slot_of(column: &TableColumn<'_>) -> Slot
+    ensures { result ≡ slot_of (seen_column column.now) }
 {
     let metadata = column.metadata.unwrap_or(&[]);
     Slot {
         form: form_of(column.column_type, metadata, column.unsigned),
         json_place: json_place_of(column),
-        present,
     }
 }
 
-// Plans the columns of the event, of which those with a bit in `present` are in the image.
+// Plans the columns of the event, of which those with a bit in `present` are in the image. `count`
+// is how many there may be in the image, and memory for so many is reserved.
 fn plan_columns(
     alloc: Global,
     table: &TableMapEvent<'_>,
     present: &BitView<'_>,
+    count: usize,
     walk: &mut TableColumns<'_>,
 ) -> Result<Planned, Fault>
     ensures planned { IfOk result (λ p. p ≡ planned_from table.now 0 walk.old.columns present.now) }
-    ensures least { IfOk result (λ p. walk.old.steps + length p.slots ≤ walk.new.steps) }
+    ensures least { IfOk result (λ p. walk.old.steps + p.walked ≤ walk.new.steps) }
     ensures most { IfOk result (λ _. walk.new.most ≤ walk.old.most + length present.now) }
     ensures err { IfErr result (λ e. e ≡ Fault.Memory) }
 {
-    let mut slots = Vec::new(alloc);
-    let mut columns = Vec::new(alloc);
+    let mut slots = Vec::with_capacity(alloc, count)?;
+    let (schema, name) = (table.database_name_raw(), table.table_name_raw());
+    let mut columns = ColumnList::new(alloc, schema, name, count)?;
+    let mut walked = 0;
     let mut fault = None;
     for index in 0..present.len() {
         match next_column(walk) {
@@ -194,56 +192,60 @@ fn plan_columns(
                 break;
             }
             Ok(column) => {
-                let present = is_set(present, index);
-                if present {
-                    columns.push(row_column(alloc, table, index, &column)?)?;
+                walked += 1;
+                if is_set(present, index) {
+                    add_column(alloc, &mut columns, index, &column)?;
+                    slots.push(slot_of(&column))?;
                 }
-                slots.push(slot_of(&column, present))?;
             }
         }
     }
     Ok(Planned {
         slots,
         columns,
+        walked,
         fault,
     })
 }
 
 impl Plan {
     /// Makes the plan for images with the columns of the table whose bits are set in `present`, and
-    /// adds the steps that it took. `has_options` says that the images begin with options. `Memory`
-    /// if memory can't be allocated.
+    /// adds the steps that it took. `Memory` if memory can't be allocated.
     pub fn make(
         alloc: Global,
         table: &TableMapEvent<'_>,
-        has_options: bool,
         present: &BitView<'_>,
         steps: &mut u128,
     ) -> Result<Plan, Fault>
         requires { steps.old < 2 ^ 127 }
-        ensures plan { IfOk result (λ p. p ≡ plan_of table.now has_options present.now) }
-        ensures least { IfOk result (λ p. steps.old + length p.planned.slots ≤ steps.new) }
+        ensures plan { IfOk result (λ p. p ≡ plan_of table.now present.now) }
+        ensures least { IfOk result (λ p. steps.old + p.planned.walked ≤ steps.new) }
         ensures most { IfOk result (λ _. steps.new
             ≤ steps.old + length present.now + length table.now.optional_metadata) }
         ensures fits { IfOk result (λ _. steps.new < steps.old + 2 ^ 70) }
         ensures err { IfErr result (λ e. e ≡ Fault.Memory) }
     {
+        let count = present.count_ones();
         let mut walk = TableColumns::new(table);
         let planned = match walk.fault() {
-            None => plan_columns(alloc, table, present, &mut walk)?,
+            None => {
+                let most = count.min(table.columns_count() as usize);
+                plan_columns(alloc, table, present, most, &mut walk)?
+            }
             Some(fault) => Planned {
                 slots: Vec::new(alloc),
-                columns: Vec::new(alloc),
+                columns: ColumnList::new(alloc, &[], &[], 0)?,
+                walked: 0,
                 fault: Some(fault),
             },
         };
         *steps += walk.steps();
         Ok(Plan {
-            has_options,
-            count: present.count_ones(),
+            count,
             json_columns: table.json_column_count(),
             slots: planned.slots,
-            columns: RcSlice::from_vec(planned.columns)?,
+            columns: planned.columns.into_columns(alloc)?,
+            walked: planned.walked,
             fault: planned.fault,
         })
     }
@@ -251,11 +253,15 @@ impl Plan {
     // Reads the options of an image and returns its partial bits. There are none if the image has no
     // options, or if the lowest bit of the options isn't set.
     #[tactic(auto, unfolding(crate::specs::Images::partial_bits))]
-    fn read_partials<'b>(&self, buf: &mut ParseBuf<'b>) -> Result<BitView<'b>, Fault>
-        ensures { Parses (planned_options self.now) result buf.old.0.now buf.new.0.now }
+    fn read_partials<'b>(
+        &self,
+        has_options: bool,
+        buf: &mut ParseBuf<'b>,
+    ) -> Result<BitView<'b>, Fault>
+        ensures { Parses (planned_options has_options self.now) result buf.old.0.now buf.new.0.now }
     {
         let order = BitOrder::LeastSignificantFirst;
-        if self.has_options {
+        if has_options {
             let options = <LenEnc as IntRepr>::deserialize(buf)?;
             if options % 2 == 1 {
                 return buf.parse((order, self.json_columns));
@@ -265,12 +271,18 @@ impl Plan {
     }
 
     /// Reads one image: the options, if it has any, the null bits, and then the cells that aren't
-    /// NULL.
+    /// NULL. `has_options` says that the image begins with options.
     #[tactic(auto, unfolding(crate::specs::Plans::planned_image))]
-    pub fn read(&self, alloc: Global, buf: &mut ParseBuf<'_>) -> Result<BinlogRow, Fault>
-        ensures { OrMemory result (Parses (planned_image self.now) result buf.old.0.now buf.new.0.now) }
+    pub fn read(
+        &self,
+        alloc: Global,
+        has_options: bool,
+        buf: &mut ParseBuf<'_>,
+    ) -> Result<BinlogRow, Fault>
+        ensures { OrMemory result (Parses (planned_image has_options self.now) result
+            buf.old.0.now buf.new.0.now) }
     {
-        let partials = self.read_partials(buf)?;
+        let partials = self.read_partials(has_options, buf)?;
         let nulls: BitView<'_> = buf.parse((BitOrder::LeastSignificantFirst, self.count))?;
         let values = read_cells(alloc, &self.slots, self.fault, &partials, &nulls, buf)?;
         Ok(BinlogRow::new(values, self.columns.clone()?))
@@ -290,14 +302,12 @@ fn read_cells(
     ensures { OrMemory result (ParsesAs (λ v. map (option_map cell_of) v.items) (slot_cells partials.now
         slots.now end nulls.now) result buf.old.0.now buf.new.0.now) }
 {
-    let mut values = Vec::with_capacity(alloc, nulls.len())?;
+    let mut values = Vec::with_capacity(alloc, slots.len())?;
     let mut place = 0;
     for slot in slots {
-        if slot.present {
-            let value = read_nullable_cell(alloc, slot, partials, is_set(nulls, place), buf)?;
-            values.push(Some(value))?;
-            place += 1;
-        }
+        let value = read_nullable_cell(alloc, slot, partials, is_set(nulls, place), buf)?;
+        values.push(Some(value))?;
+        place += 1;
     }
     match end {
         None => Ok(values),

@@ -7,7 +7,8 @@ ghost use Rattle.binlog_base.specs.Format.{Parses, OrMemory};
 ghost use Rattle.binlog_table.specs.TableMap.{TableMap};
 ghost use Rattle.mysql_binlog_rows.specs.RowsEvent.{RowsEvent as Event};
 ghost use Rattle.mysql_binlog_rows.specs.Images.{has_options, pair};
-ghost use Rattle.mysql_binlog_rows.specs.Plans.{plan_of, slots_in, slot_count, planned_maybe, planned_pair};
+ghost use Rattle.mysql_binlog_rows.specs.Plans.{plan_of, walked_in, walked_apart, slot_count, same_columns, planned_maybe, planned_pair};
+ghost use Rattle.mysql_binlog_rows.specs.After.{after_in, walked_after};
 ghost use Rattle.mysql_binlog_rows.specs.Rows.{Reads, PairGives, at_rest, columns_in, plans_of_events, most_of_events};
 ghost use Rattle.mysql_binlog_rows.specs.Columns.{plans_in, is_planned, PlansKept};
 
@@ -24,27 +25,42 @@ use std::marker::Model;
 /// The row before a change and the row after it. Each is none if the event has no such image.
 pub type RowPair = (Option<BinlogRow>, Option<BinlogRow>);
 
+/// The plan of the images after the change, if the event has them: that of the images before it
+/// where both have the same columns, or one of its own.
+#[derive(Drop)]
+enum After {
+    Same,
+    Own(Option<Plan>),
+}
+
 /// How the pairs of rows of an event are read, and how many steps it took to find that out.
 #[derive(Drop)]
 struct Plans {
     before: Option<Plan>,
-    after: Option<Plan>,
+    after: After,
+    has_options: bool,
     steps: u128,
 }
 
 impl Model for Plans {
-    ghost use Rattle.std.specs.Prelude.{◌≤◌};
-    ghost use Rattle.mysql_binlog_rows.specs.Plans.{slot_count};
+    ghost use Rattle.std.specs.Prelude.{◌≤◌, ◌+◌};
+    ghost use Rattle.mysql_binlog_rows.specs.Plans.{walked_in};
+    ghost use Rattle.mysql_binlog_rows.specs.After.{after_in, walked_after};
     ghost use Rattle.mysql_binlog_rows.specs.Rows.{Made};
 
     ghost Value = { Made };
 
     ghost view = { λ p. record {
-      plans = record { before = p.before; after = p.after };
+      plans = record {
+        before = p.before;
+        after = after_in p.before p.after;
+        has_options = p.has_options;
+        walked = walked_in p.before + walked_after p.after;
+      };
       steps = p.steps;
     } };
 
-    ghost invariant = { λ p. slot_count (record { before = p.before; after = p.after }) ≤ p.steps };
+    ghost invariant = { λ p. walked_in p.before + walked_after p.after ≤ p.steps };
 }
 
 /// The two events that the plans are made from.
@@ -107,35 +123,71 @@ fn has_options(event_type: EventType) -> bool
 fn maybe_plan(
     alloc: Global,
     table: &TableMapEvent<'_>,
-    has_options: bool,
-    present: Option<BitView<'_>>,
+    present: &Option<BitView<'_>>,
     steps: &mut u128,
 ) -> Result<Option<Plan>, Fault>
     requires { steps.old < 2 ^ 127 }
-    ensures plan { IfOk result (λ p. p ≡ option_map (plan_of table.now has_options) present.entry) }
-    ensures least { IfOk result (λ p. steps.old + slots_in p ≤ steps.new) }
+    ensures plan { IfOk result (λ p. p ≡ option_map (plan_of table.now) present.now) }
+    ensures least { IfOk result (λ p. steps.old + walked_in p ≤ steps.new) }
     ensures most { IfOk result (λ _.
-        steps.new ≤ steps.old + (columns_in present.entry + length table.now.optional_metadata)) }
+        steps.new ≤ steps.old + (columns_in present.now + length table.now.optional_metadata)) }
     ensures fits { IfOk result (λ _. steps.new < steps.old + 2 ^ 70) }
     ensures err { IfErr result (λ e. e ≡ Fault.Memory) }
 {
     match present {
         None => Ok(None),
-        Some(present) => Ok(Some(Plan::make(alloc, table, has_options, &present, steps)?)),
+        Some(present) => Ok(Some(Plan::make(alloc, table, present, steps)?)),
     }
 }
 
 fn read_maybe(
     alloc: Global,
     plan: &Option<Plan>,
+    has_options: bool,
     buf: &mut ParseBuf<'_>,
 ) -> Result<Option<BinlogRow>, Fault>
-    ensures { OrMemory result (Parses (planned_maybe plan.now) result buf.old.0.now buf.new.0.now) }
+    ensures { OrMemory result
+        (Parses (planned_maybe has_options plan.now) result buf.old.0.now buf.new.0.now) }
 {
     match plan {
         None => Ok(None),
-        Some(plan) => Ok(Some(plan.read(alloc, buf)?)),
+        Some(plan) => Ok(Some(plan.read(alloc, has_options, buf)?)),
     }
+}
+
+// Returns whether an event has both images, and they have the same columns.
+fn same_columns(before: &Option<BitView<'_>>, after: &Option<BitView<'_>>) -> bool
+    ensures { result ≡ same_columns before.now after.now }
+{
+    match (before, after) {
+        (Some(before), Some(after)) => before == after,
+        _ => false,
+    }
+}
+
+// Makes the plan of the images after the change, if the event has them and the plan of the images
+// before it doesn't serve for them, and adds the steps that it took.
+fn plan_after(
+    alloc: Global,
+    table: &TableMapEvent<'_>,
+    before: &Option<BitView<'_>>,
+    after: &Option<BitView<'_>>,
+    steps: &mut u128,
+) -> Result<After, Fault>
+    requires { steps.old < 2 ^ 127 }
+    ensures plan { IfOk result (λ a. after_in (option_map (plan_of table.now) before.now) a
+        ≡ option_map (plan_of table.now) after.now) }
+    ensures walked { IfOk result (λ a. walked_after a ≡ walked_apart
+        (same_columns before.now after.now) (option_map (plan_of table.now) after.now)) }
+    ensures least { IfOk result (λ a. steps.old + walked_after a ≤ steps.new) }
+    ensures most { IfOk result (λ _.
+        steps.new ≤ steps.old + (columns_in after.now + length table.now.optional_metadata)) }
+    ensures err { IfErr result (λ e. e ≡ Fault.Memory) }
+{
+    if same_columns(before, after) {
+        return Ok(After::Same);
+    }
+    Ok(After::Own(maybe_plan(alloc, table, after, steps)?))
 }
 
 impl Plans {
@@ -147,16 +199,26 @@ impl Plans {
     {
         let mut steps = 0;
         let (table, event) = (events.table, events.event);
-        let options = has_options(event.event_type());
-        let columns = event.columns_before_image();
-        let before = maybe_plan(alloc, table, false, columns, &mut steps)?;
-        let columns = event.columns_after_image();
-        let after = maybe_plan(alloc, table, options, columns, &mut steps)?;
+        let columns_before = event.columns_before_image();
+        let columns_after = event.columns_after_image();
+        let before = maybe_plan(alloc, table, &columns_before, &mut steps)?;
+        let after = plan_after(alloc, table, &columns_before, &columns_after, &mut steps)?;
         Ok(Plans {
             before,
             after,
+            has_options: has_options(event.event_type()),
             steps,
         })
+    }
+
+    // The plan of the images after the change.
+    fn after(&self) -> &Option<Plan>
+        ensures { result.now ≡ self.now.plans.after }
+    {
+        match &self.after {
+            After::Same => &self.before,
+            After::Own(plan) => plan,
+        }
     }
 
     #[tactic(auto, unfolding(crate::specs::Plans::planned_pair))]
@@ -164,8 +226,8 @@ impl Plans {
         ensures { OrMemory result
             (Parses (planned_pair self.now.plans) result buf.old.0.now buf.new.0.now) }
     {
-        let before = read_maybe(alloc, &self.before, buf)?;
-        let after = read_maybe(alloc, &self.after, buf)?;
+        let before = read_maybe(alloc, &self.before, false, buf)?;
+        let after = read_maybe(alloc, self.after(), self.has_options, buf)?;
         Ok((before, after))
     }
 

@@ -5,20 +5,19 @@ ghost use Rattle.binlog_base.specs.Values.{ColumnView, no_flags};
 
 use super::column_flags::ColumnFlags;
 use super::column_type::ColumnType;
-use crate::below::{EofBytes, RawBytes};
+use super::shared_bytes::SharedBytes;
 use bitflags::Flags;
 use std::alloc::{AllocError, Global};
-use std::borrow::CowSlice;
 use std::marker::Model;
 
 /// A column of a row: its type, names, flags and character set, as in MySQL's column definitions.
 #[derive(Debug, PartialEq, Eq, Drop)]
 pub struct Column {
     column_type: ColumnType,
-    schema: RawBytes<'static, EofBytes>,
-    table: RawBytes<'static, EofBytes>,
-    org_table: RawBytes<'static, EofBytes>,
-    name: RawBytes<'static, EofBytes>,
+    schema: SharedBytes,
+    table: SharedBytes,
+    org_table: SharedBytes,
+    name: SharedBytes,
     flags: ColumnFlags,
     character_set: u16,
 }
@@ -49,18 +48,6 @@ impl Model for Column {
     } };
 }
 
-fn copy_of(alloc: Global, text: &[u8]) -> Result<RawBytes<'static, EofBytes>, AllocError>
-    ensures { IfOk result (λ copy. copy ≡ text.now) }
-{
-    Ok(RawBytes::new(CowSlice::Owned(Vec::from_slice(alloc, text)?)))
-}
-
-fn no_text() -> RawBytes<'static, EofBytes>
-    ensures { result ≡ [] }
-{
-    RawBytes::new(CowSlice::Borrowed(&[]))
-}
-
 impl Column {
     /// Makes a column of this type, with empty names, no flags, and character set 0.
     pub fn new(column_type: ColumnType) -> Self
@@ -76,12 +63,43 @@ impl Column {
     {
         Column {
             column_type,
-            schema: no_text(),
-            table: no_text(),
-            org_table: no_text(),
-            name: no_text(),
+            schema: SharedBytes::none(),
+            table: SharedBytes::none(),
+            org_table: SharedBytes::none(),
+            name: SharedBytes::none(),
             flags: ColumnFlags::empty(),
             character_set: 0,
+        }
+    }
+
+    // Makes a column of these parts.
+    pub(super) fn of_parts(
+        column_type: ColumnType,
+        schema: SharedBytes,
+        table: SharedBytes,
+        org_table: SharedBytes,
+        name: SharedBytes,
+        flags: ColumnFlags,
+        character_set: u16,
+    ) -> Self
+        ensures { result ≡ record {
+          column_type = column_type;
+          schema = schema;
+          table = table;
+          org_table = org_table;
+          name = name;
+          flags = flags;
+          character_set = character_set;
+        } }
+    {
+        Column {
+            column_type,
+            schema,
+            table,
+            org_table,
+            name,
+            flags,
+            character_set,
         }
     }
 
@@ -90,7 +108,7 @@ impl Column {
     pub fn with_schema(mut self, alloc: Global, schema: &[u8]) -> Result<Self, AllocError>
         ensures { IfOk result (λ c. c ≡ record self { schema = schema.now }) }
     {
-        self.schema = copy_of(alloc, schema)?;
+        self.schema = SharedBytes::copy(alloc, schema)?;
         Ok(self)
     }
 
@@ -99,7 +117,7 @@ impl Column {
     pub fn with_table(mut self, alloc: Global, table: &[u8]) -> Result<Self, AllocError>
         ensures { IfOk result (λ c. c ≡ record self { table = table.now }) }
     {
-        self.table = copy_of(alloc, table)?;
+        self.table = SharedBytes::copy(alloc, table)?;
         Ok(self)
     }
 
@@ -108,7 +126,7 @@ impl Column {
     pub fn with_org_table(mut self, alloc: Global, org_table: &[u8]) -> Result<Self, AllocError>
         ensures { IfOk result (λ c. c ≡ record self { org_table = org_table.now }) }
     {
-        self.org_table = copy_of(alloc, org_table)?;
+        self.org_table = SharedBytes::copy(alloc, org_table)?;
         Ok(self)
     }
 
@@ -116,7 +134,7 @@ impl Column {
     pub fn with_name(mut self, alloc: Global, name: &[u8]) -> Result<Self, AllocError>
         ensures { IfOk result (λ c. c ≡ record self { name = name.now }) }
     {
-        self.name = copy_of(alloc, name)?;
+        self.name = SharedBytes::copy(alloc, name)?;
         Ok(self)
     }
 

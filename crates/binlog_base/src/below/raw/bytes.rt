@@ -22,6 +22,13 @@ use std::borrow::{CowSlice, CowStr};
 use std::fmt;
 use std::marker::{Model, PhantomData};
 
+/// Returns whether two byte strings are the same.
+pub fn same_bytes(a: &[u8], b: &[u8]) -> bool
+    ensures { IsTrue result ↔ (a.now ≡ b.now) }
+{
+    a == b
+}
+
 /// A kind of byte string: which bytes spell a string, and which bytes are written for it.
 pub trait BytesRepr {
     /// The greatest length that is written, in bytes. Of a longer string only the first `MAX_LEN`

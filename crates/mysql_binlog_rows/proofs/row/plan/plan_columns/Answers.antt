@@ -8,12 +8,12 @@ use Rattle.mysql_binlog_rows.proofs.row.plan.plan_columns.Goals.{else-loop-index
 pub returns-clause-planned : goal.returns-clause-planned
 returns-clause-planned c =
     let slots = c.loop-index.slots.items in
-    let columns = c.loop-index.columns.items in
-    let with_fault : Option Fault → Planned = λ fault. record { slots = slots; columns = columns; fault = fault } in
+    let columns = c.loop-index.columns.columns in
+    let with_fault : Option Fault → Planned = λ fault. record { slots = slots; columns = columns; walked = c.loop-index.walked; fault = fault } in
     elim c.loop-index-test.branch [
       | else-loop-index-test w ↦
-          ap with_fault (w.fault-is ∙ c.loop-index.invariant.no_fault) ∙ sym (plan_ends c.args.table.now slots columns c.loop-index.walk.columns c.args.present.now c.loop-index.index _ (omega arith) c.loop-index.invariant.so_far)
+          ap with_fault (w.fault-is ∙ c.loop-index.invariant.no_fault) ∙ sym (plan_ends c.args.table.now slots columns c.loop-index.walked c.loop-index.walk.columns c.args.present.now c.loop-index.index _ (omega arith) c.loop-index.invariant.so_far)
       | then-loop-index-test+in-Err w ↦
           let first : first_column c.loop-index.walk.columns ≡ Err w.in-Err.e = sym w.in-Err.ensures.column in
-          ap with_fault w.fault-is ∙ sym (plan_stops c.args.table.now slots columns c.loop-index.walk.columns c.args.present.now c.loop-index.index w.in-Err.e _ (omega arith) first c.loop-index.invariant.so_far)
+          ap with_fault w.fault-is ∙ sym (plan_stops c.args.table.now slots columns c.loop-index.walked c.loop-index.walk.columns c.args.present.now c.loop-index.index w.in-Err.e _ (omega arith) first c.loop-index.invariant.so_far)
     ]

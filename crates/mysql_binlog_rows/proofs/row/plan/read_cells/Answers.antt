@@ -1,11 +1,10 @@
-use Rattle.std.proofs.Common.{◌≡◌, Bool, true, false, Ok, get_or, ap, sym, ◌∙◌, arith}
+use Rattle.std.proofs.Common.{◌≡◌, Bool, false, Ok, get_or, ap, sym, ◌∙◌, arith}
 use Rattle.std.proofs.lemmas.Result.{err_from_is_err_and}
-use Rattle.mysql_binlog_rows.specs.Plans.{Slot, slot_cell}
+use Rattle.mysql_binlog_rows.specs.Plans.{slot_cell}
 use Rattle.mysql_binlog_rows.specs.Cells.{cell_of}
 use Rattle.std.proofs.lemmas.List.{map-append}
-use Rattle.mysql_binlog_rows.proofs.Loop.{goes_absent, goes_on, stops, all_well, all_ill}
+use Rattle.mysql_binlog_rows.proofs.Loop.{goes_on, stops, all_well, all_ill}
 use Rattle.mysql_binlog_rows.proofs.row.plan.read_cells.Goals as goal
-use Rattle.mysql_binlog_rows.proofs.row.plan.read_cells.Goals.{then-slot+in_ok-value+in_ok-push, else-slot}
 
 pub returns-in-None : goal.returns-in-None
 returns-in-None c = all_well _ _ _ _ _ _ _ _ c.loop-slot-test.false c.in-None.is c.loop-slot.invariant.so_far
@@ -14,34 +13,21 @@ pub returns : goal.returns
 returns c = λ other. all_ill _ _ _ _ _ _ _ _ _ c.loop-slot-test.false c.in-Some.is c.loop-slot.invariant.so_far
 
 pub loop-slot-preserved : goal.loop-slot-preserved
-loop-slot-preserved c =
-    elim c.if-slot.branch [
-      | then-slot+in_ok-value+in_ok-push w ↦ record {
-        place = omega arith;
-        so_far =
-            let present : c.slot-item.result.present ≡ true = ap (λ (s : Slot). s.present) (sym c.slot.view_is) ∙ w.if-slot.true in
-            let read : (slot_cell (get_or c.args.nulls.now c.loop-slot.place false) c.args.partials.now c.slot-item.result).parse c.loop-slot.buf.0.now ≡ Ok (cell_of w.in_ok-value.value, w.read_nullable_cell.new.buf.0.now) =
-            ap (λ (b : Bool). (slot_cell b c.args.partials.now c.slot-item.result).parse c.loop-slot.buf.0.now) (sym w.is_set.ensures) ∙ w.in_ok-value.ensures in
-            rw (w.values-is, w.buf-is, w.place-is, w.in_ok-push.ensures.items, map-append)
-            (goes_on c.args.partials.now _ c.args.slots.now c.args.end c.args.nulls.now c.loop-slot.slot-index c.loop-slot.place c.loop-slot.buf.0.now w.read_nullable_cell.new.buf.0.now c.slot-item.result (cell_of w.in_ok-value.value) _
-            c.loop-slot-test.true c.slot-item.is present read c.loop-slot.invariant.so_far);
-      }
-      | else-slot w ↦ record {
-        place = omega arith;
-        so_far =
-            let absent : c.slot-item.result.present ≡ false = ap (λ (s : Slot). s.present) (sym c.slot.view_is) ∙ w.if-slot.false in
-            rw (w.values-is, w.buf-is, w.place-is)
-            (goes_absent c.args.partials.now _ c.args.slots.now c.args.end c.args.nulls.now c.loop-slot.slot-index c.loop-slot.place c.loop-slot.buf.0.now c.slot-item.result _
-            c.loop-slot-test.true c.slot-item.is absent c.loop-slot.invariant.so_far);
-      }
-    ]
+loop-slot-preserved c = record {
+  place = omega arith;
+  so_far =
+      let read : (slot_cell (get_or c.args.nulls.now c.loop-slot.place false) c.args.partials.now c.slot-item.result).parse c.loop-slot.buf.0.now ≡ Ok (cell_of c.in_ok-value.value, c.read_nullable_cell.new.buf.0.now) =
+      ap (λ (b : Bool). (slot_cell b c.args.partials.now c.slot-item.result).parse c.loop-slot.buf.0.now) (sym c.is_set.ensures) ∙ c.in_ok-value.ensures in
+      rw (c.in_ok-push.ensures.items, map-append)
+      (goes_on c.args.partials.now _ c.args.slots.now c.args.end c.args.nulls.now c.loop-slot.slot-index c.loop-slot.place c.loop-slot.buf.0.now c.read_nullable_cell.new.buf.0.now c.slot-item.result (cell_of c.in_ok-value.value) _
+      c.loop-slot-test.true c.slot-item.is read c.loop-slot.invariant.so_far);
+}
 
 pub returns-in_err-value : goal.returns-in_err-value
 returns-in_err-value c =
     let p = err_from_is_err_and c.from_residual-in_err-value.result c.from_residual-in_err-value.ensures.1 in
-    let present : c.slot-item.result.present ≡ true = ap (λ (s : Slot). s.present) (sym c.slot.view_is) ∙ c.if-slot.true in
     rw (p.1, p.2) (λ other.
     stops c.args.partials.now _ c.args.slots.now c.args.end c.args.nulls.now c.loop-slot.slot-index c.loop-slot.place c.loop-slot.buf.0.now c.slot-item.result _ _
-    c.loop-slot-test.true c.slot-item.is present
+    c.loop-slot-test.true c.slot-item.is
     (ap (λ (b : Bool). (slot_cell b c.args.partials.now c.slot-item.result).parse c.loop-slot.buf.0.now) (sym c.is_set.ensures) ∙ c.in_err-value.ensures other)
     c.loop-slot.invariant.so_far)

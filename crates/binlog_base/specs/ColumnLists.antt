@@ -1,0 +1,26 @@
+-- The columns of a table, as they are listed one after another. All names stand in one text: the
+-- schema's, the table's, and then those of the columns.
+use Rattle.std.specs.Prelude.{◌≤◌, ⊤, ℕ, List, [], ◌∷◌}
+use Rattle.binlog_base.specs.declared.below.columns.column_list.Listed.{Listed}
+use Rattle.binlog_base.specs.Cuts.{cut}
+use Rattle.binlog_base.specs.Values.{ColumnView}
+
+-- the names of a table's schema and of the table, and its columns so far
+pub record ColumnList : Type 0 where
+  pub schema : List ℕ
+  pub table : List ℕ
+  pub columns : List ColumnView
+
+-- a column, by where the names of the schema and of the table end in the text of all names; the
+-- table's name is also that of the original table
+abbrev pub listed_column : ℕ → ℕ → List ℕ → Listed → ColumnView
+listed_column schema_end table_end text l = record { column_type = l.column_type; schema = cut 0 schema_end text; table = cut schema_end table_end text; org_table = cut schema_end table_end text; name = cut l.start l.end text; flags = l.flags; character_set = l.character_set }
+
+-- the names of the columns stand in a text of this length
+pub record IsInside (n : ℕ) (l : Listed) : Type 0 where
+  pub order : l.start ≤ l.end
+  pub inside : l.end ≤ n
+
+abbrev pub AreInside : ℕ → List Listed → Type 0
+AreInside n [] = ⊤
+AreInside n (l ∷ ls) = IsInside n l × AreInside n ls

@@ -4,8 +4,9 @@ pub mod Loop
 pub mod Plans
 pub mod SamePlan
 pub mod PlanReads
+pub mod AlikePlans
+pub mod Nexts
 pub mod Pairs
 pub mod Runs
 pub mod Equality
-pub mod Places
 pub mod NotPlain

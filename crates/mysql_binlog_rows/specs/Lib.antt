@@ -12,6 +12,7 @@ pub mod After
 pub mod Cover
 pub mod Laws
 pub mod Rows
+pub mod Kept
 pub mod Columns
 pub mod Decodes
 pub mod Equality

@@ -1,5 +1,5 @@
 -- The iterator over the pairs of a rows event, and what a call of its `next` returns.
-use Rattle.std.specs.Prelude.{◌≡◌, ◌≢◌, ℕ, ◌<◌, ◌≤◌, ◌+◌, ◌*◌, Bool, true, List, [], ◌++◌, length, Option, Some, None, Result, Ok, Err}
+use Rattle.std.specs.Prelude.{◌≡◌, ◌≢◌, ℕ, ◌<◌, ◌≤◌, ◌+◌, ◌*◌, Bool, true, false, List, [], ◌++◌, length, Option, Some, None, Result, Ok, Err}
 use denote.Ref.{Bor}
 use Rattle.binlog_base.specs.declared.fault.Fault.{Fault}
 use Rattle.binlog_base.specs.declared.fault.Fault.TheVariants.{Memory}
@@ -25,6 +25,15 @@ pub record Rows : Type 0 where
 pub record Made : Type 0 where
   pub plans : Plans
   pub steps : ℕ
+
+-- the same plans, for whose making no column was walked over
+abbrev pub unwalked : Plans → Plans
+unwalked p = record { before = p.before; after = p.after; has_options = p.has_options; walked = 0 }
+
+-- plans that were made for this event, or for an earlier one, so that no step is this event's
+abbrev pub made_by : Bool → Made → Made
+made_by true m = m
+made_by false m = record { plans = unwalked m.plans; steps = 0 }
 
 -- the two events that say how pairs are read
 pub record Events : Type 0 where
@@ -100,4 +109,4 @@ pub record PlansOnce (s : Rows) (r : Option (Result Pair Fault)) (t : Rows) : Ty
 pub record NextGives (s : Rows) (r : Option (Result Pair Fault)) (t : Rows) : Type 0 where
   pub plans : PlansOnce s r t
   pub shrinks : Shrinks s.left r t.left
-  pub item : (table : TableMap) (event : RowsEvent) → IsOf table event s → ItemGives (pair table event) s.left r t.left
+  pub item : (table : TableMap) (event : RowsEvent) → Reads table event s.plans → ItemGives (pair table event) s.left r t.left

@@ -8,6 +8,7 @@ mod decimals;
 mod filter;
 mod images;
 mod jsonb;
+mod kept;
 mod memory;
 mod misc;
 mod optional_metadata;

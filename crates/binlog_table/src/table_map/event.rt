@@ -281,7 +281,7 @@ impl<'a> TableMapEvent<'a> {
     /// gives a type other than STRING, ENUM and SET.
     ///
     /// A call walks over the metadata of all columns before this one, so all columns of a wide table
-    /// take long: 2,150,000,000 instructions for 10,000 columns. `TableColumns` gives them in one walk.
+    /// take long: over a billion instructions for 10,000 columns. `TableColumns` gives them in one walk.
     pub fn get_column_type(&self, index: usize) -> Result<Option<ColumnType>, BadColumnType>
         ensures { result ≡ column_type_at self.now.types self.now.metadata index }
     {
@@ -327,7 +327,7 @@ impl<'a> TableMapEvent<'a> {
     /// type, and where the chunk of this column or of one before it is cut.
     ///
     /// A call walks over the metadata of all columns before this one, so all columns of a wide table
-    /// take long: 2,150,000,000 instructions for 10,000 columns. `TableColumns` gives them in one walk.
+    /// take long: over a billion instructions for 10,000 columns. `TableColumns` gives them in one walk.
     pub fn get_column_metadata(&self, index: usize) -> Option<&[u8]>
         ensures chunk { option_map (λ c. c.now) result ≡ chunk_at self.now.types self.now.metadata index }
         // The columns' metadata begins with the chunks of the columns up to this one, and the

@@ -1,6 +1,6 @@
 //! Reads the images of rows, by a plan that is made once for an event.
 
-ghost use Rattle.std.specs.Prelude.{◌≡◌, ◌≤◌, ◌<◌, ◌+◌, ◌^◌, ◌++◌, ◌∷◌, [], false, IfOk, IfErr, map, length, slice_index_or};
+ghost use Rattle.std.specs.Prelude.{◌≡◌, ◌≤◌, ◌<◌, ◌+◌, ◌^◌, ◌++◌, ◌∷◌, [], false, IfOk, IfErr, map, drop, length, slice_index_or};
 ghost use Rattle.std.specs.Option.{option_map};
 ghost use Rattle.binlog_base.specs.declared.fault.Fault.TheVariants as Fault;
 ghost use Rattle.binlog_base.specs.Format.{Parses, ParsesAs, OrMemory};
@@ -8,7 +8,7 @@ ghost use Rattle.binlog_base.specs.Items.{result_map};
 ghost use Rattle.binlog_table.specs.ColumnsLeft.{seen_column};
 ghost use Rattle.mysql_binlog_rows.specs.Cells.{cell_of};
 ghost use Rattle.binlog_base.specs.Values.{column_flags_of};
-ghost use Rattle.mysql_binlog_rows.specs.Images.{row_flags};
+ghost use Rattle.mysql_binlog_rows.specs.Images.{default_name, row_flags};
 ghost use Rattle.mysql_binlog_rows.specs.Plans.{column_in, json_place_of, slot_of, first_column, after_first, planned_from, plan_of, planned_options, planned_image, is_partial_slot, slot_cell, slot_cells};
 
 use super::binlog_row::BinlogRow;
@@ -21,6 +21,7 @@ use binlog_base::fault::Fault;
 use binlog_consts::consts::Flags;
 use binlog_table::table_map::TableMapEvent;
 use binlog_table::table_map::optional::{ColumnName, TableColumn, TableColumns};
+use itoa::write_digits;
 use std::alloc::Global;
 use std::marker::Model;
 use std::rc::RcSlice;
@@ -106,16 +107,24 @@ fn flags_of(unsigned: bool, is_key: bool) -> ColumnFlags
     }
 }
 
+// Writes `@` and the column's index at the end of the room, and returns where they begin.
+fn write_default_name(index: usize, room: &mut [u8; 21]) -> usize
+    ensures within { result ≤ 21 }
+    ensures name { drop result room.new ≡ default_name index }
+{
+    let digits = write_digits(index as u64, room, 21);
+    let start = digits - 1;
+    room[start] = b'@';
+    start
+}
+
 // Adds the column of this index as rows have it: its type, name, flags and character set. Its name
 // is the given one, or `@` and the column's index.
-fn add_column(
-    alloc: Global,
-    columns: &mut ColumnList,
-    index: usize,
-    column: &TableColumn<'_>,
-) -> Result<(), Fault>
-    ensures column { IfOk result (λ _. columns.new ≡ record columns.old { columns
-        = columns.old.columns ++ column_in columns.old index (seen_column column.now) ∷ [] }) }
+fn add_column(columns: &mut ColumnList, index: usize, column: &TableColumn<'_>) -> Result<(), Fault>
+    ensures column { IfOk result (λ _. columns.new ≡ record columns.old {
+      columns
+          = columns.old.columns ++ column_in columns.old index (seen_column column.now) ∷ [];
+    }) }
     ensures err { IfErr result (λ e. e ≡ Fault.Memory) }
 {
     let flags = flags_of(column.unsigned, column.is_key);
@@ -124,8 +133,9 @@ fn add_column(
             columns.add(column.column_type, name.name_raw(), flags, column.charset)?;
         }
         None => {
-            let name = format!(in alloc; "@{}", index)?;
-            columns.add(column.column_type, name.as_bytes(), flags, column.charset)?;
+            let mut room = [0; 21];
+            let start = write_default_name(index, &mut room);
+            columns.add(column.column_type, &room[start..], flags, column.charset)?;
         }
     }
     Ok(())
@@ -194,7 +204,7 @@ fn plan_columns(
             Ok(column) => {
                 walked += 1;
                 if is_set(present, index) {
-                    add_column(alloc, &mut columns, index, &column)?;
+                    add_column(&mut columns, index, &column)?;
                     slots.push(slot_of(&column))?;
                 }
             }

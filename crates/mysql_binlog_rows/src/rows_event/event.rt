@@ -85,7 +85,7 @@ impl<'a> Model for RowsEvent<'a> {
 
 impl<'a> RowsEvent<'a> {
     ghost use Rattle.std.specs.Prelude.{IfOk, ◌≤◌, [], length};
-    ghost use Rattle.std.specs.Option.{ForSome, is_some};
+    ghost use Rattle.std.specs.Option.{ForSome, is_some, option_map};
     ghost use Rattle.binlog_base.specs.Bits.{bitmap_len};
     ghost use Rattle.std.specs.Int.RustNames.{bit_and};
     ghost use Rattle.bitflags.specs.Sets.{known_bits};
@@ -210,6 +210,20 @@ impl<'a> RowsEvent<'a> {
             self.num_columns as usize,
             BitOrder::LeastSignificantFirst,
         ))
+    }
+
+    // Returns the bytes of the bitmap of the images before the change, if the event has them.
+    pub(super) fn bitmap_before(&self) -> Option<&[u8]>
+        ensures { option_map (λ b. b.now) result ≡ self.now.before }
+    {
+        Some(self.columns_before_image.as_ref()?.as_bytes())
+    }
+
+    // Returns the bytes of the bitmap of the images after the change, if the event has them.
+    pub(super) fn bitmap_after(&self) -> Option<&[u8]>
+        ensures { option_map (λ b. b.now) result ≡ self.now.after }
+    {
+        Some(self.columns_after_image.as_ref()?.as_bytes())
     }
 
     /// Returns the rows data: the bytes of the images, one after the other.

@@ -21,6 +21,7 @@ use binlog_consts::consts::EventType;
 use binlog_table::table_map::TableMapEvent;
 use std::alloc::Global;
 use std::marker::Model;
+use std::rc::Rc;
 
 /// The row before a change and the row after it. Each is none if the event has no such image.
 pub type RowPair = (Option<BinlogRow>, Option<BinlogRow>);
@@ -35,7 +36,7 @@ enum After {
 
 /// How the pairs of rows of an event are read, and how many steps it took to find that out.
 #[derive(Drop)]
-struct Plans {
+pub(super) struct Plans {
     before: Option<Plan>,
     after: After,
     has_options: bool,
@@ -65,9 +66,9 @@ impl Model for Plans {
 
 /// The two events that the plans are made from.
 #[derive(Drop)]
-struct Events<'a> {
-    table: &'a TableMapEvent<'a>,
-    event: &'a RowsEvent<'a>,
+pub(super) struct Events<'a> {
+    pub(super) table: &'a TableMapEvent<'a>,
+    pub(super) event: &'a RowsEvent<'a>,
 }
 
 impl<'a> Model for Events<'a> {
@@ -78,11 +79,29 @@ impl<'a> Model for Events<'a> {
     ghost view = { λ u. record { table = u.table.now; event = u.event.now } };
 }
 
-/// The events before the first pair is read, and the plans from then on.
+/// Plans that are kept for later events too. Where they were made for an earlier event, no step was
+/// taken for this one.
+#[derive(Drop)]
+pub(super) struct Shared {
+    pub(super) plans: Rc<Plans>,
+    pub(super) is_new: bool,
+}
+
+impl Model for Shared {
+    ghost use Rattle.std.specs.Rc.{rc_value};
+    ghost use Rattle.mysql_binlog_rows.specs.Rows.{Made, made_by};
+
+    ghost Value = { Made };
+
+    ghost view = { λ s. made_by s.is_new (rc_value s.plans) };
+}
+
+/// The events before the first pair is read, and the plans from then on; or plans that are kept.
 #[derive(Drop)]
 enum Columns<'a> {
     Events(Events<'a>),
     Plans(Plans),
+    Shared(Shared),
 }
 
 /// An iterator over the pairs of rows of a rows event, up to and including its first fault.
@@ -113,7 +132,7 @@ impl<'a> Model for RowsEventRows<'a> {
 }
 
 // Returns whether the images after the change have options.
-fn has_options(event_type: EventType) -> bool
+pub(super) fn has_options(event_type: EventType) -> bool
     ensures { result ≡ has_options event_type }
 {
     matches!(event_type, EventType::PARTIAL_UPDATE_ROWS_EVENT)
@@ -192,7 +211,7 @@ fn plan_after(
 
 impl Plans {
     // Makes the plans of both images. `Memory` if memory can't be allocated.
-    fn make(alloc: Global, events: &Events<'_>) -> Result<Plans, Fault>
+    pub(super) fn make(alloc: Global, events: &Events<'_>) -> Result<Plans, Fault>
         ensures plans { IfOk result (λ p. p.plans ≡ plans_of_events events.now) }
         ensures most { IfOk result (λ p. p.steps ≤ most_of_events events.now) }
         ensures err { IfErr result (λ e. e ≡ Fault.Memory) }
@@ -209,6 +228,13 @@ impl Plans {
             has_options: has_options(event.event_type()),
             steps,
         })
+    }
+
+    // Returns whether the images after the change have options.
+    pub(super) fn has_options(&self) -> bool
+        ensures { result ≡ self.now.plans.has_options }
+    {
+        self.has_options
     }
 
     // The plan of the images after the change.
@@ -251,6 +277,16 @@ impl Plans {
     }
 }
 
+impl Shared {
+    // Returns how many steps it took to make the plans for this event.
+    fn steps(&self) -> u128
+        ensures value { result ≡ self.now.steps }
+        ensures least { slot_count self.now.plans ≤ result }
+    {
+        if self.is_new { self.plans.steps } else { 0 }
+    }
+}
+
 // Reads the pair at the start of the rows data. Returns it with the bytes after it. Makes the plans
 // first if there are none yet.
 fn pair_from<'a>(
@@ -266,6 +302,7 @@ fn pair_from<'a>(
 {
     match &*columns {
         Columns::Plans(plans) => plans.next_pair(alloc, rows_data),
+        Columns::Shared(shared) => shared.plans.next_pair(alloc, rows_data),
         Columns::Events(events) => {
             let plans = Plans::make(alloc, events)?;
             let answer = plans.next_pair(alloc, rows_data);
@@ -305,12 +342,30 @@ impl<'a> RowsEvent<'a> {
 }
 
 impl<'a> RowsEventRows<'a> {
+    // Returns an iterator over the pairs of rows that this data has, by plans that are made.
+    pub(super) fn by_plans(alloc: Global, rows_data: &'a [u8], plans: Shared) -> RowsEventRows<'a>
+        ensures { result ≡ record {
+          plans = plans.plans;
+          left = rows_data.now;
+          is_planned = true;
+          steps = plans.steps;
+          most_steps = plans.steps;
+        } }
+    {
+        RowsEventRows {
+            alloc,
+            rows_data,
+            columns: Columns::Shared(plans),
+        }
+    }
+
     /// Returns how many steps it took to find out how the columns are read: one for each field of
     /// the optional metadata, one for each item and fault that was taken of the lists in it, and
-    /// one for each column. They are counted once for each image.
+    /// one for each column that was walked over, be it in the image or not. They are counted once for
+    /// each plan: an event with two images of the same columns has one plan for both.
     ///
     /// The count is 0 before the first call of `next` with bytes left, and no later call changes
-    /// it.
+    /// it. By a plan that was kept from an earlier event it stays 0.
     pub fn metadata_steps(&self) -> u128
         ensures value { result ≡ self.now.steps }
         ensures most { result ≤ self.now.most_steps }
@@ -319,6 +374,7 @@ impl<'a> RowsEventRows<'a> {
         match &self.columns {
             Columns::Events(_) => 0,
             Columns::Plans(plans) => plans.steps,
+            Columns::Shared(shared) => shared.steps(),
         }
     }
 }

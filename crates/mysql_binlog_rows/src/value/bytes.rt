@@ -6,9 +6,9 @@ ghost use Rattle.binlog_base.specs.Values.{plain_of, Bytes};
 ghost use Rattle.mysql_binlog_rows.specs.Cells.{fixed_bytes, text, text_cell, bytes_in};
 
 use super::form::Width;
-use binlog_base::below::{ParseBuf, Value, read_number};
+use super::numbers::read_unsigned;
+use binlog_base::below::{ParseBuf, Value};
 use binlog_base::fault::Fault;
-use byteorder::LittleEndian;
 use std::alloc::{AllocError, Global};
 
 // Copies the bytes into a value.
@@ -28,11 +28,11 @@ pub(super) fn read_fixed(alloc: Global, len: usize, buf: &mut ParseBuf<'_>) -> R
 }
 
 // Reads a little-endian length of `width` bytes, and then as many bytes as it says.
-#[tactic(auto, using(binlog_base::specs::Lemmas::Fixed::few), unfolding(crate::specs::Cells::text))]
+#[tactic(auto, unfolding(crate::specs::Cells::text))]
 fn read_slice<'a>(width: Width, buf: &mut ParseBuf<'a>) -> Result<&'a [u8], Fault>
     ensures { ParsesAs (λ x. x.now) (text (bytes_in width)) result buf.old.0.now buf.new.0.now }
 {
-    let len = read_number::<LittleEndian, u32>(width.bytes(), buf)?;
+    let len = read_unsigned(width, buf)?;
     buf.eat(len as usize)
 }
 

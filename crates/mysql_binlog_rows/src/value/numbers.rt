@@ -1,17 +1,44 @@
 //! Reads the cells of numbers.
 
 ghost use Rattle.std.specs.Prelude.{◌≡◌, false};
-ghost use Rattle.binlog_base.specs.Format.{ParsesAs};
+ghost use Rattle.binlog_base.specs.Format.{Parses, ParsesAs};
+ghost use Rattle.binlog_base.specs.Numbers.{little_endian, signed_little_endian};
 ghost use Rattle.binlog_base.specs.Values.{plain_of};
 ghost use Rattle.mysql_binlog_rows.specs.Cells.{integer, long_integer, float_bits, double_bits, variant_cell, bytes_in};
 
 use super::form::Width;
-use binlog_base::below::{IntRepr, LeI64, LeU32, LeU64, ParseBuf, Value, read_number};
+use binlog_base::below::{
+    I8, IntRepr, LeI16, LeI24, LeI32, LeI64, LeU16, LeU24, LeU32, LeU64, ParseBuf, U8, Value,
+};
 use binlog_base::fault::Fault;
-use byteorder::LittleEndian;
+
+// Reads a little-endian number of `width` bytes, without a sign. In each arm the width is known to the
+// compiler, so that reading takes a few instructions.
+pub(super) fn read_unsigned(width: Width, buf: &mut ParseBuf<'_>) -> Result<u32, Fault>
+    ensures { Parses (little_endian (bytes_in width)) result buf.old.0.now buf.new.0.now }
+{
+    match width {
+        Width::One => Ok(u32::from(U8::deserialize(buf)?)),
+        Width::Two => Ok(u32::from(LeU16::deserialize(buf)?)),
+        Width::Three => LeU24::deserialize(buf),
+        Width::Four => LeU32::deserialize(buf),
+    }
+}
+
+// The same of a number in two's complement.
+fn read_signed(width: Width, buf: &mut ParseBuf<'_>) -> Result<i32, Fault>
+    ensures { Parses (signed_little_endian (bytes_in width)) result buf.old.0.now buf.new.0.now }
+{
+    match width {
+        Width::One => Ok(i32::from(I8::deserialize(buf)?)),
+        Width::Two => Ok(i32::from(LeI16::deserialize(buf)?)),
+        Width::Three => LeI24::deserialize(buf),
+        Width::Four => LeI32::deserialize(buf),
+    }
+}
 
 // Reads a TINY, SHORT, INT24 or LONG: a little-endian integer of `width` bytes.
-#[tactic(auto, using(binlog_base::specs::Lemmas::Fixed::few), unfolding(crate::specs::Cells::integer))]
+#[tactic(auto, unfolding(crate::specs::Cells::integer))]
 pub(super) fn read_integer(
     width: Width,
     unsigned: bool,
@@ -19,11 +46,10 @@ pub(super) fn read_integer(
 ) -> Result<Value, Fault>
     ensures { ParsesAs plain_of (integer (bytes_in width) unsigned) result buf.old.0.now buf.new.0.now }
 {
-    let width = width.bytes();
     let number = if unsigned {
-        i64::from(read_number::<LittleEndian, u32>(width, buf)?)
+        i64::from(read_unsigned(width, buf)?)
     } else {
-        i64::from(read_number::<LittleEndian, i32>(width, buf)?)
+        i64::from(read_signed(width, buf)?)
     };
     Ok(Value::Int(number))
 }
@@ -60,10 +86,10 @@ pub(super) fn read_double(buf: &mut ParseBuf<'_>) -> Result<Value, Fault>
 }
 
 // Reads the number of an ENUM value, a little-endian number of `width` bytes.
-#[tactic(auto, using(binlog_base::specs::Lemmas::Fixed::few), unfolding(crate::specs::Cells::variant_cell))]
+#[tactic(auto, unfolding(crate::specs::Cells::variant_cell))]
 pub(super) fn read_variant(width: Width, buf: &mut ParseBuf<'_>) -> Result<Value, Fault>
     ensures { ParsesAs plain_of (variant_cell (bytes_in width)) result buf.old.0.now buf.new.0.now }
 {
-    let number = read_number::<LittleEndian, u32>(width.bytes(), buf)?;
+    let number = read_unsigned(width, buf)?;
     Ok(Value::Int(i64::from(number)))
 }

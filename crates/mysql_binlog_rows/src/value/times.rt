@@ -1,6 +1,6 @@
 //! Reads the cells of dates and times.
 
-ghost use Rattle.std.specs.Prelude.{◌≡◌, ◌<◌, ◌*◌, ◌/◌, ◌%◌, ◌^◌, true, false, IfOk, Some};
+ghost use Rattle.std.specs.Prelude.{◌≡◌, ◌≤◌, ◌<◌, ◌-◌, ◌*◌, ◌/◌, ◌%◌, ◌^◌, ◌++◌, true, false, IfOk, replicate};
 ghost use Rattle.std.specs.Option.{option_map};
 ghost use Rattle.binlog_base.specs.Format.{ParsesAs, OrMemory};
 ghost use Rattle.binlog_base.specs.Values.{plain_of, Bytes};
@@ -13,8 +13,8 @@ use binlog_base::misc::{
     datetime_from_packed, my_datetime_packed_from_binary, my_time_packed_from_binary,
     my_timestamp_from_binary, time_from_packed,
 };
+use itoa::Buffer;
 use std::alloc::{AllocError, Global};
-use std::fmt;
 
 // Reads a TIMESTAMP of the format before fractional seconds: the seconds since 1970, as a
 // little-endian number of four bytes.
@@ -124,9 +124,9 @@ pub(super) fn read_datetime(buf: &mut ParseBuf<'_>) -> Result<Value, Fault>
 fn year_of(alloc: Global, years: u8) -> Result<Value, AllocError>
     ensures { IfOk result (λ value. plain_of value ≡ year_text years) }
 {
-    let year = 1900 + u16::from(years);
-    let text = format!(in alloc; "{year}")?;
-    Ok(Value::Bytes(text.into_bytes()))
+    let mut digits = Buffer::new();
+    let text = digits.format(1900 + u16::from(years));
+    Ok(Value::Bytes(Vec::from_slice(alloc, text.as_bytes())?))
 }
 
 // Reads a YEAR: one byte, the years since 1900.
@@ -158,50 +158,42 @@ pub(super) fn read_date(buf: &mut ParseBuf<'_>) -> Result<Value, Fault>
     Ok(date_of_bits(number))
 }
 
-// A number as at least six characters, including the minus, padded with zeros after the minus.
-#[derive(Drop)]
-struct SixPlaces(i32);
-
-impl fmt::Display for SixPlaces {
-    ghost output = { λ n. Some (six_places n.0) };
-
-    #[tactic(auto, using(crate::proofs::Places::six_places_written))]
-    fn fmt<W: fmt::Write>(&self, f: &mut fmt::Formatter<W>) -> fmt::Result {
-        let number = self.0;
-        write!(f, "{number:06}")
+// Adds a number as at least six characters, including the minus, padded with zeros after the minus.
+fn add_six_places(text: &mut Vec<u8>, number: i32) -> Result<(), AllocError>
+    ensures { IfOk result (λ _. text.new.items ≡ text.old.items ++ six_places number) }
+{
+    let mut digits = Buffer::new();
+    let digits = digits.format(number.unsigned_abs());
+    if number < 0 {
+        text.extend_from_slice(b"-")?;
+        text.extend_from_slice(zeros(5, digits.len()))?;
+    } else {
+        text.extend_from_slice(zeros(6, digits.len()))?;
     }
+    text.extend_from_slice(digits.as_bytes())
 }
 
-// The seconds since 1970, then a point and the microseconds if these aren't 0.
-#[derive(Drop)]
-struct TimestampText {
-    seconds: i32,
-    microseconds: i32,
+// Returns as many zeros as a text of `len` bytes needs to have `places`.
+fn zeros(places: usize, len: usize) -> &'static [u8]
+    requires { places ≤ 6 }
+    ensures { result.now ≡ replicate (places - len) 48 }
+{
+    &b"000000"[..places.saturating_sub(len)]
 }
 
-impl fmt::Display for TimestampText {
-    ghost output = { λ t. Some (timestamp_text (t.seconds, t.microseconds)) };
-
-    fn fmt<W: fmt::Write>(&self, f: &mut fmt::Formatter<W>) -> fmt::Result {
-        let seconds = self.seconds;
-        if self.microseconds == 0 {
-            write!(f, "{seconds}")
-        } else {
-            let places = SixPlaces(self.microseconds);
-            write!(f, "{seconds}.{places}")
-        }
-    }
-}
-
+// Returns the seconds since 1970 as text, then a point and the microseconds if these aren't 0.
 fn timestamp_of(alloc: Global, seconds: i32, microseconds: i32) -> Result<Value, AllocError>
     ensures { IfOk result (λ value. plain_of value ≡ Bytes (timestamp_text (seconds, microseconds))) }
 {
-    let text = TimestampText {
-        seconds,
-        microseconds,
-    };
-    let text = format!(in alloc; "{text}")?;
-    Ok(Value::Bytes(text.into_bytes()))
+    let mut digits = Buffer::new();
+    let mut text = Vec::with_capacity(alloc, 18)?;
+    text.extend_from_slice(digits.format(seconds).as_bytes())?;
+    if microseconds == 0 {
+        return Ok(Value::Bytes(text));
+    }
+    text.extend_from_slice(b".")?;
+    add_six_places(&mut text, microseconds)?;
+    Ok(Value::Bytes(text))
 }
 
 // Reads a TIMESTAMP with `decimals` digits of fractional seconds, as text.

@@ -17,6 +17,10 @@ use std::test::Fail;
 /// The update of column 0, which was 7, to column 1, which is NULL.
 pub(super) const UPDATED: &[u8] = b"\x01\0\0\0\0\0\x01\0\x02\0\x02\x01\x02\0\x07\0\0\0\x01";
 
+/// The update of both columns, from 7 to 8.
+const UPDATED_NUMBER: &[u8] =
+    b"\x01\0\0\0\0\0\x01\0\x02\0\x02\x03\x03\x02\x07\0\0\0\x02\x08\0\0\0";
+
 #[test]
 fn an_update_with_other_columns_in_each_image(rt: HostRuntime) -> Result<(), Fail> {
     let event = read(UPDATED, EventType::UPDATE_ROWS_EVENT, 10)?;
@@ -166,8 +170,9 @@ fn steps_of_plans(rt: HostRuntime) {
             steps_of(alloc, NAMED, TWO_ROWS, write) == Ok((0, 5, 5)),
             // A field of an unknown kind is no step.
             steps_of(alloc, NAMED_AFTER_UNKNOWN, TWO_ROWS, write) == Ok((0, 5, 5)),
-            // An update has two images, and so two plans.
+            // An update has two images: two plans if their columns differ, else one.
             steps_of(alloc, NAMED, UPDATED, EventType::UPDATE_ROWS_EVENT) == Ok((0, 10, 10)),
+            steps_of(alloc, NAMED, UPDATED_NUMBER, EventType::UPDATE_ROWS_EVENT) == Ok((0, 5, 5)),
             // There are no rows.
             steps_of(alloc, NAMED, &TWO_ROWS[..12], write) == Ok((0, 0, 0)),
         ])

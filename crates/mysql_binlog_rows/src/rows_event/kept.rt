@@ -1,0 +1,216 @@
+//! The plan of the last rows event, kept for later ones.
+
+ghost use Rattle.std.specs.Prelude.{◌≡◌, ◌↔◌, true, Some, None, IsTrue, IfOk, IfErr, IfSome, IfNone};
+ghost use Rattle.std.specs.Option.{option_map};
+ghost use Rattle.std.specs.Rc.{rc_value};
+ghost use Rattle.binlog_base.specs.declared.fault.Fault.TheVariants as Fault;
+ghost use Rattle.binlog_table.specs.TableMap.{TableMap};
+ghost use Rattle.mysql_binlog_rows.specs.RowsEvent.{RowsEvent as Event};
+ghost use Rattle.mysql_binlog_rows.specs.Rows.{Reads, IsOf, plans_of_events};
+ghost use Rattle.mysql_binlog_rows.specs.Kept.{Serves, KeptServes};
+
+use super::event::RowsEvent;
+use super::rows::{Events, Plans, RowsEventRows, Shared, has_options};
+use binlog_base::below::same_bytes;
+use binlog_base::fault::Fault;
+use binlog_table::table_map::TableMapEvent;
+use std::alloc::{AllocError, Global};
+use std::marker::Model;
+use std::rc::Rc;
+
+/// A plan, and what the events told that it was made for.
+#[derive(Drop)]
+struct Planned {
+    table: TableMapEvent<'static>,
+    num_columns: u64,
+    before: Option<Vec<u8>>,
+    after: Option<Vec<u8>>,
+    plans: Rc<Plans>,
+}
+
+impl Model for Planned {
+    ghost use Rattle.std.specs.Prelude.{◌≡◌};
+    ghost use Rattle.std.specs.Option.{option_map};
+    ghost use Rattle.std.specs.Rc.{rc_value};
+    ghost use Rattle.mysql_binlog_rows.specs.Kept as Spec;
+
+    ghost Value = { Spec.Planned };
+
+    ghost view = { λ p. record {
+      table = p.table;
+      has_options = (rc_value p.plans).plans.has_options;
+      num_columns = p.num_columns;
+      before = option_map (λ b. b.items) p.before;
+      after = option_map (λ b. b.items) p.after;
+    } };
+
+    ghost invariant = { λ p. (rc_value p.plans).plans ≡ Spec.plans_kept (record {
+      table = p.table;
+      has_options = (rc_value p.plans).plans.has_options;
+      num_columns = p.num_columns;
+      before = option_map (λ b. b.items) p.before;
+      after = option_map (λ b. b.items) p.after;
+    }) };
+}
+
+/// The plan by which the rows of the last event were read, kept for later events. It is empty at
+/// first. Contracts see what it was made for.
+///
+/// Whoever reads a stream sees the same table map event again before each statement. With one kept
+/// plan for each table, `RowsEvent::rows_by` finds out how the columns are read only once.
+#[derive(Drop)]
+pub struct KeptPlan {
+    last: Option<Planned>,
+}
+
+impl Model for KeptPlan {
+    ghost use Rattle.std.specs.Prelude.{Option};
+    ghost use Rattle.mysql_binlog_rows.specs.Kept as Spec;
+
+    ghost Value = { Option Spec.Planned };
+
+    ghost view = { λ k. k.last };
+}
+
+// Copies a bitmap, if there is one.
+fn copied(alloc: Global, bitmap: Option<&[u8]>) -> Result<Option<Vec<u8>>, AllocError>
+    ensures { IfOk result
+        (λ b. option_map (λ b. b.items) b ≡ option_map (λ b. b.now) bitmap.entry) }
+{
+    match bitmap {
+        None => Ok(None),
+        Some(bytes) => Ok(Some(Vec::from_slice(alloc, bytes)?)),
+    }
+}
+
+// Returns whether a kept bitmap is this one.
+fn is_same(kept: &Option<Vec<u8>>, bitmap: Option<&[u8]>) -> bool
+    ensures { IsTrue result
+        ↔ (option_map (λ b. b.items) kept.now ≡ option_map (λ b. b.now) bitmap.entry) }
+{
+    match (kept, bitmap) {
+        (None, None) => true,
+        (Some(kept), Some(bytes)) => same_bytes(kept, bytes),
+        _ => false,
+    }
+}
+
+impl Planned {
+    // Keeps a plan that was made for these events. Fails where memory is refused.
+    fn new(
+        alloc: Global,
+        table: &TableMapEvent<'_>,
+        event: &RowsEvent<'_>,
+        plans: Rc<Plans>,
+    ) -> Result<Planned, AllocError>
+        requires { (rc_value plans).plans ≡ plans_of_events (record { table = table.now; event = event.now }) }
+        ensures { IfOk result (λ p. Serves p table.now event.now) }
+    {
+        Ok(Planned {
+            table: table.clone(alloc)?.into_owned(alloc)?,
+            num_columns: event.num_columns(),
+            before: copied(alloc, event.bitmap_before())?,
+            after: copied(alloc, event.bitmap_after())?,
+            plans,
+        })
+    }
+
+    // Returns whether the plan serves these events.
+    fn serves(&self, table: &TableMapEvent<'_>, event: &RowsEvent<'_>) -> bool
+        ensures { IsTrue result ↔ Serves self.now table.now event.now }
+    {
+        self.num_columns == event.num_columns()
+            && self.plans.has_options() == has_options(event.event_type())
+            && is_same(&self.before, event.bitmap_before())
+            && is_same(&self.after, event.bitmap_after())
+            && self.table.tells_the_same(table)
+    }
+
+    // Returns the plan, by which pairs of the events are read that it serves.
+    fn plans(&self) -> &Rc<Plans>
+        ensures { (t : TableMap) (e : Event) → Serves self.now t e → Reads t e (rc_value result.now).plans }
+    {
+        // The use of a field gives the proof the invariant.
+        let _ = &self.num_columns;
+        &self.plans
+    }
+}
+
+impl KeptPlan {
+    /// Keeps no plan yet.
+    pub fn new() -> KeptPlan
+        ensures { result ≡ None }
+    {
+        KeptPlan { last: None }
+    }
+
+    // Keeps a plan in place of the one that was kept.
+    fn keep(&mut self, planned: Planned)
+        ensures { self.new ≡ Some planned }
+    {
+        self.last = Some(planned);
+    }
+
+    // Returns the plan that is kept, if it serves these events.
+    fn plans(&self, table: &TableMapEvent<'_>, event: &RowsEvent<'_>) -> Option<&Rc<Plans>>
+        ensures serves { IfSome result (λ p. KeptServes self.now table.now event.now
+            × Reads table.now event.now (rc_value p.now).plans) }
+        ensures none { IfNone result (¬ (KeptServes self.now table.now event.now)) }
+    {
+        match &self.last {
+            Some(planned) if planned.serves(table, event) => Some(planned.plans()),
+            _ => None,
+        }
+    }
+}
+
+impl Default for KeptPlan {
+    fn default() -> KeptPlan {
+        KeptPlan::new()
+    }
+}
+
+impl<'a> RowsEvent<'a> {
+    ghost use Rattle.mysql_binlog_rows.specs.Rows.{IsOf, Reads};
+
+    /// Returns an iterator over the pairs of rows, as `rows` does, by a plan that is kept.
+    ///
+    /// The items are those of `rows`, whatever was kept before. If the plan was kept for events that
+    /// tell the same, it is used again, and `metadata_steps` is 0: the servers, the names of the
+    /// database and of the table, the types, the metadata, the null bits and the optional metadata of
+    /// the table are the same, and so are the images of the rows events, how many columns they have,
+    /// and which of these are in each image. The ids of the tables, the flags and the rows data may
+    /// differ. Otherwise a plan is made by this call, kept in place of the other, and its steps are
+    /// counted. `Memory` if memory can't be allocated.
+    pub fn rows_by<'b>(
+        &'b self,
+        alloc: Global,
+        table: &TableMapEvent<'_>,
+        kept: &mut KeptPlan,
+    ) -> Result<RowsEventRows<'b>, Fault>
+        ensures reads { IfOk result (λ r. Reads table.now self.now r.plans) }
+        ensures left { IfOk result (λ r. r.left ≡ self.now.rows_data) }
+        ensures planned { IfOk result (λ r. r.is_planned ≡ true) }
+        ensures again { KeptServes kept.old table.now self.now → IfOk result (λ r. r.steps ≡ 0) }
+        ensures anew { ¬ (KeptServes kept.old table.now self.now)
+            → IfOk result (IsOf table.now self.now) }
+        ensures kept { IfOk result (λ _. KeptServes kept.new table.now self.now) }
+        ensures err { IfErr result (λ e. e ≡ Fault.Memory) }
+    {
+        if let Some(plans) = kept.plans(table, self) {
+            let plans = plans.clone()?;
+            let shared = Shared {
+                plans,
+                is_new: false,
+            };
+            return Ok(RowsEventRows::by_plans(alloc, self.rows_data(), shared));
+        }
+        let plans = Rc::new(alloc, Plans::make(alloc, &Events { table, event: self })?)?;
+        kept.keep(Planned::new(alloc, table, self, plans.clone()?)?);
+        let shared = Shared {
+            plans,
+            is_new: true,
+        };
+        Ok(RowsEventRows::by_plans(alloc, self.rows_data(), shared))
+    }
+}

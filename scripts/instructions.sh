@@ -3,13 +3,15 @@
 #
 # usage: scripts/instructions.sh [COLUMNS [full]]
 #        scripts/instructions.sh FEW MANY MORE
+#        scripts/instructions.sh one [full]
 #        scripts/instructions.sh trees
 #
 # COLUMNS are the letters of scripts/make_rows.py; without them the table has ten columns. With `full` it has optional metadata. FEW, MANY and
 # MORE are files of the program's six words, one a line, of the same table with 30, 330 and 630 rows. The instructions of a row are the
 # difference of two runs, divided by 300: of the whole program, and of the call of `decode_pairs` alone. Of `N`, one NEWDECIMAL(12,2) column,
 # those of the call of `read_decimal`, the cell alone, are counted too. What a further column of a row costs is the difference of two tables,
-# such as `N` and `NN`. Build the program with `rt run` in crates/rows. With `trees` it counts the call of
+# such as `N` and `NN`. With `one` it counts the call of `decode_pairs` on an insert and on an update of one row of the ten columns. Build the
+# program with `rt run` in crates/rows. With `trees` it counts the call of
 # `jsonb::Value::parse` in tests, which make a tree of 10,000 numbers and two of 10,000 keys and values; run `rt test` there first.
 set -eu
 here=$(cd "$(dirname "$0")/.." && pwd)
@@ -33,6 +35,22 @@ if [ ! -x "$program" ]; then
 fi
 folder=$(mktemp -d)
 trap 'rm -rf "$folder"' EXIT
+# The instructions of a run on a file of words, with further words for callgrind.
+instructions() {
+    mapfile -t words <"$1"
+    valgrind --tool=callgrind --callgrind-out-file="$folder/callgrind" "${@:2}" "$program" "${words[@]}" 2>"$folder/log" >"$folder/out"
+    sed -n 's/^==[0-9]*== Collected : //p' "$folder/log"
+}
+
+if [ "${1:-}" = one ]; then
+    "$here/scripts/make_rows.py" all 1 ${2:+"$2"} >"$folder/insert"
+    "$here/scripts/make_rows.py" all 1 ${2:+"$2"} update >"$folder/update"
+    for event in insert update; do
+        echo "$event of one row: $(instructions "$folder/$event" --collect-atstart=no '--toggle-collect=*decode_pairs*')"
+    done
+    exit
+fi
+
 if [ $# -eq 3 ]; then
     cp "$1" "$folder/30"
     cp "$2" "$folder/330"
@@ -42,13 +60,6 @@ else
         "$here/scripts/make_rows.py" "${1:-all}" $count ${2:+"$2"} >"$folder/$count"
     done
 fi
-
-# The instructions of a run on a file of words, with further words for callgrind.
-instructions() {
-    mapfile -t words <"$1"
-    valgrind --tool=callgrind --callgrind-out-file="$folder/callgrind" "${@:2}" "$program" "${words[@]}" 2>"$folder/log" >"$folder/out"
-    sed -n 's/^==[0-9]*== Collected : //p' "$folder/log"
-}
 
 decoding=(--collect-atstart=no '--toggle-collect=*decode_pairs*')
 few=$(instructions "$folder/30" "${decoding[@]}")

@@ -1,13 +1,14 @@
 #!/usr/bin/env python3
 """Prints the program's six words, one a line, for a WRITE_ROWS_EVENT of COUNT rows.
 
-usage: scripts/make_rows.py COLUMNS COUNT [full]
+usage: scripts/make_rows.py COLUMNS COUNT [full] [update]
 
-With `full`, the table map event has signs, character sets, names and a key as optional metadata; else it has none.
+With `full`, the table map event has signs, character sets, names and a key as optional metadata; else it has none. With `update` it is an
+UPDATE_ROWS_EVENT, whose rows have the same values before and after.
 
 COLUMNS are letters, one a column: b LONGLONG, i LONG, v VARCHAR(80), t DATETIME2(0), n NEWDECIMAL(12,2), y TINY, d DOUBLE, x BLOB with a
 length in two bytes, e ENUM in one byte. `all` stands for bivvtnydxe. The values are the same for each run; about one in ten is NULL. N and I
-are as n and i, but no value is NULL.
+are as n and i, T is TIMESTAMP2(6) and Y is YEAR, but no value of these is NULL.
 """
 import sys
 
@@ -61,6 +62,8 @@ COLUMNS = {
     "n": (246, b"\x0c\x02", lambda r: decimal(next(r) * 251 - 2**39)),
     "N": (246, b"\x0c\x02", lambda r: decimal(next(r) * 251 - 2**39)),
     "I": (3, b"", lambda r: next(r).to_bytes(4, "little")),
+    "T": (17, b"\x06", lambda r: (next(r) % 2**31).to_bytes(4, "big") + (next(r) % 10**6).to_bytes(3, "big")),
+    "Y": (13, b"", lambda r: bytes([next(r) % 256])),
     "y": (1, b"", lambda r: bytes([next(r) % 256])),
     "d": (5, b"\x08", lambda r: (next(r) << 32 | next(r)).to_bytes(8, "little")),
     "x": (252, b"\x02", long_text),
@@ -84,8 +87,9 @@ def optional_metadata(letters):
 
 
 def main():
-    if len(sys.argv) not in (3, 4) or sys.argv[3:] not in ([], ["full"]):
+    if len(sys.argv) < 3 or sys.argv[3:] not in ([], ["full"], ["update"], ["full", "update"]):
         sys.exit(__doc__)
+    is_update = "update" in sys.argv[3:]
     letters = "bivvtnydxe" if sys.argv[1] == "all" else sys.argv[1]
     columns = [COLUMNS[letter] for letter in letters]
     bitmap_len = (len(columns) + 7) // 8
@@ -93,19 +97,19 @@ def main():
     metadata = b"".join(column[1] for column in columns)
     types = bytes(column[0] for column in columns)
     table = bytes(6) + b"\1\0" + b"\1d\0" + b"\1t\0" + bytes([len(columns)]) + types + bytes([len(metadata)]) + metadata + ones
-    if sys.argv[3:]:
+    if "full" in sys.argv[3:]:
         table += optional_metadata(letters)
-    rows = bytearray(bytes(6) + b"\1\0" + b"\2\0" + bytes([len(columns)]) + ones)
+    rows = bytearray(bytes(6) + b"\1\0" + b"\2\0" + bytes([len(columns)]) + ones * (1 + is_update))
     random = numbers()
     for _ in range(int(sys.argv[2])):
         nulls, cells = 0, b""
         for place, letter in enumerate(letters):
-            if next(random) % 10 == 0 and letter not in "NI":
+            if next(random) % 10 == 0 and letter not in "NITY":
                 nulls |= 1 << place
             else:
                 cells += COLUMNS[letter][2](random)
-        rows += nulls.to_bytes(bitmap_len, "little") + cells
-    print("8", "1E", "10", "10", table.hex(), rows.hex(), sep="\n")
+        rows += (nulls.to_bytes(bitmap_len, "little") + cells) * (1 + is_update)
+    print("8", "1F" if is_update else "1E", "10", "10", table.hex(), rows.hex(), sep="\n")
 
 
 main()

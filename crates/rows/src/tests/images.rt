@@ -18,8 +18,7 @@ use std::test::Fail;
 pub(super) const UPDATED: &[u8] = b"\x01\0\0\0\0\0\x01\0\x02\0\x02\x01\x02\0\x07\0\0\0\x01";
 
 /// The update of both columns, from 7 to 8.
-const UPDATED_NUMBER: &[u8] =
-    b"\x01\0\0\0\0\0\x01\0\x02\0\x02\x03\x03\x02\x07\0\0\0\x02\x08\0\0\0";
+const UPDATED_NUMBER: &[u8] = b"\x01\0\0\0\0\0\x01\0\x02\0\x02\x03\x03\x02\x07\0\0\0\x02\x08\0\0\0";
 
 #[test]
 fn an_update_with_other_columns_in_each_image(rt: HostRuntime) -> Result<(), Fail> {

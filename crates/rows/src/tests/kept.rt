@@ -48,18 +48,80 @@ type Case = (&'static [u8], Server, &'static [u8], EventType);
 
 /// The events, one after the other, and the steps for each.
 const CASES: [(Case, u128); 9] = [
-    ((UNSIGNED, Server::MySql, TWO_ROWS, EventType::WRITE_ROWS_EVENT), 6),
-    ((SAME_TABLE, Server::MySql, TWO_ROWS, EventType::WRITE_ROWS_EVENT), 0),
+    (
+        (
+            UNSIGNED,
+            Server::MySql,
+            TWO_ROWS,
+            EventType::WRITE_ROWS_EVENT,
+        ),
+        6,
+    ),
+    (
+        (
+            SAME_TABLE,
+            Server::MySql,
+            TWO_ROWS,
+            EventType::WRITE_ROWS_EVENT,
+        ),
+        0,
+    ),
     // Another sign bit, and the same again.
-    ((SIGNED, Server::MySql, TWO_ROWS, EventType::WRITE_ROWS_EVENT), 6),
-    ((SIGNED, Server::MySql, TWO_ROWS, EventType::WRITE_ROWS_EVENT), 0),
+    (
+        (SIGNED, Server::MySql, TWO_ROWS, EventType::WRITE_ROWS_EVENT),
+        6,
+    ),
+    (
+        (SIGNED, Server::MySql, TWO_ROWS, EventType::WRITE_ROWS_EVENT),
+        0,
+    ),
     // Another server, other columns, and another kind of event.
-    ((SIGNED, Server::MariaDb, TWO_ROWS, EventType::WRITE_ROWS_EVENT), 6),
-    ((SIGNED, Server::MariaDb, FIRST_COLUMN, EventType::WRITE_ROWS_EVENT), 6),
-    ((SIGNED, Server::MariaDb, images::UPDATED, EventType::UPDATE_ROWS_EVENT), 12),
-    ((SIGNED, Server::MariaDb, images::UPDATED, EventType::UPDATE_ROWS_EVENT), 0),
+    (
+        (
+            SIGNED,
+            Server::MariaDb,
+            TWO_ROWS,
+            EventType::WRITE_ROWS_EVENT,
+        ),
+        6,
+    ),
+    (
+        (
+            SIGNED,
+            Server::MariaDb,
+            FIRST_COLUMN,
+            EventType::WRITE_ROWS_EVENT,
+        ),
+        6,
+    ),
+    (
+        (
+            SIGNED,
+            Server::MariaDb,
+            images::UPDATED,
+            EventType::UPDATE_ROWS_EVENT,
+        ),
+        12,
+    ),
+    (
+        (
+            SIGNED,
+            Server::MariaDb,
+            images::UPDATED,
+            EventType::UPDATE_ROWS_EVENT,
+        ),
+        0,
+    ),
     // Only the last plan is kept.
-    ((UNSIGNED, Server::MySql, TWO_ROWS, EventType::WRITE_ROWS_EVENT), 6),
+    (
+        (
+            UNSIGNED,
+            Server::MySql,
+            TWO_ROWS,
+            EventType::WRITE_ROWS_EVENT,
+        ),
+        6,
+    ),
 ];
 
 /// The steps of the events of a case.

@@ -12,6 +12,9 @@ use std::alloc::{AllocError, Global};
 use std::marker::Model;
 use std::rc::RcSlice;
 
+/// How many bytes are reserved for the name of a column.
+const USUAL_NAME: usize = 12;
+
 /// A column: its type, flags and character set, and where its name begins and ends in the text.
 #[derive(Drop)]
 struct Listed {
@@ -58,7 +61,12 @@ impl ColumnList {
         ensures { IfOk result
             (λ l. l ≡ record { schema = schema.now; table = table.now; columns = [] }) }
     {
-        let mut text = Vec::new(alloc);
+        let names = count.saturating_mul(USUAL_NAME);
+        let room = schema
+            .len()
+            .saturating_add(table.len())
+            .saturating_add(names);
+        let mut text = Vec::with_capacity(alloc, room)?;
         text.extend_from_slice(schema)?;
         let schema_end = text.len();
         text.extend_from_slice(table)?;

@@ -350,7 +350,8 @@ def table_map(r, length, columns):
     metadata = b"".join(column[1] for column in columns)
     table = table_id(r, length) + b"\1d\0\1t\0" + lenenc(len(columns)) + bytes(column[0] for column in columns)
     table += lenenc(len(metadata)) + metadata + r.randbytes((len(columns) + 7) // 8)
-    return table + optional_metadata(r, columns) if r.random() < 0.7 else table
+    optional = optional_metadata(r, columns) if r.random() < 0.7 else b""
+    return table + optional if len(table + optional) <= MOST_BYTES else table
 
 
 def extra_data(r):
@@ -359,19 +360,31 @@ def extra_data(r):
     return little(count, 2) + r.randbytes(max(count - 2, 0))
 
 
-def events(r):
-    """The post-header lengths, a table map event, and the type, the bytes and the count of pairs of a rows event of its table."""
+def columns_and_images(r, images):
+    """The columns of a table, and for each image which of them are in it. Some tables have thousands of columns, of which hardly one is there."""
+    if r.random() < 0.02:
+        columns = [r.choice(MAKERS)(r)] * r.choice([1000, 5000, 10_000])
+        there = {r.randrange(len(columns)) for _ in range(r.randint(0, 2))}
+        return columns, [[place in there for place in range(len(columns))] for _ in range(images)]
     count = r.choice([0, 1, 1, 2, 3, 4, 6, 9, 20, 300]) if r.random() < 0.9 else r.randint(0, 40)
     columns = [r.choice(MAKERS)(r) for _ in range(count)]
+    return columns, [[r.random() < 0.8 for _ in columns] for _ in range(images)]
+
+
+def events(r):
+    """The post-header lengths, a table map event, and the type, the bytes and the count of pairs of a rows event of its table."""
     event_type = r.choice(WRITES + UPDATES + DELETES + (PARTIAL, PARTIAL))
+    columns, images = columns_and_images(r, image_count(event_type))
+    count = len(columns)
     lengths = post_header_lengths(r, event_type)
     table = table_map(r, lengths[0], columns)
-    images = [[r.random() < 0.8 for _ in columns] for _ in range(image_count(event_type))]
     data, pairs = b"", 0
     for _ in range(r.randint(0, 6) if count else 0):
         if len(data) < ENOUGH_BYTES:
-            data += pair(r, event_type, columns, images)
-            pairs += 1
+            one = pair(r, event_type, columns, images)
+            times = min(r.choice([1, 5000]), ENOUGH_BYTES // len(one)) if count >= 1000 and one else 1
+            data += one * times
+            pairs += times
     rows = table_id(r, lengths[1]) + (extra_data(r) if lengths[1] == lengths[2] else b"") + lenenc(count) + b"".join(map(bits, images)) + data
     return lengths, table, event_type, rows, pairs if data else 0
 

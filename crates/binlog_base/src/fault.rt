@@ -80,8 +80,8 @@ pub enum Fault {
     /// A DATETIME's year is above 65535.
     #[error("year out of range")]
     YearRange,
-    /// A number that no optional metadata field has. No call answers it: a whole field of an unknown
-    /// kind is skipped.
+    /// A number that no optional metadata field has. No call answers it: a whole field of an
+    /// unknown kind is skipped.
     #[error("unknown optional field {0}")]
     UnknownOptionalField(u8),
     /// A value doesn't take all of its bytes.

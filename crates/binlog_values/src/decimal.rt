@@ -71,8 +71,8 @@ impl Model for Decimal {
 }
 
 impl Decimal {
-    /// Returns positive zero, with one digit before the point and none after it.
-    /// Fails if memory can't be allocated.
+    /// Returns positive zero, with one digit before the point and none after it. Fails if memory is
+    /// refused.
     pub fn default(alloc: Global) -> Result<Decimal, AllocError>
         ensures { IfOk result (λ d. d ≡ zero_decimal) }
     {
@@ -84,7 +84,7 @@ impl Decimal {
         })
     }
 
-    /// Returns a copy of the decimal. Fails if memory can't be allocated.
+    /// Returns a copy of the decimal. Fails if memory is refused.
     pub fn clone(&self, alloc: Global) -> Result<Decimal, AllocError>
         ensures { IfOk result (λ d. d ≡ self.now) }
     {
@@ -100,7 +100,7 @@ impl Decimal {
 }
 
 /// Returns how many bytes a decimal of `precision` digits, `scale` of them after the point, takes
-/// in the packed DECIMAL format.
+/// in the packed DECIMAL format. `scale` must be at most `precision`.
 pub fn decimal_bin_size(precision: usize, scale: usize) -> usize
     requires { scale ≤ precision }
     ensures { result ≡ packed_size (precision - scale) scale }

@@ -47,7 +47,7 @@ pub(crate) fn put_characters(room: &mut [u8], digits: &[u8])
     }
 }
 
-// Returns how many bytes a decimal point and the digits after it take: none if there are no digits.
+// Returns how many bytes a decimal point and the digits after it take; 0 where there are no digits.
 pub(crate) fn fraction_len(digits: &[u8]) -> usize
     requires { AllBelowBase 10 digits.now }
     ensures { result ≡ length (fraction_digits_text digits.now) }

@@ -1,4 +1,5 @@
-//! The diffs of a partial update of a JSON document, as MySQL's `PARTIAL_UPDATE_ROWS_EVENT` has them.
+//! The diffs of a partial update of a JSON document, as MySQL's `PARTIAL_UPDATE_ROWS_EVENT` has
+//! them.
 
 ghost use Rattle.std.specs.Prelude.{◌≡◌, IfOk};
 ghost use Rattle.std.specs.Option.{option_map};
@@ -104,7 +105,7 @@ impl<'a> JsonDiff<'a> {
     /// Returns the path as text, with `U+FFFD` in place of what isn't UTF-8.
     ///
     /// A path that is UTF-8 is borrowed, which takes no memory. Any other is copied, and the call
-    /// fails where memory is refused.
+    /// fails if memory is refused.
     pub fn path_str(&self, alloc: Global) -> Result<CowStr<'_>, AllocError>
         ensures { IfOk result (λ text. cow_str_bytes text ≡ utf8_lossy self.now.path) }
     {
@@ -118,14 +119,15 @@ impl<'a> JsonDiff<'a> {
         self.operation
     }
 
-    /// Returns the value. A diff whose operation is `REMOVE` is read without one.
+    /// Returns the value; `None` where the diff has none. A diff whose operation is `REMOVE` is
+    /// read without one.
     pub fn value(&self) -> Option<&Value<'a>>
         ensures { option_map (λ v. view_of v.now) result ≡ self.now.value }
     {
         self.value.as_ref()
     }
 
-    /// Returns the same diff, with bytes of its own. Fails where memory is refused.
+    /// Returns the same diff, with bytes of its own. Fails if memory is refused.
     pub fn clone(&self, alloc: Global) -> Result<JsonDiff<'a>, AllocError>
         ensures { IfOk result (λ copy. copy ≡ self.now) }
     {
@@ -141,8 +143,8 @@ impl<'a> JsonDiff<'a> {
         })
     }
 
-    /// Returns the diff with bytes that it owns. Borrowed bytes are copied, and the call fails
-    /// where memory is refused.
+    /// Returns the diff with bytes that it owns. Borrowed bytes are copied, and the call fails if
+    /// memory is refused.
     pub fn into_owned(self, alloc: Global) -> Result<JsonDiff<'static>, AllocError>
         ensures { IfOk result (λ owned. owned ≡ self.entry) }
     {
@@ -185,12 +187,13 @@ fn read_value<'a>(buf: &mut ParseBuf<'a>) -> Result<Value<'a>, Fault>
 }
 
 /// A diff is a byte for the operation, a length-encoded path and, unless the operation is `REMOVE`,
-/// a length-encoded length and a value of binary JSON in as many bytes. Bytes after the value, up to
-/// that length, are ignored.
+/// a length-encoded length and a value of binary JSON in as many bytes. Bytes after the value, up
+/// to that length, are ignored.
 ///
-/// In this order: `UnexpectedEof` if the operation is missing, `UnknownJsonDiffOperation` if its
-/// number is unknown, `UnexpectedEof` or `BadLenEnc` if the path or the length can't be read or the
-/// bytes end before they do, and the faults of the value.
+/// Reading fails, in this order, with `UnexpectedEof` if the operation is missing, with
+/// `UnknownJsonDiffOperation` if its number is unknown, with `UnexpectedEof` or `BadLenEnc` if the
+/// path or the length can't be read or the bytes end before they do, and with the faults of the
+/// value.
 impl<'de> MyDeserialize<'de> for JsonDiff<'de> {
     ghost use Rattle.binlog_values.specs.JsonDiffs.{Diff, diff};
     ghost use Rattle.binlog_values.specs.Lemmas.JsonDiffs.{exact_diff};

@@ -1,4 +1,5 @@
-//! Proved facts about decimals and binary JSON, each written as the contract of a function that does nothing.
+//! Proved facts about decimals and binary JSON, each written as the contract of a function that
+//! does nothing.
 
 ghost use Rattle.std.specs.Prelude.{◌≡◌, ◌≤◌, ◌*◌, ℕ, Bool, Result, length};
 ghost use Rattle.binlog_base.specs.declared.fault.Fault.{Fault};
@@ -10,64 +11,66 @@ ghost use Rattle.binlog_values.specs.JsonbParsed.{document};
 ghost use Rattle.binlog_values.specs.PackedDecimals.{packed_decimal, counted_decimal};
 ghost use Rattle.binlog_values.specs.DecimalLaws.{PackedReadsBack, PackedHasSize, EqualWherePackedAlike, OrderedAsNumbers, PrintedReadsBack, PackedWhereInRange, TextsAreNumerals};
 
-/// If a prefix of some bytes is a packed decimal, that decimal is read from them. Otherwise reading
-/// fails, and the bytes determine the fault.
+/// States that if a prefix of some bytes is a packed decimal, that decimal is read from them.
+/// Otherwise reading fails, and the bytes determine the fault.
 pub fn packed_decimals_are_exact()
     ensures decimal { (precision scale : ℕ) (keep : Bool) → IsExact (packed_decimal precision scale keep) }
     ensures counted { (keep : Bool) → IsExact (counted_decimal keep) }
 {}
 
-/// A decimal that is written in packed form is read back as the same decimal: the sign, the digits,
-/// and how many digits are before and after the point. The packed form has the expected size.
+/// States that a decimal that is written in packed form is read back as the same decimal: the sign,
+/// the digits, and how many digits are before and after the point. The packed form has the expected
+/// size.
 pub fn packed_decimals_read_back()
     ensures again { PackedReadsBack }
     ensures size { PackedHasSize }
 {}
 
-/// Two decimals compare as equal if and only if their packed forms are the same.
+/// States that two decimals compare as equal if and only if their packed forms are the same.
 pub fn equal_decimals_are_packed_alike()
     ensures { EqualWherePackedAlike }
 {}
 
-/// Decimals with the same number of digits before the point and the same number after it are ordered
-/// as their numbers, with negative zero just below zero.
+/// States that decimals with the same number of digits before the point and the same number after
+/// it are ordered as their numbers, with negative zero just below zero.
 #[tactic(auto, using(crate::proofs::DecimalOrders::ordered_as_numbers))]
 pub fn decimals_are_ordered_as_numbers()
     ensures { OrderedAsNumbers }
 {}
 
-/// If a decimal was read from a text, its printed text can be read again, and gives the same number
-/// with the same digits after the point.
+/// States that if a decimal was read from a text, its printed text can be read again, and gives the
+/// same number with the same digits after the point.
 pub fn printed_decimals_read_back()
     ensures { PrintedReadsBack }
 {}
 
-/// Bytes of the right length are a packed decimal if and only if the number of each group has no
-/// more digits than the group.
+/// States that bytes of the right length are a packed decimal if and only if the number of each
+/// group has no more digits than the group.
 pub fn decimals_are_packed_in_range()
     ensures { PackedWhereInRange }
 {}
 
-/// A text is read as a decimal if and only if, once all but one of the zeros at its start are
-/// dropped, it is an optional sign, digits, an optional point and digits.
+/// States that a text is read as a decimal if and only if, once all but one of the zeros at its
+/// start are dropped, it is an optional sign, digits, an optional point and digits.
 pub fn texts_are_numerals()
     ensures { TextsAreNumerals }
 {}
 
-/// The bytes of a container determine each of its elements, or the element's fault.
+/// States that the bytes of a container determine each of its elements, or the element's fault.
 #[tactic(auto, using(crate::specs::Lemmas::JsonbValues::exact_element))]
 pub fn elements_are_exact()
     ensures { (c : Frame) (i : ℕ) → IsExact (element c i) }
 {}
 
-/// The document of what is read is one level, with the documents of its entries below it.
+/// States that the document of what is read is one level, with the documents of its entries below
+/// it.
 #[tactic(auto, using(crate::proofs::JsonbUnfolding::document_is))]
 pub fn documents_unfold()
     ensures { (r : Result JsonbValue Fault) → document_of r ≡ layer document_of r }
 {}
 
-/// Where no two headers of a document's containers share a byte, the root container has at least
-/// three bytes for each value inside it.
+/// States that if no two headers of a document's containers share a byte, the root container has at
+/// least three bytes for each value inside it.
 #[tactic(auto, using(crate::proofs::JsonbCounting::three_bytes_each))]
 pub fn three_bytes_for_a_value()
     ensures { (c : Frame) → IsWhole c → AreDisjoint (headers 0 (document (nested c)))

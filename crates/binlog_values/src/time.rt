@@ -105,8 +105,7 @@ impl MysqlTime {
     /// separated by a space, for a date and time.
     ///
     /// The seconds are followed by a point and `decimals` digits of the fraction, at most six; by
-    /// nothing if `decimals` is 0. Fails if memory can't be allocated; the string is then
-    /// unchanged.
+    /// nothing if `decimals` is 0. Fails if memory is refused; the string is then unchanged.
     pub fn write_text(&self, decimals: usize, text: &mut String) -> Result<(), AllocError>
         ensures { let old = text.old.bytes.items in
             text.new.bytes.items ≡ (if is_ok result then old ++ text_of decimals self.now else old) }

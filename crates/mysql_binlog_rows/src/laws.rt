@@ -5,7 +5,7 @@ ghost use Rattle.mysql_binlog_rows.specs.Laws.{OneListOfPairs, NoProperPrefix, O
 ghost use Rattle.mysql_binlog_rows.specs.OldTimes.{OldTimesHaveSigns};
 ghost use Rattle.mysql_binlog_rows.specs.RowsEventWritten.{WrittenEventsSpellThemselves, ReadEventsKeepExtraData, WrittenEventsReadBack};
 
-/// Rows data can be split into pairs of rows in only one way.
+/// States that rows data can be split into pairs of rows in only one way.
 ///
 /// Two lists of pairs, each of at least one byte, that have the same bytes are the same list. No
 /// such pair is a proper prefix of another. Rows data has only one list of pairs up to its first
@@ -16,15 +16,15 @@ pub fn pairs_are_unambiguous()
     ensures one_cover { OneCover }
 {}
 
-/// A TIME of the format before fractional seconds is read without a sign. With the sign that
-/// `signed_old_time` gives it, it is the time of the same three bytes in two's complement.
+/// States that a TIME of the format before fractional seconds is read without a sign. With the sign
+/// that `signed_old_time` gives it, it is the time of the same three bytes in two's complement.
 pub fn old_times_have_signs()
     ensures { OldTimesHaveSigns }
 {}
 
-/// What is written of a rows event spells the event. So an event that was read is written as bytes
-/// that are read as the same event, where both readings take extra data exactly for the types that
-/// are written with it.
+/// States that what is written of a rows event spells the event. So an event that was read is
+/// written as bytes that are read as the same event, if both readings take extra data exactly for
+/// the types that are written with it.
 pub fn written_rows_events_read_back()
     ensures spelled { WrittenEventsSpellThemselves }
     ensures keeps { ReadEventsKeepExtraData }

@@ -43,12 +43,12 @@ pub enum BinlogValue<'a> {
     Value(Value),
     /// A JSON document, in the binary form of JSON.
     Jsonb(jsonb::Value<'a>),
-    /// The diffs of a JSON document, if only they are in the event.
+    /// The diffs of a JSON document, where the event has only them.
     JsonDiff(Vec<JsonDiff<'a>>),
 }
 
 impl<'a> BinlogValue<'a> {
-    /// Returns the same value, with bytes of its own. Fails where memory is refused.
+    /// Returns the same value, with bytes of its own. Fails if memory is refused.
     pub fn clone(&self, alloc: Global) -> Result<BinlogValue<'a>, AllocError>
         ensures { IfOk result (λ copy. cell_of copy ≡ cell_of self.now) }
     {
@@ -59,8 +59,8 @@ impl<'a> BinlogValue<'a> {
         }
     }
 
-    /// Returns the value with bytes that it owns. Borrowed bytes are copied, and the call fails
-    /// where memory is refused.
+    /// Returns the value with bytes that it owns. Borrowed bytes are copied, and the call fails if
+    /// memory is refused.
     pub fn into_owned(self, alloc: Global) -> Result<BinlogValue<'static>, AllocError>
         ensures { IfOk result (λ owned. cell_of owned ≡ cell_of self.entry) }
     {
@@ -166,13 +166,14 @@ fn read_cell<'de>(
 /// unsigned, and, for JSON, whether it is partial.
 ///
 /// A cell of type JSON borrows its bytes. It is a length in four bytes and in as many bytes a value
-/// of binary JSON, after which bytes are ignored; or, if it is partial, diffs up to the end.
+/// of binary JSON, after which bytes are ignored; or, where it is partial, diffs up to the end.
 ///
 /// The faults come in this order, before any byte of the cell is read: `MissingMetadata`,
-/// `UnknownEnum` or `UnknownBlob` if the metadata has too few bytes or a width that the type doesn't
-/// have, `Unhandled` if the type isn't supported, and `DecimalScale`. Then `UnexpectedEof` if the
-/// cell is cut, and the faults of what it holds: `DecimalGroup`, `TimeRange`, `YearRange`, and for
-/// JSON those of `jsonb::Value` and `JsonDiff`. `Memory` if memory is refused.
+/// `UnknownEnum` or `UnknownBlob` if the metadata has too few bytes or a width that the type
+/// doesn't have, `Unhandled` if the type isn't supported, and `DecimalScale`. Then `UnexpectedEof`
+/// if the cell is cut, and the faults of what it holds: `DecimalGroup`, `TimeRange`, `YearRange`,
+/// and for JSON those of `jsonb::Value` and `JsonDiff`. Any reading may fail with `Memory` instead,
+/// if memory is refused.
 impl<'de> MyDeserialize<'de> for BinlogValue<'de> {
     ghost Seen = { Cell };
 

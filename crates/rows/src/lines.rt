@@ -113,7 +113,7 @@ impl fmt::Display for Json<'_> {
     }
 }
 
-// The text of a cell; empty if the value was taken from its row.
+// The text of a cell; empty where the value was taken from its row.
 #[derive(Drop)]
 struct Cell<'a>(Option<&'a BinlogValue<'static>>);
 
@@ -139,7 +139,7 @@ impl fmt::Display for Cell<'_> {
     }
 }
 
-// The name of a column, with invalid UTF-8 replaced; empty if there is no column.
+// The name of a column, with invalid UTF-8 replaced; empty where there is no column.
 #[derive(Drop)]
 struct Name<'a>(Option<&'a Column>);
 
@@ -192,7 +192,7 @@ impl fmt::Display for Fields<'_> {
     }
 }
 
-// One row of a pair, in braces; `-` if it isn't there.
+// One row of a pair, in braces; `-` where it isn't there.
 #[derive(Drop)]
 struct Image<'a>(&'a Option<BinlogRow>);
 
@@ -218,8 +218,8 @@ impl fmt::Display for Image<'_> {
 /// A cell is `NULL`, a whole number, `x` and lower-case hexadecimal for bytes, `f32:` or `f64:` and
 /// the bits of a float in hexadecimal, `date(year,month,day,hour,minute,second,microseconds)`,
 /// `time(negative,days,hours,minutes,seconds,microseconds)`, `array(count)`, `object(count)` or
-/// `scalar` for a JSON document, or `diffs(count)` for the diffs of one. If the value was taken from the row,
-/// nothing is written for it.
+/// `scalar` for a JSON document, or `diffs(count)` for the diffs of one. A value that was taken
+/// from the row is empty.
 #[derive(Drop)]
 pub struct Lines<'a>(pub &'a [RowPair]);
 

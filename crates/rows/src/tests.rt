@@ -33,12 +33,12 @@ use std::fmt::{Display, InlineText, Write};
 use std::rc::RcSlice;
 use std::test::Fail;
 
-/// Whether all of the checks hold. One call costs less to prove than an assertion for each.
+/// Returns whether all of the checks hold. One call costs less to prove than an assertion for each.
 pub(crate) fn all(checks: &[bool]) -> bool {
     checks.iter().all(|check| *check)
 }
 
-/// Whether this is the text of an error, which is written without memory.
+/// Returns whether this is the text of an error, which is written without memory.
 pub(crate) fn has_text(error: &impl Display, text: &str) -> bool {
     let mut room = InlineText::<128>::new();
     write!(room, "{error}").is_ok() && room.as_str() == text
@@ -57,12 +57,12 @@ fn read(bytes: &[u8], event_type: EventType, post_header_len: u8) -> Result<Rows
 /// Two rows of two columns.
 const TWO_ROWS: &[u8] = b"\x01\0\0\0\0\0\x01\0\x02\0\x02\x03\0\x2a\0\0\0\x02ab\x02\xff\xff\xff\xff";
 
-/// Whether the event has this table, this many columns, and these rows.
+/// Returns whether the event has this table, this many columns, and these rows.
 fn has_parts(event: &RowsEvent<'_>, table_id: u64, columns: u64, rows: &[u8]) -> bool {
     event.table_id() == table_id && event.num_columns() == columns && event.rows_data() == rows
 }
 
-/// Returns how many columns the images before and after the change have; none for an image that
+/// Returns how many columns the images before and after the change have; `None` for an image that
 /// isn't there.
 fn image_counts(event: &RowsEvent<'_>) -> (Option<usize>, Option<usize>) {
     let before = event.columns_before_image();
@@ -73,7 +73,7 @@ fn image_counts(event: &RowsEvent<'_>) -> (Option<usize>, Option<usize>) {
     )
 }
 
-/// Whether the event is that of two inserted rows.
+/// Returns whether the event is that of two inserted rows.
 fn is_two_rows(event: &RowsEvent<'_>) -> bool {
     all(&[
         event.event_type() == EventType::WRITE_ROWS_EVENT,
@@ -92,7 +92,7 @@ fn inserted_rows(rt: HostRuntime) -> Result<(), Fail> {
     Ok(())
 }
 
-/// Whether the images of an event have so many columns.
+/// Returns whether the images of an event have these counts of columns.
 fn has_images(
     bytes: &[u8],
     event_type: EventType,
@@ -120,7 +120,8 @@ fn images_by_type(rt: HostRuntime) {
     }
 }
 
-/// Whether the event has two columns, the rows data 3, and the length of an event of version 4.
+/// Returns whether the event has two columns, the rows data 3, and the length of an event of
+/// version 4.
 fn is_first_version(event: &RowsEvent<'_>) -> bool {
     has_parts(event, 1, 2, &[3])
         && image_counts(event) == (None, Some(2))
@@ -136,14 +137,14 @@ fn first_version(rt: HostRuntime) -> Result<(), Fail> {
     Ok(())
 }
 
-/// Whether an event is written as these bytes.
+/// Returns whether an event is written as these bytes.
 fn writes(rt: &HostRuntime, event: &RowsEvent<'_>, expected: &[u8]) -> Result<bool, Fault> {
     let mut buf = Vec::new(rt.alloc());
     event.serialize(&mut buf)?;
     Ok(buf.as_slice() == expected)
 }
 
-/// Whether an event that is read from these bytes is written as these other bytes.
+/// Returns whether an event that is read from these bytes is written as these other bytes.
 fn is_written(
     rt: &HostRuntime,
     bytes: &[u8],
@@ -176,7 +177,7 @@ fn extra_data_is_written(rt: HostRuntime) -> Result<(), Fail> {
     Ok(())
 }
 
-/// Whether a WRITE_ROWS_EVENT of these bytes is refused by this fault.
+/// Returns whether a WRITE_ROWS_EVENT of these bytes is refused by this fault.
 fn is_refused(bytes: &[u8], fault: Fault) -> bool {
     match read(bytes, EventType::WRITE_ROWS_EVENT, 10) {
         Ok(_) => false,
@@ -184,7 +185,7 @@ fn is_refused(bytes: &[u8], fault: Fault) -> bool {
     }
 }
 
-/// Whether there are no pairs, but this fault, for a WRITE_ROWS_EVENT of these bytes.
+/// Returns whether there are no pairs, but this fault, for a WRITE_ROWS_EVENT of these bytes.
 fn is_refused_run(alloc: Global, bytes: &[u8], fault: Fault) -> bool {
     match decode(alloc, TWO_COLUMNS, bytes, EventType::WRITE_ROWS_EVENT, 10) {
         Ok(_) => false,
@@ -220,7 +221,7 @@ fn refused_events(rt: HostRuntime) {
 /// The table d.t of two columns, LONG and VARCHAR.
 const TWO_COLUMNS: &[u8] = b"\x01\0\0\0\0\0\x01\0\x01d\0\x01t\0\x02\x03\x0f\x02\x0a\0\x02";
 
-/// The pairs of a rows event of this type, whose post-header has this length.
+/// Returns the pairs of a rows event of this type, whose post-header has this length.
 fn decode(
     alloc: Global,
     table: &[u8],
@@ -236,7 +237,7 @@ fn decode(
     decode_pairs(alloc, table, 8, rows, ctx)
 }
 
-/// Returns whether the value at an index is this number, or NULL if `number` is none.
+/// Returns whether the value at an index is this number, or NULL if `number` is `None`.
 fn is_number(row: &BinlogRow, index: usize, number: Option<i64>) -> bool {
     match row.as_ref(index) {
         Some(BinlogValue::Value(Value::Int(other))) => number == Some(*other),
@@ -245,7 +246,7 @@ fn is_number(row: &BinlogRow, index: usize, number: Option<i64>) -> bool {
     }
 }
 
-/// Whether there are this many pairs, and this fault after them.
+/// Returns whether there are this many pairs, and this fault after them.
 fn ends(decoded: &Result<Decoded, Fault>, pairs: usize, fault: Option<Fault>) -> bool {
     match decoded {
         Ok(decoded) => decoded.pairs.len() == pairs && decoded.fault == fault,
@@ -270,7 +271,7 @@ fn four_thousand_pairs(rt: HostRuntime) -> Result<(), Fail> {
     Ok(())
 }
 
-/// A row of one column with this value.
+/// Returns a row of one column with this value.
 fn row_of(alloc: Global, value: Option<Value>) -> Result<BinlogRow, Fault> {
     let column = Column::new(ColumnType::MYSQL_TYPE_LONG);
     let columns = RcSlice::from_vec(vec![in alloc; column]?)?;
@@ -282,17 +283,17 @@ fn row_of(alloc: Global, value: Option<Value>) -> Result<BinlogRow, Fault> {
     Ok(BinlogRow::new(values, columns))
 }
 
-/// The `Debug` text of a row.
+/// Returns the `Debug` text of a row.
 fn shown(alloc: Global, row: &BinlogRow) -> Result<String, AllocError> {
     format!(in alloc; "{row:?}")
 }
 
-/// Whether two rows differ, and their texts.
+/// Returns whether two rows differ, and their texts too.
 fn differ(alloc: Global, row: &BinlogRow, other: &BinlogRow) -> Result<bool, AllocError> {
     Ok(row != other && shown(alloc, row)?.as_str() != shown(alloc, other)?.as_str())
 }
 
-/// Whether the row has NULL as its only value.
+/// Returns whether the row has NULL as its only value.
 fn is_null(row: &BinlogRow) -> bool {
     row.len() == 1 && is_number(row, 0, None) && row.as_ref(1).is_none()
 }
@@ -305,7 +306,7 @@ fn nulls_are_values(rt: HostRuntime) -> Result<(), Fail> {
     Ok(())
 }
 
-/// What four calls of `next` give: a pair, a fault, or nothing.
+/// Returns what four calls of `next` give: `p` for a pair, `f` for a fault, `-` for nothing.
 fn walk(alloc: Global, event: &RowsEvent<'_>, table: &TableMapEvent<'_>) -> [char; 4] {
     let mut rows = event.rows(alloc, table);
     let mut items = ['?'; 4];
@@ -319,13 +320,14 @@ fn walk(alloc: Global, event: &RowsEvent<'_>, table: &TableMapEvent<'_>) -> [cha
     items
 }
 
-/// What four calls of `next` give for a table and the bytes of a WRITE_ROWS_EVENT.
+/// Returns what four calls of `next` give for a table and the bytes of a WRITE_ROWS_EVENT.
 fn items_in(alloc: Global, table: &TableMapEvent<'_>, bytes: &[u8]) -> Result<[char; 4], Fault> {
     let event = read(bytes, EventType::WRITE_ROWS_EVENT, 10)?;
     Ok(walk(alloc, &event, table))
 }
 
-/// What four calls of `next` give for the bytes of a table map event and of a WRITE_ROWS_EVENT.
+/// Returns what four calls of `next` give for the bytes of a table map event and of a
+/// WRITE_ROWS_EVENT.
 fn items_of(alloc: Global, table: &[u8], bytes: &[u8]) -> Result<[char; 4], Fault> {
     let table: TableMapEvent<'_> = ParseBuf(table).parse(8)?;
     items_in(alloc, &table, bytes)

@@ -18,7 +18,7 @@ pub enum WordsError {
     /// There aren't six arguments, or one isn't in its form.
     #[error("usage: rows MLEN TYPE PLEN WLEN MAPHEX ROWSHEX")]
     Usage,
-    /// Memory could not be allocated.
+    /// Memory was refused.
     #[error("out of memory")]
     Memory,
 }
@@ -122,8 +122,8 @@ fn six_words(
 impl Words {
     /// Reads the arguments `MLEN TYPE PLEN WLEN MAPHEX ROWSHEX`.
     ///
-    /// The error is `Usage` if there aren't six arguments or one isn't in its form, and `Memory` if
-    /// memory can't be allocated.
+    /// Fails with `Usage` if there aren't six arguments or one isn't in its form, and with `Memory`
+    /// if memory is refused.
     pub fn read(alloc: Global, words: &[String]) -> Result<Words, WordsError>
         ensures ok { IfOk result (λ w. AreArguments (map string_bytes words.now) (input_of w)) }
         ensures err { IfErr result (λ e. (e ≡ WordsError.Memory)

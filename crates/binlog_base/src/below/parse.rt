@@ -25,7 +25,7 @@ pub trait MyDeserialize<'de>: Sized {
     ghost seen: { Self → Seen };
 
     /// The format of the values: which bytes spell (encode) which value, and which fault is given
-    /// where no prefix of the bytes spells a value.
+    /// if no prefix of the bytes spells a value.
     ghost format: { Self.Ctx → Format Seen };
 
     /// Whether reading takes memory, so that it may fail with `Memory` in place of any other
@@ -37,8 +37,8 @@ pub trait MyDeserialize<'de>: Sized {
 
     /// Reads a value at the start of the bytes, and takes its bytes.
     ///
-    /// Fails with the fault of the format where no prefix of the bytes spells a value. After a
-    /// fault, the bytes that are left are unspecified.
+    /// Fails with the fault of the format if no prefix of the bytes spells a value. After a fault,
+    /// the bytes that are left are unspecified.
     fn deserialize(ctx: Self::Ctx, buf: &mut ParseBuf<'de>) -> Result<Self, Fault>
         ensures { OrMemoryIf takes_memory result
             (ParsesAs seen (format ctx) result buf.old.0.now buf.new.0.now) };
@@ -53,8 +53,8 @@ pub trait MySerialize {
     /// The bytes that are written for a value.
     ghost written: { Self → List ℕ };
 
-    /// Writes the value's bytes at the end of the buffer. Fails where memory is refused; a prefix
-    /// of the bytes may then be in the buffer.
+    /// Writes the value's bytes at the end of the buffer. Fails if memory is refused; a prefix of
+    /// the bytes may then be in the buffer.
     fn serialize(&self, buf: &mut Vec<u8>) -> Result<(), AllocError>
         ensures { Appends result buf.old.items buf.new.items (written self.now) };
 }
@@ -76,8 +76,8 @@ impl<'a> ParseBuf<'a> {
 
     /// Reads a value at the start of the bytes, and takes its bytes.
     ///
-    /// Fails with the fault of the value's format where no prefix of the bytes spells a value.
-    /// After a fault, the bytes that are left are unspecified.
+    /// Fails with the fault of the value's format if no prefix of the bytes spells a value. After a
+    /// fault, the bytes that are left are unspecified.
     pub fn parse<T: MyDeserialize<'a>>(&mut self, ctx: T::Ctx) -> Result<T, Fault>
         ensures parses { OrMemoryIf T.takes_memory result
             (ParsesAs T.seen (T.format ctx) result self.old.0.now self.new.0.now) }
@@ -89,8 +89,8 @@ impl<'a> ParseBuf<'a> {
         T::deserialize(ctx, self)
     }
 
-    /// Takes the first `n` bytes and returns them. Where fewer are left, returns `None` and takes
-    /// no bytes.
+    /// Takes the first `n` bytes and returns them. If fewer are left, returns `None` and takes no
+    /// bytes.
     pub fn checked_eat(&mut self, n: usize) -> Option<&'a [u8]>
         ensures enough { IsSome result ↔ (n ≤ length self.old.0.now) }
         ensures first { IfSome result (λ x. x.now ≡ take n self.old.0.now) }
@@ -102,7 +102,7 @@ impl<'a> ParseBuf<'a> {
         Some(front)
     }
 
-    /// Takes the first `n` bytes and returns them. Fails with `UnexpectedEof` where fewer are left.
+    /// Takes the first `n` bytes and returns them. Fails with `UnexpectedEof` if fewer are left.
     pub fn eat(&mut self, n: usize) -> Result<&'a [u8], Fault>
         ensures { ParsesAs (λ x. x.now) (take_bytes n) result self.old.0.now self.new.0.now }
     {

@@ -33,7 +33,7 @@ impl<'a> Model for BitView<'a> {
     ghost invariant = { λ a. a.len ≤ 8 * length a.bytes.now };
 }
 
-// The bit at place i of the bytes.
+// Returns bit `i` of the bytes, counted from 0.
 #[tactic(auto, unfolding(crate::specs::Bits::bit_at))]
 fn bit(bytes: &[u8], order: BitOrder, i: usize) -> bool
     requires { i < 8 * length bytes.now }
@@ -48,7 +48,7 @@ fn bit(bytes: &[u8], order: BitOrder, i: usize) -> bool
 }
 
 impl<'a> BitView<'a> {
-    /// The first `len` bits of the bytes; all of them where the bytes have fewer.
+    /// Returns the first `len` bits of the bytes, or all of them if the bytes have fewer.
     pub fn new(bytes: &'a [u8], len: usize, order: BitOrder) -> Self
         ensures { result ≡ bits_of order (min len (8 * length bytes.now)) bytes.now }
     {
@@ -56,7 +56,7 @@ impl<'a> BitView<'a> {
         BitView { bytes, len, order }
     }
 
-    /// The count of the bits.
+    /// Returns how many bits there are.
     #[tactic(auto, using(crate::proofs::BitLists::length_bits))]
     pub fn len(&self) -> usize
         ensures { result ≡ length self.now }
@@ -64,7 +64,7 @@ impl<'a> BitView<'a> {
         self.len
     }
 
-    /// Whether there is no bit.
+    /// Returns whether there are no bits.
     #[tactic(auto, using(crate::proofs::BitLists::length_bits))]
     pub fn is_empty(&self) -> bool
         ensures { IsTrue result ↔ (length self.now ≡ 0) }
@@ -72,7 +72,7 @@ impl<'a> BitView<'a> {
         self.len == 0
     }
 
-    /// The bit of place `i`; none at or after the count.
+    /// Returns the bit at index `i`, counted from 0; `None` where `i` is `len` or above.
     #[tactic(auto, using(crate::proofs::BitLists::get_bits, crate::proofs::BitLists::no_bits))]
     pub fn get(&self, i: usize) -> Option<bool>
         ensures { result ≡ slice_get self.now i }
@@ -84,7 +84,7 @@ impl<'a> BitView<'a> {
         }
     }
 
-    /// The bits in order.
+    /// Returns an iterator over the bits, in order.
     pub fn iter(&self) -> BitIter<'a>
         ensures { result ≡ self.now }
     {
@@ -96,7 +96,7 @@ impl<'a> BitView<'a> {
         }
     }
 
-    /// How many bits are set.
+    /// Returns how many bits are set.
     pub fn count_ones(&self) -> usize
         ensures { result ≡ count_set self.now }
     {
@@ -110,7 +110,7 @@ impl<'a> BitView<'a> {
     }
 }
 
-/// Two are equal where their bits are, whatever bytes hold them.
+/// Two lists are equal if their bits are, whatever bytes hold them.
 impl<'a> PartialEq for BitView<'a> {
     ghost eq = { pointwise beq };
 
@@ -131,7 +131,7 @@ impl<'a> fmt::Debug for BitView<'a> {
     }
 }
 
-/// The bits that are left. Contracts see them as a list.
+/// An iterator over bits. Contracts see the list of the bits that are left.
 #[derive(Drop)]
 pub struct BitIter<'a> {
     bytes: &'a [u8],
@@ -169,15 +169,16 @@ impl Iterator for BitIter<'_> {
     }
 }
 
-/// The bytes that a bitmap of `len` bits takes.
+/// Returns how many bytes a bitmap of `len` bits takes.
 pub fn bitmap_len(len: usize) -> usize
     ensures { result ≡ bitmap_len len }
 {
     len.div_ceil(8)
 }
 
-/// A bitmap is read with its order and the count of its bits. The bits of its last byte after these
-/// are ignored. Where fewer than `bitmap_len` bytes are left, it is `UnexpectedEof`.
+/// A bitmap is read with its order and the count of its bits. It takes as many bytes as
+/// `bitmap_len` says; further bits of its last byte are ignored. Reading fails with `UnexpectedEof`
+/// if fewer bytes are left.
 impl<'de> MyDeserialize<'de> for BitView<'de> {
     ghost Seen = { List Bool };
 

@@ -114,7 +114,7 @@ fn time_of_parts(whole: u64, part: u64, width: usize) -> i64
 }
 
 // Returns the packed time of a DATETIME2 whose first five bytes are `whole`. Fails with `TimeRange`
-// where it is below -2^63.
+// if it is below -2^63.
 fn packed_in_range(whole: u64, microseconds: i64) -> Result<i64, Fault>
     requires whole { whole < 256 ^ 5 }
     requires fraction { unsigned_abs microseconds < 2 ^ 24 }
@@ -209,8 +209,8 @@ impl OfWidth for Timestamp2 {
 /// Reads a TIME2 of `dec` decimals, and returns its packed time.
 ///
 /// The bytes are those of MySQL's TIME with fractional seconds: three bytes and a fraction of up to
-/// three. Where `dec` isn't 1 to 6, there is no fraction. Fails with `UnexpectedEof` where the
-/// source ends before the value does, and with `Reader` where the source failed.
+/// three. If `dec` isn't 1 to 6, there is no fraction. Fails with `UnexpectedEof` if the source
+/// ends before the value does, and with `Reader` if the source failed.
 pub fn my_time_packed_from_binary<S: Source>(reader: &mut S, dec: u32) -> Result<i64, Fault>
     ensures { ReadsFrom (time2 dec) result (S.remaining reader.old) (S.remaining reader.new)
         (S.failures reader.old) (S.failures reader.new) }
@@ -221,9 +221,9 @@ pub fn my_time_packed_from_binary<S: Source>(reader: &mut S, dec: u32) -> Result
 /// Reads a DATETIME2 of `dec` decimals, and returns its packed time.
 ///
 /// The bytes are those of MySQL's DATETIME with fractional seconds: five bytes and a fraction of up
-/// to three. Where `dec` isn't 1 to 6, there is no fraction. Fails with `UnexpectedEof` where the
-/// source ends before the value does, with `Reader` where the source failed, and with `TimeRange`
-/// where the packed time is below -2^63.
+/// to three. If `dec` isn't 1 to 6, there is no fraction. Fails with `UnexpectedEof` if the source
+/// ends before the value does, with `Reader` if the source failed, and with `TimeRange` if the
+/// packed time is below -2^63.
 pub fn my_datetime_packed_from_binary<S: Source>(reader: &mut S, dec: u32) -> Result<i64, Fault>
     ensures { ReadsFrom (datetime2 dec) result (S.remaining reader.old) (S.remaining reader.new)
         (S.failures reader.old) (S.failures reader.new) }
@@ -235,8 +235,8 @@ pub fn my_datetime_packed_from_binary<S: Source>(reader: &mut S, dec: u32) -> Re
 /// its microseconds.
 ///
 /// The bytes are those of MySQL's TIMESTAMP with fractional seconds: four bytes and a fraction of
-/// up to three. Where `dec` isn't 1 to 6, there is no fraction. Fails with `UnexpectedEof` where
-/// the source ends before the value does, and with `Reader` where the source failed.
+/// up to three. If `dec` isn't 1 to 6, there is no fraction. Fails with `UnexpectedEof` if the
+/// source ends before the value does, and with `Reader` if the source failed.
 pub fn my_timestamp_from_binary<S: Source>(reader: &mut S, dec: u8) -> Result<(i32, i32), Fault>
     ensures { ReadsFrom (timestamp2 dec) result (S.remaining reader.old) (S.remaining reader.new)
         (S.failures reader.old) (S.failures reader.new) }

@@ -94,7 +94,7 @@ pub enum EventType {
     PARTIAL_UPDATE_ROWS_EVENT = 0x27,
     /// The events of a transaction, which may be compressed.
     TRANSACTION_PAYLOAD_EVENT = 0x28,
-    /// A `HEARTBEAT_EVENT` whose place in the log may be past 4 GiB.
+    /// A `HEARTBEAT_EVENT` whose position in the log may be past 4 GiB.
     HEARTBEAT_LOG_EVENT_V2 = 0x29,
     /// A `GTID_EVENT` whose identifier may have a tag, from MySQL 8.4 on.
     GTID_TAGGED_LOG_EVENT = 0x2A,

@@ -18,7 +18,8 @@ pub enum StatusVarKey {
     Catalog = 2,
     /// The increment and the offset of `AUTO_INCREMENT` columns, 2 bytes each.
     AutoIncrement = 3,
-    /// The client's character set and the collations of the connection and the server, 2 bytes each.
+    /// The client's character set and the collations of the connection and the server, 2 bytes
+    /// each.
     Charset = 4,
     /// The time zone, as a byte for its length and its bytes.
     TimeZone = 5,

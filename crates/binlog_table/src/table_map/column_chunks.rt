@@ -40,8 +40,9 @@ impl<'a> ColumnChunks<'a> {
 
     /// Returns the metadata of the next column: its chunk of the columns' metadata.
     ///
-    /// Returns `None` after the last column, where this column or one before it has an unknown
-    /// type, and where the chunk of this column or of one before it is cut.
+    /// Returns `None` after the last column, and where the chunk of this column or of one before it
+    /// can't be read: its type is unknown, it is a TYPED_ARRAY of an unknown type or of
+    /// TYPED_ARRAY, or the chunk is cut.
     pub fn next_chunk(&mut self) -> Option<&'a [u8]>
         ensures first { option_map (λ c. c.now) result ≡ chunk_left self.old 0 }
         ensures others { (i : ℕ) → chunk_left self.new i ≡ chunk_left self.old (suc i) }

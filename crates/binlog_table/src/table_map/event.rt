@@ -150,8 +150,8 @@ impl<'a> TableMapEvent<'a> {
         self.server
     }
 
-    /// Returns whether another event tells the same of its table: whether the servers are the same, and
-    /// all parts but the table id and the flags are the same bytes.
+    /// Returns whether another event describes its table in the same way: the servers are the same,
+    /// and so are all parts but the table id and the flags.
     pub fn tells_the_same(&self, other: &TableMapEvent<'_>) -> bool
         ensures { IsTrue result ↔ (without_id self.now ≡ without_id other.now) }
     {
@@ -213,7 +213,7 @@ impl<'a> TableMapEvent<'a> {
 
     /// Returns the database's name as text, with `U+FFFD` in place of what isn't UTF-8.
     ///
-    /// A name that isn't UTF-8 takes memory, and the call fails where that is refused.
+    /// A name that isn't UTF-8 takes memory, and the call fails if that is refused.
     pub fn database_name(&self, alloc: Global) -> Result<CowStr<'_>, AllocError>
         ensures { IfOk result (λ text. cow_str_bytes text ≡ utf8_lossy self.now.database) }
     {
@@ -229,7 +229,7 @@ impl<'a> TableMapEvent<'a> {
 
     /// Returns the table's name as text, with `U+FFFD` in place of what isn't UTF-8.
     ///
-    /// A name that isn't UTF-8 takes memory, and the call fails where that is refused.
+    /// A name that isn't UTF-8 takes memory, and the call fails if that is refused.
     pub fn table_name(&self, alloc: Global) -> Result<CowStr<'_>, AllocError>
         ensures { IfOk result (λ text. cow_str_bytes text ≡ utf8_lossy self.now.table) }
     {
@@ -243,7 +243,7 @@ impl<'a> TableMapEvent<'a> {
         self.optional_metadata.as_bytes()
     }
 
-    /// Returns the fields and faults of the optional metadata, in order.
+    /// Returns an iterator over the fields and faults of the optional metadata, in order.
     pub fn iter_optional_meta(&self) -> OptionalMetadataIter<'_>
         ensures { result ≡ fields_of self.now }
     {
@@ -262,8 +262,8 @@ impl<'a> TableMapEvent<'a> {
     }
 
     /// Returns the raw type of column `index`, counted from 0: the type that its type byte gives.
-    /// `Ok(None)` where the table has no such column. Fails where no column type has the number of
-    /// the type byte.
+    /// `Ok(None)` where the table has no such column. Fails if no column type has the number of the
+    /// type byte.
     pub fn get_raw_column_type(&self, index: usize) -> Result<Option<ColumnType>, UnknownColumnType>
         ensures { result ≡ raw_type_of (slice_get self.now.types index) }
     {
@@ -276,20 +276,22 @@ impl<'a> TableMapEvent<'a> {
     /// Returns the real type of column `index`, counted from 0: the raw type, but NEWDATE for DATE,
     /// and ENUM or SET for STRING where its metadata says so.
     ///
-    /// `Ok(None)` where the table has no such column. Fails with `Unknown` where no column type has
-    /// the number of the type byte, and with `Unexpected` where the metadata of a STRING column
-    /// gives a type other than STRING, ENUM and SET.
+    /// `Ok(None)` where the table has no such column. Fails with `Unknown` if no column type has
+    /// the number of the type byte, and with `Unexpected` if the metadata of a STRING column gives
+    /// a type other than STRING, ENUM and SET.
     ///
-    /// A call walks over the metadata of all columns before this one, so all columns of a wide table
-    /// take long: over a billion instructions for 10,000 columns. `TableColumns` gives them in one walk.
+    /// A call walks over the metadata of all columns before this one, so all columns of a wide
+    /// table take long: over a billion instructions for 10,000 columns. `TableColumns` gives them
+    /// in one walk.
     pub fn get_column_type(&self, index: usize) -> Result<Option<ColumnType>, BadColumnType>
         ensures { result ≡ column_type_at self.now.types self.now.metadata index }
     {
         self.real_column_type(index, self.get_column_metadata(index))
     }
 
-    /// Returns the real type of column `index`, as `get_column_type` does, from the given metadata
-    /// of that column.
+    /// Returns the real type of column `index`, counted from 0, as `get_column_type` does and with
+    /// the same errors. `metadata` is taken for the metadata of that column, so no other column is
+    /// looked at.
     pub fn real_column_type(
         &self,
         index: usize,
@@ -311,7 +313,7 @@ impl<'a> TableMapEvent<'a> {
         self.columns_type.as_bytes()
     }
 
-    /// Returns the metadata of the columns, column by column from the first.
+    /// Returns a walk over the metadata of the columns, column by column from the first.
     pub fn column_chunks(&self) -> ColumnChunks<'_>
         ensures { result ≡ record { types = self.now.types; metadata = Some self.now.metadata } }
     {
@@ -323,11 +325,13 @@ impl<'a> TableMapEvent<'a> {
 
     /// Returns the metadata of column `index`, counted from 0: its chunk of the columns' metadata.
     ///
-    /// `None` where the table has no such column, where this column or one before it has an unknown
-    /// type, and where the chunk of this column or of one before it is cut.
+    /// `None` where the table has no such column, and where the chunk of this column or of one
+    /// before it can't be read: its type is unknown, it is a TYPED_ARRAY of an unknown type or of
+    /// TYPED_ARRAY, or the chunk is cut.
     ///
-    /// A call walks over the metadata of all columns before this one, so all columns of a wide table
-    /// take long: over a billion instructions for 10,000 columns. `TableColumns` gives them in one walk.
+    /// A call walks over the metadata of all columns before this one, so all columns of a wide
+    /// table take long: over a billion instructions for 10,000 columns. `TableColumns` gives them
+    /// in one walk.
     pub fn get_column_metadata(&self, index: usize) -> Option<&[u8]>
         ensures chunk { option_map (λ c. c.now) result ≡ chunk_at self.now.types self.now.metadata index }
         // The columns' metadata begins with the chunks of the columns up to this one, and the
@@ -368,8 +372,8 @@ impl<'de> MyDeserialize<'de> for TableMapEvent<'de> {
     /// post-header length of table map events, as the format description event gives it.
     ///
     /// The layout is that of MySQL's table map event, without the event header and the checksum. It
-    /// takes no memory. Fails with `UnexpectedEof` where a part is cut, and with `BadLenEnc` where
-    /// the count of the columns or the length of their metadata begins with FB or FF.
+    /// takes no memory. Fails with `UnexpectedEof` if a part is cut, and with `BadLenEnc` if the
+    /// count of the columns or the length of their metadata begins with FB or FF.
     fn deserialize(post_header_len: u8, buf: &mut ParseBuf<'de>) -> Result<Self, Fault>
         ensures parses { Parses (Spec.table_map post_header_len) result buf.old.0.now buf.new.0.now }
         // By the layout: all of the bytes spell the event, or they are refused with the layout's

@@ -61,9 +61,9 @@ fn eat_array<'a>(buf: &mut ParseBuf<'a>) -> Result<&'a [u8], Fault>
     Ok(&whole[..1 + metadata.len()])
 }
 
-/// Takes the chunk of metadata of a column with this type byte. Fails with `UnexpectedEof` where
-/// the chunk is cut, with `UnknownColumnType` for an unknown type, also inside a TYPED_ARRAY, and
-/// with `Unhandled` for a TYPED_ARRAY of TYPED_ARRAY.
+/// Takes the chunk of metadata of a column with this type byte. Fails with `UnexpectedEof` if the
+/// chunk is cut, with `UnknownColumnType` for an unknown type, also inside a TYPED_ARRAY, and with
+/// `Unhandled` for a TYPED_ARRAY of TYPED_ARRAY.
 #[tactic(auto, unfolding(crate::specs::Chunks::chunk))]
 pub(super) fn eat_chunk<'a>(raw_type: u8, buf: &mut ParseBuf<'a>) -> Result<&'a [u8], Fault>
     ensures { ParsesAs (λ x. x.now) (chunk raw_type) result buf.old.0.now buf.new.0.now }
@@ -74,8 +74,8 @@ pub(super) fn eat_chunk<'a>(raw_type: u8, buf: &mut ParseBuf<'a>) -> Result<&'a 
     }
 }
 
-/// Returns the chunk of column `index`, where the columns have these type bytes and this metadata;
-/// `None` where there is none.
+/// Returns the chunk of column `index`, counted from 0, of columns with these type bytes and this
+/// metadata; `None` where it has none.
 pub(super) fn column_chunk<'a>(types: &[u8], metadata: &'a [u8], index: usize) -> Option<&'a [u8]>
     ensures { option_map (λ c. c.now) result ≡ chunk_at types.now metadata.now index }
 {
@@ -123,7 +123,7 @@ pub(super) fn real_type(
     }
 }
 
-/// Whether a raw type is known, and numeric to the server.
+/// Returns whether a type byte is the number of a type that is numeric to the server.
 #[tactic(auto, unfolding(crate::specs::Fields::is_numeric_number))]
 pub(super) fn is_numeric(server: Server, raw: u8) -> bool
     ensures { result ≡ is_numeric_number server raw }

@@ -1,5 +1,5 @@
-//! The optional metadata of a table map event: signs, character sets, names, values, geometry types,
-//! keys, visibility and dimensions of the columns.
+//! The optional metadata of a table map event: signs, character sets, names, values, geometry
+//! types, keys, visibility and dimensions of the columns.
 
 mod charsets;
 mod columns;

@@ -14,8 +14,8 @@ use std::marker::Model;
 /// The number by which rows events refer to the table of a table map event before them.
 ///
 /// It is read with the post-header length of the event that holds it: it takes 4 bytes where that
-/// length is 6, else 6 bytes, the lowest first. Reading fails with `UnexpectedEof` where fewer
-/// bytes are left. It is written in 6 bytes.
+/// length is 6, else 6 bytes, the lowest first. Reading fails with `UnexpectedEof` if fewer bytes
+/// are left. It is written in 6 bytes.
 #[derive(Clone, Copy, Debug, PartialEq, Eq)]
 pub struct TableId {
     id: u64,

@@ -47,8 +47,8 @@ impl<'a> Lent<'a> {
         }
     }
 
-    // Drops the groups at the start of the digits before the point that are all zeros. Returns
-    // positive zero of one digit if no digit is left.
+    // Drops the groups at the start of the digits before the point that are all zeros. The result
+    // is positive zero of one digit where no digit is left.
     pub fn trimmed(self) -> Lent<'a>
         ensures { result ≡ trimmed_decimal self.entry }
     {

@@ -9,7 +9,7 @@ ghost use Rattle.binlog_values.specs.Decimals.{packed_bytes};
 use super::Decimal;
 use std::cmp::Ordering;
 
-/// Two decimals are equal where their packed forms are the same.
+/// Two decimals are equal if their packed forms are the same.
 impl PartialEq for Decimal {
     ghost use Rattle.std.specs.Prelude.{nat_eq};
 
@@ -39,8 +39,8 @@ impl PartialOrd for Decimal {
 /// The order of the packed forms, byte by byte. If one form is a prefix of the other, the shorter
 /// one is the lesser.
 ///
-/// This is the order of the numbers if both decimals have the same number of digits before the point
-/// and the same number of digits after it, with negative zero just below zero.
+/// This is the order of the numbers if both decimals have the same number of digits before the
+/// point and the same number of digits after it, with negative zero just below zero.
 impl Ord for Decimal {
     ghost cmp = { λ x y. slice_cmp nat_cmp (packed_bytes x) (packed_bytes y) };
 

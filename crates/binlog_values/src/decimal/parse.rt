@@ -18,7 +18,7 @@ pub enum ParseDecimalError {
     /// The text is not in the accepted form.
     #[error("not a decimal")]
     Invalid,
-    /// Memory could not be allocated.
+    /// Memory was refused.
     #[error("out of memory")]
     Memory,
 }
@@ -131,7 +131,7 @@ impl Decimal {
     /// Of the zeros at the start of the text, only the last is kept. What is left is an optional
     /// sign (`+` or `-`) and digits, at least one, with an optional point before, between or after
     /// them. If all digits are 0, the decimal is positive. The error is `Invalid` for any other
-    /// text, and `Memory` if memory can't be allocated.
+    /// text, and `Memory` if memory is refused.
     pub fn parse_str_bytes(alloc: Global, bytes: &[u8]) -> Result<Decimal, ParseDecimalError>
         ensures { ReadsText result (decimal_of_text bytes.now) }
     {
@@ -146,7 +146,7 @@ impl Decimal {
     /// Of the zeros at the start of the trimmed text, only the last is kept. What is left is an
     /// optional sign (`+` or `-`) and digits, at least one, with an optional point before, between
     /// or after them. If all digits are 0, the decimal is positive. The error is `Invalid` for any
-    /// other text, and `Memory` if memory can't be allocated.
+    /// other text, and `Memory` if memory is refused.
     pub fn from_str(alloc: Global, text: &str) -> Result<Decimal, ParseDecimalError>
         ensures { ReadsText result (decimal_of_text (trim text.now)) }
     {
@@ -159,7 +159,7 @@ impl Decimal {
     /// Of the zeros at the start of the trimmed text, only the last is kept. What is left is an
     /// optional sign (`+` or `-`) and digits, at least one, with an optional point before, between
     /// or after them. If all digits are 0, the decimal is positive. The error is `Invalid` for any
-    /// other text and for bytes that aren't UTF-8, and `Memory` if memory can't be allocated.
+    /// other text and for bytes that aren't UTF-8, and `Memory` if memory is refused.
     pub fn parse_bytes(alloc: Global, bytes: &[u8]) -> Result<Decimal, ParseDecimalError>
         ensures text { IsUtf8 bytes.now → ReadsText result (decimal_of_text (trim bytes.now)) }
         ensures other { ¬ IsUtf8 bytes.now → result ≡ Err refusal.Invalid }

@@ -120,12 +120,12 @@ impl Decimal {
     /// DECIMAL format.
     ///
     /// If `keep_prec` is false, the groups at the start of the digits before the point that are all
-    /// zeros are dropped, and the result is positive zero of one digit if no digit is left. If
+    /// zeros are dropped, and the result is positive zero of one digit where no digit is left. If
     /// `precision` is 0, nothing is read and the result is positive zero of one digit.
     ///
     /// The faults are `DecimalScale` if `scale` is above `precision`, before anything is read;
     /// `UnexpectedEof` if the source ends early; `Reader` if the source fails; `DecimalGroup` if
-    /// the number of a group has more digits than the group; `Memory` if memory can't be allocated.
+    /// the number of a group has more digits than the group; `Memory` if memory is refused.
     pub fn read_bin<S: Source>(
         alloc: Global,
         reader: &mut S,
@@ -177,7 +177,7 @@ impl Decimal {
         )
     }
 
-    /// Reads a decimal from bytes as `read_bin` does where `keep_prec` is false, and returns the bytes
+    /// Reads a decimal from bytes as `read_bin` does if `keep_prec` is false, and returns the bytes
     /// of its text, as `Display` writes it. Memory is taken for the text alone.
     ///
     /// The faults are those of `read_bin`, but for `Reader`.

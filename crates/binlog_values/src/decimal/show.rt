@@ -36,7 +36,7 @@ fn write_integer<W: fmt::Write>(f: &mut fmt::Formatter<W>, digits: &[u8]) -> fmt
 }
 
 impl<'a> Lent<'a> {
-    // Returns the digits before the point that the text has, or 0 if there are none.
+    // Returns the digits before the point that the text has; one 0 where there are none.
     fn shown_integer(&self) -> &[u8]
         ensures text { flat_map decimal result.now ≡ integer_text self.now.integer }
         ensures below { AllBelowBase 10 result.now }

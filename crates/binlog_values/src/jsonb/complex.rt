@@ -50,7 +50,7 @@ pub(super) struct TypedBytes<'a> {
     pub bytes: &'a [u8],
 }
 
-// Returns the offset at a place of a container.
+// Returns the offset that is at byte `at` of a container.
 fn offset_at<T: StorageFormat>(bytes: &[u8], at: usize) -> u32
     requires { at + offset_size T.IS_LARGE ≤ length bytes.now }
     ensures { result ≡ number_at (offset_size T.IS_LARGE) at bytes.now }
@@ -112,7 +112,7 @@ impl<'a, T: StorageFormat, U: ComplexType> Lent<'a, T, U> {
         self.bytes.len()
     }
 
-    // Returns the bytes of the value of a type whose entry is at a place.
+    // Returns the bytes of the value of a type whose entry is at byte `at`.
     fn bytes_of(&self, at: usize, value_type: JsonbType) -> Result<TypedBytes<'a>, Fault>
         requires { at + 1 + offset_size T.IS_LARGE ≤ length self.now.bytes }
         ensures { result_map typed result ≡ bytes_of self.now at value_type }
@@ -178,14 +178,14 @@ impl<'a, T: StorageFormat, U: ComplexType> Lent<'a, T, U> {
 }
 
 /// A container of binary JSON: an object or an array, in the small or the large storage format. Its
-/// elements are read when they are asked for. Contracts see it as a `Frame`: its kind and format, the
-/// count of its elements, and its bytes.
+/// elements are read when they are asked for. Contracts see it as a `Frame`: its kind and format,
+/// the count of its elements, and its bytes.
 ///
-/// In MySQL's JSONB format an offset has two bytes where the container is small, and four where it is
-/// large. A container is the count of its elements and its size in bytes, each as long as an offset;
-/// for an object the offset and the two-byte length of each key; the type byte of each element with
-/// its offset, or with the element itself where it is that short; and then the keys and elements.
-/// Offsets count from the start of the container.
+/// In MySQL's JSONB format an offset has two bytes where the container is small, and four where it
+/// is large. A container is the count of its elements and its size in bytes, each as long as an
+/// offset; for an object the offset and the two-byte length of each key; the type byte of each
+/// element with its offset, or with the element itself where it is that short; and then the keys
+/// and elements. Offsets count from the start of the container.
 #[derive(Drop)]
 pub struct ComplexValue<'a, T: StorageFormat, U: ComplexType> {
     element_count: u32,
@@ -281,7 +281,7 @@ impl<'a, T: StorageFormat, U: ComplexType> ComplexValue<'a, T, U> {
     }
 
     /// Returns the container with bytes that it owns. Borrowed bytes are copied, and the call fails
-    /// where memory is refused.
+    /// if memory is refused.
     pub fn into_owned(self, alloc: Global) -> Result<ComplexValue<'static, T, U>, AllocError>
         ensures { IfOk result (λ owned. owned ≡ self.entry) }
     {
@@ -298,9 +298,9 @@ impl<'a, T: StorageFormat, U: ComplexType> ComplexValue<'a, T, U> {
     }
 }
 
-/// A container is as many bytes as its size says; bytes after these are left. `UnexpectedEof` where
-/// fewer bytes than a count and a size are left, and `SizeOverflow` where the size is below that of
-/// the header, or above the count of the bytes that are left.
+/// A container is as many bytes as its size says; bytes after these are left. Reading fails with
+/// `UnexpectedEof` if fewer bytes than a count and a size are left, and with `Jsonb(SizeOverflow)`
+/// if the size is below that of the header, or above the count of the bytes that are left.
 impl<'de, T: StorageFormat, U: ComplexType> MyDeserialize<'de> for ComplexValue<'de, T, U> {
     ghost use Rattle.binlog_values.specs.JsonbValues.{Frame, container};
     ghost use Rattle.binlog_values.specs.Lemmas.JsonbValues.{exact_container};
@@ -322,7 +322,7 @@ impl<'de, T: StorageFormat, U: ComplexType> MyDeserialize<'de> for ComplexValue<
     }
 }
 
-/// Two containers are equal where their counts and their bytes are.
+/// Two containers are equal if their counts and their bytes are.
 impl<'a, T: StorageFormat, U: ComplexType> PartialEq for ComplexValue<'a, T, U> {
     ghost use Rattle.std.specs.Prelude.{◌==◌};
     ghost use Rattle.std.proofs.Common.{rules};

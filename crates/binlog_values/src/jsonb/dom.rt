@@ -75,7 +75,7 @@ fn clone_scalar(scalar: &JsonScalar, alloc: Global) -> Result<JsonScalar, AllocE
 }
 
 impl JsonDom {
-    /// Returns a copy of the tree. Fails where memory is refused.
+    /// Returns a copy of the tree. Fails if memory is refused.
     pub fn clone(&self, alloc: Global) -> Result<JsonDom, AllocError>
         ensures { IfOk result (λ copy. dom_view copy ≡ dom_view self.now) }
     {

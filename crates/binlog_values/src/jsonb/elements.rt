@@ -40,13 +40,13 @@ impl<'a, T: StorageFormat, U: ComplexType> ComplexValue<'a, T, U> {
         self.lent().element(pos)
     }
 
-    /// Returns the value of the element at place `pos`, counted from 0; `None` from `element_count`
+    /// Returns the value of the element at index `pos`, counted from 0; `None` from `element_count`
     /// on. This takes no memory, and looks at no other element.
     ///
     /// The faults, in this order: `UnknownJsonbType` if the element's type is unknown,
     /// `Jsonb(InvalidValueOffsetPointer)` if its offset is out of range, and those of the value:
-    /// `UnexpectedEof` if it is cut, `Jsonb(SizeOverflow)` if it is a container whose size is out of
-    /// range, `UnknownLiteralType`, `BadVarLen`, and `UnknownColumnType` for an opaque value.
+    /// `UnexpectedEof` if it is cut, `Jsonb(SizeOverflow)` if it is a container whose size is out
+    /// of range, `UnknownLiteralType`, `BadVarLen`, and `UnknownColumnType` for an opaque value.
     pub fn elem_at(&self, pos: u32) -> Result<Option<Value<'_>>, Fault>
         ensures none { (result ≡ Ok None) ↔ (self.now.count ≤ pos) }
         ensures value { pos < self.now.count
@@ -72,9 +72,10 @@ impl<'a, T: StorageFormat> ComplexValue<'a, T, Object> {
         Ok(ObjectKey::new(CowSlice::Borrowed(key)))
     }
 
-    /// Returns the key of the entry at place `pos`, counted from 0; `None` from `element_count` on.
+    /// Returns the key of the entry at index `pos`, counted from 0; `None` from `element_count` on.
     /// This takes no memory, and looks at no other entry. Fails with
-    /// `Jsonb(InvalidKeyOffsetPointer)` where the key's offset is out of range.
+    /// `Jsonb(InvalidKeyOffsetPointer)` if the key begins before the end of the header, or ends
+    /// after the container.
     pub fn key_at(&self, pos: u32) -> Result<Option<ObjectKey<'_>>, Fault>
         ensures none { (result ≡ Ok None) ↔ (self.now.count ≤ pos) }
         ensures key { pos < self.now.count → result ≡ result_map Some (key_at self.now pos) }
@@ -86,7 +87,7 @@ impl<'a, T: StorageFormat> ComplexValue<'a, T, Object> {
         Ok(Some(self.key(pos)?))
     }
 
-    /// Returns an iterator over the keys.
+    /// Returns an iterator over the keys, in the order of their entries.
     pub fn keys(&self) -> ObjectKeys<'_, T>
         ensures object { result.object.now ≡ self.now }
         ensures start { result.pos ≡ 0 }
@@ -97,7 +98,7 @@ impl<'a, T: StorageFormat> ComplexValue<'a, T, Object> {
         }
     }
 
-    /// Returns an iterator over the keys and values.
+    /// Returns an iterator over the keys and values, in the order of their entries.
     pub fn iter(&self) -> ObjectIter<'_, T>
         ensures object { result.object.now ≡ self.now }
         ensures start { result.pos ≡ 0 }
@@ -110,7 +111,7 @@ impl<'a, T: StorageFormat> ComplexValue<'a, T, Object> {
 }
 
 impl<'a, T: StorageFormat> ComplexValue<'a, T, Array> {
-    /// Returns an iterator over the elements.
+    /// Returns an iterator over the elements, in order.
     pub fn iter(&self) -> ArrayIter<'_, T>
         ensures array { result.array.now ≡ self.now }
         ensures start { result.pos ≡ 0 }
@@ -122,7 +123,8 @@ impl<'a, T: StorageFormat> ComplexValue<'a, T, Array> {
     }
 }
 
-/// An iterator over the elements of an array. A faulty element is an item, and the others follow it.
+/// An iterator over the elements of an array. A faulty element is an item, and the others follow
+/// it.
 #[derive(Clone, Copy, PartialEq)]
 pub struct ArrayIter<'a, T: StorageFormat> {
     array: &'a ComplexValue<'a, T, Array>,
@@ -173,8 +175,8 @@ impl<'a, T: StorageFormat> Iterator for ObjectKeys<'a, T> {
     }
 }
 
-/// An iterator over the keys and values of an object. A faulty entry is an item, with its key's fault
-/// before that of its value, and the others follow it.
+/// An iterator over the keys and values of an object. A faulty entry is an item, with its key's
+/// fault before that of its value, and the others follow it.
 #[derive(Clone, Copy, PartialEq)]
 pub struct ObjectIter<'a, T: StorageFormat> {
     object: &'a ComplexValue<'a, T, Object>,

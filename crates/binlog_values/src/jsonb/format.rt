@@ -46,7 +46,7 @@ pub trait ComplexType {
     /// Whether it is an array.
     const IS_ARRAY: bool;
 
-    /// Returns how many bytes the header of a container with so many elements has.
+    /// Returns how many bytes the header of a container with `element_count` elements has.
     fn header_size<T: StorageFormat>(element_count: u32) -> usize
         ensures { result ≡ header_len IS_ARRAY T.IS_LARGE element_count };
 

@@ -36,7 +36,7 @@ impl JsonOpaque {
     /// Appends the text to a string: `base64:type`, the number of the column type, `:`, and the
     /// bytes in base64 with padding.
     ///
-    /// Fails where memory is refused; a prefix of the text may then be in the string.
+    /// Fails if memory is refused; a prefix of the text may then be in the string.
     pub fn write_text(&self, text: &mut String) -> Result<(), AllocError>
         ensures { Appends result text.old.bytes.items text.new.bytes.items (opaque_text self.now) }
     {

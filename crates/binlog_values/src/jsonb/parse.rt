@@ -37,7 +37,8 @@ fn position<'a>(
     container.entry(pos)
 }
 
-// Does the same within the limit on values.
+// Reads a position as `position` does. Fails with `TooManyValues` if it is one more than the limit
+// allows.
 pub(super) fn position_in_limit<'a>(
     container: &Container<'a>,
     pos: u32,
@@ -85,25 +86,25 @@ fn read_counted(alloc: Global, value: &Value<'_>) -> (Result<JsonDom, Fault>, u6
 }
 
 impl<'a> Value<'a> {
-    /// Reads the value with all that is inside it, as a tree that owns its values. Of equal keys of
-    /// an object the last one is kept.
+    /// Reads the value with all that is inside it, as a tree that owns its values. Keys are text,
+    /// with `U+FFFD` in place of what isn't UTF-8; of equal keys of an object the last one is kept.
     ///
     /// At most 100 containers may be nested, and there may be at most one value inside the root
-    /// container for three of its bytes, where a value that several entries share counts for each of
+    /// container for three of its bytes. A value that several entries share counts for each of
     /// them.
     ///
     /// The fault is that of the first position in document order that has one: a position comes
-    /// before those inside it, and the entries of a container come by their places. At a position
+    /// before those inside it, and the entries of a container come by their indexes. At a position
     /// the faults come in this order:
     ///
     /// - that of the key, and that of the value, as `key_at` and `elem_at` give them;
     /// - `TooManyValues` if there are more values than the limit;
-    /// - `NestingTooDeep` if it is a container with 100 others around it; for a scalar `InvalidUtf8`
-    ///   if it is a string that isn't UTF-8, `OpaqueTooShort` if it is a date or time of fewer than
-    ///   eight bytes, and the faults of `Decimal::read_packed`.
+    /// - `NestingTooDeep` if it is a container with 100 others around it; for a scalar
+    ///   `InvalidUtf8` if it is a string that isn't UTF-8, `OpaqueTooShort` if it is a date or time
+    ///   of fewer than eight bytes, and the faults of `Decimal::read_packed`.
     ///
-    /// Nothing after that position is read. `Memory` where memory is refused; literals and numbers
-    /// take none.
+    /// Nothing after that position is read. Fails with `Memory` if memory is refused; literals and
+    /// numbers take none.
     #[inline(never)]
     pub fn parse(self, alloc: Global) -> Result<JsonDom, Fault>
         ensures { (read : ℕ) × Parsed (view_of self.entry) result read }
@@ -111,8 +112,7 @@ impl<'a> Value<'a> {
         self.parse_counted(alloc).0
     }
 
-    /// Does what `parse` does, and returns how many positions were read as well, the root not
-    /// counted.
+    /// Does what `parse` does, and also returns how many positions were read, the root not counted.
     pub fn parse_counted(self, alloc: Global) -> (Result<JsonDom, Fault>, u64)
         ensures { Parsed (view_of self.entry) result.0 result.1 }
     {

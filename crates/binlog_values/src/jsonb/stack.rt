@@ -22,7 +22,7 @@ use std::alloc::Global;
 use std::collections::BTreeMap;
 use std::{mem, str};
 
-// At most so many containers wait while an inner one is read, so at most 100 are nested.
+// How many containers may wait while an inner one is read, so that at most 100 are nested.
 const MAX_WAITING: usize = 99;
 
 // Returns a key as text, with `U+FFFD` in place of what isn't UTF-8.
@@ -110,7 +110,7 @@ impl<'a> Open<'a> {
         ensures memory { IfErr result (λ f. f ≡ Memory) }
     {
         self.collected.add(alloc, key, value)?;
-        // The place is below the count, so the sum fits.
+        // The index is below the count, so the sum fits.
         let _ = self.container.element_count();
         self.pos += 1;
         Ok(())

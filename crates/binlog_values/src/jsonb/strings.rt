@@ -50,7 +50,7 @@ impl<'a> ObjectKey<'a> {
     /// Returns the key as text, with `U+FFFD` in place of what isn't UTF-8.
     ///
     /// A key that is UTF-8 is borrowed, which takes no memory. Any other is copied, and the call
-    /// fails where memory is refused.
+    /// fails if memory is refused.
     pub fn value(&self, alloc: Global) -> Result<CowStr<'_>, AllocError>
         ensures { IfOk result (λ text. cow_str_bytes text ≡ utf8_lossy self.now) }
     {
@@ -58,8 +58,8 @@ impl<'a> ObjectKey<'a> {
     }
 }
 
-/// A string of binary JSON: its bytes, with their length in the VarLen format before them. Contracts
-/// see its bytes.
+/// A string of binary JSON: its bytes, with their length in the VarLen format before them.
+/// Contracts see its bytes.
 #[derive(PartialEq, Eq, Drop)]
 pub struct JsonbString<'a>(RawBytes<'a, VarLen>);
 
@@ -91,7 +91,7 @@ impl<'a> JsonbString<'a> {
     /// Returns the string as text, with `U+FFFD` in place of what isn't UTF-8.
     ///
     /// A string that is UTF-8 is borrowed, which takes no memory. Any other is copied, and the call
-    /// fails where memory is refused.
+    /// fails if memory is refused.
     pub fn str(&self, alloc: Global) -> Result<CowStr<'_>, AllocError>
         ensures { IfOk result (λ text. cow_str_bytes text ≡ utf8_lossy self.now) }
     {
@@ -105,8 +105,8 @@ impl<'a> JsonbString<'a> {
         Ok(JsonbString(self.0.clone(alloc)?))
     }
 
-    /// Returns the string with bytes that it owns. Borrowed bytes are copied, and the call fails
-    /// where memory is refused.
+    /// Returns the string with bytes that it owns. Borrowed bytes are copied, and the call fails if
+    /// memory is refused.
     pub fn into_owned(self, alloc: Global) -> Result<JsonbString<'static>, AllocError>
         ensures { IfOk result (λ owned. owned ≡ self.entry) }
     {
@@ -128,8 +128,8 @@ impl<'a> fmt::Debug for JsonbString<'a> {
     }
 }
 
-/// A string is its length, a VarLen number, and as many bytes. `BadVarLen` where the length isn't
-/// valid, and `UnexpectedEof` where the length or the bytes aren't all there.
+/// A string is its length, a VarLen number, and as many bytes. Reading fails with `BadVarLen` if
+/// the length isn't a VarLen number, and with `UnexpectedEof` if the length or the bytes are cut.
 impl<'de> MyDeserialize<'de> for JsonbString<'de> {
     ghost use Rattle.std.specs.Prelude.{List, ℕ};
 
@@ -162,8 +162,8 @@ impl<'a> MySerialize for JsonbString<'a> {
     }
 }
 
-/// A value of a column type that binary JSON has no type for: the number of the column type, a VarLen
-/// length, and as many bytes.
+/// A value of a column type that binary JSON has no type for: the number of the column type, a
+/// VarLen length, and as many bytes.
 #[derive(Debug, PartialEq, Drop)]
 pub struct OpaqueValue<'a> {
     value_type: ColumnType,
@@ -208,7 +208,7 @@ impl<'a> OpaqueValue<'a> {
     /// Returns the bytes as text, with `U+FFFD` in place of what isn't UTF-8.
     ///
     /// Bytes that are UTF-8 are borrowed, which takes no memory. Others are copied, and the call
-    /// fails where memory is refused.
+    /// fails if memory is refused.
     pub fn data(&self, alloc: Global) -> Result<CowStr<'_>, AllocError>
         ensures { IfOk result (λ text. cow_str_bytes text ≡ utf8_lossy self.now.data) }
     {
@@ -225,8 +225,8 @@ impl<'a> OpaqueValue<'a> {
         })
     }
 
-    /// Returns the value with bytes that it owns. Borrowed bytes are copied, and the call fails
-    /// where memory is refused.
+    /// Returns the value with bytes that it owns. Borrowed bytes are copied, and the call fails if
+    /// memory is refused.
     pub fn into_owned(self, alloc: Global) -> Result<OpaqueValue<'static>, AllocError>
         ensures { IfOk result (λ owned. owned ≡ self.entry) }
     {

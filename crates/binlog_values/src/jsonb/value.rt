@@ -142,7 +142,7 @@ impl<'a> Value<'a> {
         matches!(self, Value::F64(_))
     }
 
-    /// Returns how many elements a container has. `None` for a scalar.
+    /// Returns how many elements a container has; `None` for a scalar.
     pub fn element_count(&self) -> Option<u32>
         ensures { result ≡ count_in (view_of self.now) }
     {
@@ -155,7 +155,7 @@ impl<'a> Value<'a> {
         }
     }
 
-    /// Returns the column type of an opaque value. `None` for any other value.
+    /// Returns the column type of an opaque value; `None` for any other value.
     pub fn field_type(&self) -> Option<ColumnType>
         ensures { result ≡ opaque_type (view_of self.now) }
     {
@@ -166,13 +166,13 @@ impl<'a> Value<'a> {
     }
 }
 
-/// A value is a type byte and its bytes; later bytes are ignored, and no bytes at all are NULL. So
-/// reading one takes all bytes.
+/// A value is a type byte and its bytes; later bytes are ignored, and no bytes at all are
+/// `Value::Null`. So reading one takes all bytes.
 ///
-/// `UnknownJsonbType` where the type byte is of no type, and `UnexpectedEof` where the bytes of its
-/// type aren't all there. Further, `UnknownLiteralType` for a literal, `BadVarLen` for the length of a
-/// string or of an opaque value, `UnknownColumnType` for the type of an opaque value, and
-/// `SizeOverflow` for a container, as `ComplexValue` says.
+/// Reading fails with `UnknownJsonbType` if the type byte is of no type, and with `UnexpectedEof`
+/// if the value is cut. It fails with `UnknownLiteralType` for a literal, `BadVarLen` for the
+/// length of a string or of an opaque value, `UnknownColumnType` for the type of an opaque value,
+/// and `Jsonb(SizeOverflow)` for a container, as `ComplexValue` says.
 impl<'de> MyDeserialize<'de> for Value<'de> {
     ghost use Rattle.std.specs.Prelude.{true};
     ghost use Rattle.binlog_values.specs.JsonbValues.{JsonbValue, json};
@@ -235,8 +235,8 @@ impl<'a> Value<'a> {
     }
 }
 
-/// Two values are equal if they have the same variant, and the same number and bytes. Containers are
-/// compared by their bytes.
+/// Two values are equal if they have the same variant, and the same number and bytes. Containers
+/// are compared by their bytes.
 impl<'a> PartialEq for Value<'a> {
     ghost use Rattle.std.specs.Ordering.{on};
     ghost use Rattle.std.specs.Cmp.{on_per, partial_equiv_from_equiv};
@@ -253,7 +253,7 @@ impl<'a> PartialEq for Value<'a> {
 }
 
 impl<'a> Value<'a> {
-    /// Returns the same value, with bytes of its own. Fails where memory is refused.
+    /// Returns the same value, with bytes of its own. Fails if memory is refused.
     pub fn clone(&self, alloc: Global) -> Result<Value<'a>, AllocError>
         ensures { IfOk result (λ copy. view_of copy ≡ view_of self.now) }
     {
@@ -276,8 +276,8 @@ impl<'a> Value<'a> {
         }
     }
 
-    /// Returns the value with bytes that it owns. Borrowed bytes are copied, and the call fails
-    /// where memory is refused.
+    /// Returns the value with bytes that it owns. Borrowed bytes are copied, and the call fails if
+    /// memory is refused.
     pub fn into_owned(self, alloc: Global) -> Result<Value<'static>, AllocError>
         ensures { IfOk result (λ owned. view_of owned ≡ view_of self.entry) }
     {

@@ -8,7 +8,7 @@ use super::{MysqlTime, MysqlTimestampType};
 use crate::digits::write_fraction;
 use std::fmt;
 
-// A number as two digits; `00` if it is 100 or more.
+// A number as two digits; `00` where it is 100 or more.
 #[derive(Drop)]
 struct TwoDigits(u32);
 
@@ -137,8 +137,8 @@ fn six_digits(microseconds: u32) -> [u8; 6]
     ]
 }
 
-// A point and the first `decimals` digits of the microseconds, at most six; nothing if `decimals`
-// is 0.
+// A point and the first `decimals` digits of the microseconds, at most six; nothing where
+// `decimals` is 0.
 #[derive(Drop)]
 struct Fraction {
     decimals: usize,

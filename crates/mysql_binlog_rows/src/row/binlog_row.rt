@@ -46,7 +46,7 @@ impl Model for BinlogRow {
     } };
 }
 
-/// Two rows are equal where their columns are, and their values in order.
+/// Two rows are equal if their columns are, and their values in order.
 impl PartialEq for BinlogRow {
     ghost eq = { eq_of_both (on (λ r. r.columns) (pointwise ⟦<Column as PartialEq>⟧.eq))
         (on (λ r. r.values) (pointwise (option_eq same_cell))) };
@@ -62,7 +62,7 @@ impl PartialEq for BinlogRow {
 }
 
 impl BinlogRow {
-    /// The row of these values and columns.
+    /// Makes a row of these values and columns.
     pub fn new(values: Vec<Option<BinlogValue<'static>>>, columns: RcSlice<Column>) -> Self
         ensures { result ≡ record {
           columns = rc_slice_items columns;
@@ -73,35 +73,37 @@ impl BinlogRow {
         BinlogRow { values, columns }
     }
 
-    /// The count of the values.
+    /// Returns how many values the row has, the ones that were taken included.
     pub fn len(&self) -> usize
         ensures { result ≡ length self.now.values }
     {
         self.values.len()
     }
 
-    /// Whether there is no value.
+    /// Returns whether the row has no values.
     pub fn is_empty(&self) -> bool
         ensures { IsTrue result ↔ (length self.now.values ≡ 0) }
     {
         self.values.is_empty()
     }
 
-    /// The columns.
+    /// Returns the row's columns.
     pub fn columns_ref(&self) -> &[Column]
         ensures { result.now ≡ self.now.columns }
     {
         self.columns.as_slice()
     }
 
-    /// The columns, shared with this row. Fails where memory is refused.
+    /// Returns the row's columns, shared with this row. This takes no memory. Fails if the counter
+    /// of owners would overflow.
     pub fn columns(&self, _alloc: Global) -> Result<RcSlice<Column>, AllocError>
         ensures { IfOk result (λ columns. rc_slice_items columns ≡ self.now.columns) }
     {
         self.columns.clone()
     }
 
-    /// The value of place `index`; `None` past the last place, or where the value was taken.
+    /// Returns the value at `index`, counted from 0; `None` where `index` is `len` or above, or
+    /// where the value was taken.
     pub fn as_ref(&self, index: usize) -> Option<&BinlogValue<'static>>
         ensures { option_map (λ v. cell_of v.now) result ≡ value_at self.now.values index }
     {
@@ -111,8 +113,8 @@ impl BinlogRow {
         }
     }
 
-    /// Takes the value of place `index` out of the row. `None` past the last place, or where the
-    /// value was taken before.
+    /// Takes the value at `index` out of the row, and leaves `None` there. Returns `None` where
+    /// `index` is `len` or above, or where the value was taken before.
     pub fn take(&mut self, index: usize) -> Option<BinlogValue<'static>>
         ensures taken { option_map cell_of result ≡ value_at self.old.values index }
         ensures left { self.new ≡ record self.old { values = set self.old.values index None } }
@@ -124,7 +126,7 @@ impl BinlogRow {
         }
     }
 
-    /// Puts a value at place `index`, in place of what is there. The place must be below `len`.
+    /// Puts a value at `index`, in place of what is there. The index must be below `len`.
     pub fn place(&mut self, index: usize, value: BinlogValue<'static>)
         requires { index < length self.old.values }
         ensures { self.new
@@ -133,8 +135,8 @@ impl BinlogRow {
         self.values[index] = Some(value);
     }
 
-    /// Returns the values. None of them may have been taken out of the row. Fails where memory for
-    /// the list is refused.
+    /// Returns the values. None of them may have been taken out of the row. Fails if memory for the
+    /// list is refused.
     pub fn unwrap(self, alloc: Global) -> Result<Vec<BinlogValue<'static>>, AllocError>
         requires { AreThere self.values }
         ensures { IfOk result (λ values. map (λ v. Some (cell_of v)) values.items ≡ self.values) }
@@ -150,8 +152,8 @@ impl BinlogRow {
 
     /// Converts the row to a row of plain values. A value that was taken stays taken.
     ///
-    /// Fails with `Memory` where memory is refused, and with `NotPlain` at the first value that isn't
-    /// plain, with its place, counted from 0.
+    /// Fails with `Memory` if memory is refused, and with `NotPlain` and the index of the value at
+    /// the first value that isn't plain.
     pub fn into_row(self, alloc: Global) -> Result<Row, BinlogRowToRowError>
         ensures columns { IfOk result (λ row. row.columns ≡ self.columns) }
         ensures values { IfOk result (λ row. map (option_map PlainCell) row.values ≡ self.values) }
@@ -165,8 +167,8 @@ impl BinlogRow {
         Ok(new_row_raw(values, self.columns))
     }
 
-    /// Returns the same row, with values of its own. It shares its columns with this row. Fails
-    /// where memory is refused.
+    /// Returns the same row, with values of its own. It shares its columns with this row. Fails if
+    /// memory is refused.
     pub fn clone(&self, alloc: Global) -> Result<BinlogRow, AllocError>
         ensures { IfOk result (λ copy. copy ≡ self.now) }
     {
@@ -181,7 +183,7 @@ impl BinlogRow {
     }
 }
 
-// Returns the plain value at place `offset` of a row, if it wasn't taken.
+// Returns the plain value at index `offset` of a row; `None` where it was taken.
 fn plain_value(
     offset: usize,
     value: Option<BinlogValue<'static>>,
@@ -199,7 +201,7 @@ fn plain_value(
     }
 }
 
-// Copies a value, if it wasn't taken.
+// Copies a value; `None` where it was taken.
 fn clone_value(
     alloc: Global,
     value: &Option<BinlogValue<'static>>,
@@ -215,7 +217,7 @@ fn clone_value(
 /// Why a row isn't a row of plain values.
 #[derive(Debug, Drop, Error)]
 pub enum BinlogRowToRowError {
-    /// The value at this place, counted from 0, is not plain.
+    /// The value at this index, counted from 0, is not plain.
     #[error("the value at place {0} of a row can't be converted: {1}")]
     NotPlain(usize, BinlogValueToValueError),
     /// Memory was refused.

@@ -26,8 +26,8 @@ use std::alloc::Global;
 use std::marker::Model;
 use std::rc::RcSlice;
 
-/// A column in the image, as a plan keeps it: how its cells are read, and the place of a JSON column
-/// among the table's.
+/// A column in the image, as a plan keeps it: how its cells are read, and the index of a JSON
+/// column among the JSON columns of the table.
 #[derive(Drop)]
 struct Slot {
     form: Result<Form, Fault>,
@@ -65,8 +65,8 @@ impl Model for Planned {
     } };
 }
 
-/// How images with the same bitmap of columns are read. A plan is made once for an event, and serves
-/// both images where they have the same columns.
+/// How images with the same bitmap of columns are read. A plan is made once for an event, and
+/// serves both images if they have the same columns.
 #[derive(Drop)]
 pub(crate) struct Plan {
     count: usize,
@@ -155,7 +155,8 @@ fn next_column<'a>(walk: &mut TableColumns<'a>) -> Result<TableColumn<'a>, Fault
     }
 }
 
-// Returns the place of a JSON column among the table's.
+// Returns the index of a JSON column among the JSON columns of the table; `None` for any other
+// column.
 fn json_place_of(column: &TableColumn<'_>) -> Option<usize>
     ensures { result ≡ json_place_of (seen_column column.now) }
 {
@@ -176,8 +177,8 @@ fn slot_of(column: &TableColumn<'_>) -> Slot
     }
 }
 
-// Plans the columns of the event, of which those with a bit in `present` are in the image. `count`
-// is how many there may be in the image, and memory for so many is reserved.
+// Plans the columns of the event, of which those with a bit in `present` are in the image. Memory
+// is reserved for `count` columns in the image.
 fn plan_columns(
     alloc: Global,
     table: &TableMapEvent<'_>,
@@ -220,7 +221,7 @@ fn plan_columns(
 
 impl Plan {
     /// Makes the plan for images with the columns of the table whose bits are set in `present`, and
-    /// adds the steps that it took. `Memory` if memory can't be allocated.
+    /// adds the steps that it took to `steps`. Fails with `Memory` if memory is refused.
     pub fn make(
         alloc: Global,
         table: &TableMapEvent<'_>,
@@ -260,8 +261,8 @@ impl Plan {
         })
     }
 
-    // Reads the options of an image and returns its partial bits. There are none if the image has no
-    // options, or if the lowest bit of the options isn't set.
+    // Reads the options of an image and returns its partial bits. There are none where the image
+    // has no options, or where the lowest bit of the options isn't set.
     #[tactic(auto, unfolding(crate::specs::Images::partial_bits))]
     fn read_partials<'b>(
         &self,
@@ -325,7 +326,7 @@ fn read_cells(
     }
 }
 
-// Returns whether the bit at an index is set. It isn't if there is no such bit.
+// Returns whether the bit at an index is set; false where there is no such bit.
 fn is_set(bits: &BitView<'_>, place: usize) -> bool
     ensures { result ≡ slice_index_or bits.now place false }
 {

@@ -13,8 +13,8 @@ use binlog_base::fault::Fault;
 use binlog_table::table_map::TableMapEvent;
 use std::alloc::Global;
 
-/// The pairs of rows of a rows event, and the fault that comes after them. There is no fault if the
-/// pairs are all of the rows data.
+/// The pairs of rows of a rows event, and the fault that comes after them. There is no fault where
+/// the pairs are all of the rows data.
 #[derive(Debug, Drop)]
 pub struct Decoded {
     pub pairs: Vec<RowPair>,
@@ -55,10 +55,10 @@ fn pairs_of(
 /// `table_bytes` and `rows_bytes` are the events' bodies: the bytes after the event header, without
 /// a checksum.
 ///
-/// The error is `UnexpectedEof` or `BadLenEnc` if an event can't be read; if both can't, the error
-/// is that of the table map event. Reading the events takes no memory. The error is `Memory` if
-/// memory can't be allocated for the pairs. A fault in the rows data is not an error: it is
-/// returned with the pairs before it.
+/// Fails with `UnexpectedEof` or `BadLenEnc` if an event can't be read; if both can't, with the
+/// fault of the table map event. Reading the events takes no memory. Fails with `Memory` if memory
+/// for the pairs is refused. A fault in the rows data is not an error: it is returned with the
+/// pairs before it.
 // Not inlined, so that a profiler can count the instructions of this call alone.
 #[inline(never)]
 pub fn decode_pairs(
@@ -81,9 +81,9 @@ pub fn decode_pairs(
     )
 }
 
-/// Reads a table map event and a rows event of the server's binary log, and all pairs of rows of the
-/// rows event up to its first fault, as `decode_pairs` does: the table map event is read as one of
-/// the server's.
+/// Reads a table map event and a rows event of the server's binary log, and all pairs of rows of
+/// the rows event up to its first fault, as `decode_pairs` does: the table map event is read as one
+/// of the server's.
 pub fn decode_pairs_of(
     alloc: Global,
     server: Server,

@@ -186,8 +186,8 @@ impl<'a> RowsEvent<'a> {
         self.num_columns
     }
 
-    /// Returns a bit for each column of the event, set if the images before the change have the
-    /// column; none if the event has no such images.
+    /// Returns a bit for each column of the event, which is set where the images before the change
+    /// have the column; `None` where the event has no such images.
     pub fn columns_before_image(&self) -> Option<BitView<'_>>
         ensures { result ≡ image_columns self.now.num_columns self.now.before }
     {
@@ -199,8 +199,8 @@ impl<'a> RowsEvent<'a> {
         ))
     }
 
-    /// Returns a bit for each column of the event, set if the images after the change have the
-    /// column; none if the event has no such images.
+    /// Returns a bit for each column of the event, which is set where the images after the change
+    /// have the column; `None` where the event has no such images.
     pub fn columns_after_image(&self) -> Option<BitView<'_>>
         ensures { result ≡ image_columns self.now.num_columns self.now.after }
     {
@@ -212,14 +212,16 @@ impl<'a> RowsEvent<'a> {
         ))
     }
 
-    // Returns the bytes of the bitmap of the images before the change, if the event has them.
+    // Returns the bytes of the bitmap of the images before the change; `None` where the event has
+    // none.
     pub(super) fn bitmap_before(&self) -> Option<&[u8]>
         ensures { option_map (λ b. b.now) result ≡ self.now.before }
     {
         Some(self.columns_before_image.as_ref()?.as_bytes())
     }
 
-    // Returns the bytes of the bitmap of the images after the change, if the event has them.
+    // Returns the bytes of the bitmap of the images after the change; `None` where the event has
+    // none.
     pub(super) fn bitmap_after(&self) -> Option<&[u8]>
         ensures { option_map (λ b. b.now) result ≡ self.now.after }
     {
@@ -267,7 +269,7 @@ impl<'a> RowsEvent<'a> {
     }
 }
 
-// Returns how many bytes a bitmap has; 0 if there is none.
+// Returns how many bytes a bitmap has; 0 where there is none.
 fn bitmap_length(bitmap: &Option<Bitmap<'_>>) -> usize
     ensures { result ≡ bitmap_length bitmap.now }
 {
@@ -323,13 +325,13 @@ impl<'de> MyDeserialize<'de> for RowsEvent<'de> {
 
     /// Reads a rows event of MySQL's binary log from all bytes of its body.
     ///
-    /// The body is the table id (four bytes if the post-header length is 6, else six), the flags
-    /// (two bytes), the extra data if the post-header length is that of `WRITE_ROWS_EVENT`, the
+    /// The body is the table id (four bytes where the post-header length is 6, else six), the flags
+    /// (two bytes), the extra data where the post-header length is that of `WRITE_ROWS_EVENT`, the
     /// number of columns (a length-encoded integer), a bitmap of columns for each image that the
     /// type has, and the rows data.
     ///
-    /// This takes no memory. The fault is `UnexpectedEof` if the body ends before the rows data,
-    /// and `BadLenEnc` if the number of columns begins with FB or FF.
+    /// This takes no memory. Fails with `UnexpectedEof` if the body ends before the rows data, and
+    /// with `BadLenEnc` if the number of columns begins with FB or FF.
     fn deserialize(ctx: RowsEventCtx, buf: &mut ParseBuf<'de>) -> Result<Self, Fault>
         ensures parses { Parses (Spec.rows_event ctx) result buf.old.0.now buf.new.0.now }
         // All of the bytes are the event in this layout, or they are refused with the layout's

@@ -96,7 +96,7 @@ fn is_same(kept: &Option<Vec<u8>>, bitmap: Option<&[u8]>) -> bool
 }
 
 impl Planned {
-    // Keeps a plan that was made for these events. Fails where memory is refused.
+    // Keeps a plan that was made for these events. Fails if memory is refused.
     fn new(
         alloc: Global,
         table: &TableMapEvent<'_>,
@@ -137,7 +137,7 @@ impl Planned {
 }
 
 impl KeptPlan {
-    /// Keeps no plan yet.
+    /// Makes a `KeptPlan` that is empty.
     pub fn new() -> KeptPlan
         ensures { result ≡ None }
     {
@@ -151,7 +151,7 @@ impl KeptPlan {
         self.last = Some(planned);
     }
 
-    // Returns the plan that is kept, if it serves these events.
+    // Returns the plan that is kept; `None` where it doesn't serve these events.
     fn plans(&self, table: &TableMapEvent<'_>, event: &RowsEvent<'_>) -> Option<&Rc<Plans>>
         ensures serves { IfSome result (λ p. KeptServes self.now table.now event.now
             × Reads table.now event.now (rc_value p.now).plans) }
@@ -175,13 +175,13 @@ impl<'a> RowsEvent<'a> {
 
     /// Returns an iterator over the pairs of rows, as `rows` does, by a plan that is kept.
     ///
-    /// The items are those of `rows`, whatever was kept before. If the plan was kept for events that
-    /// tell the same, it is used again, and `metadata_steps` is 0: the servers, the names of the
-    /// database and of the table, the types, the metadata, the null bits and the optional metadata of
-    /// the table are the same, and so are the images of the rows events, how many columns they have,
-    /// and which of these are in each image. The ids of the tables, the flags and the rows data may
-    /// differ. Otherwise a plan is made by this call, kept in place of the other, and its steps are
-    /// counted. `Memory` if memory can't be allocated.
+    /// The items are those of `rows`, whatever was kept before. If the plan was kept for events
+    /// that tell the same, it is used again, and `metadata_steps` is 0: the servers, the names of
+    /// the database and of the table, the types, the metadata, the null bits and the optional
+    /// metadata of the table are the same, and so are the images and options of the rows events,
+    /// their count of columns, and their bitmaps of columns. The ids of the tables, the flags and
+    /// the rows data may differ. Otherwise a plan is made by this call, kept in place of the other,
+    /// and its steps are counted. Fails with `Memory` if memory is refused.
     pub fn rows_by<'b>(
         &'b self,
         alloc: Global,

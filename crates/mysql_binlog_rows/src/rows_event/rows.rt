@@ -23,11 +23,11 @@ use std::alloc::Global;
 use std::marker::Model;
 use std::rc::Rc;
 
-/// The row before a change and the row after it. Each is none if the event has no such image.
+/// The row before a change and the row after it. Each is `None` where the event has no such image.
 pub type RowPair = (Option<BinlogRow>, Option<BinlogRow>);
 
-/// The plan of the images after the change, if the event has them: that of the images before it
-/// where both have the same columns, or one of its own.
+/// The plan of the images after the change: that of the images before it where both have the same
+/// columns, or one of its own, which is `None` where the event has no such images.
 #[derive(Drop)]
 enum After {
     Same,
@@ -79,7 +79,7 @@ impl<'a> Model for Events<'a> {
     ghost view = { λ u. record { table = u.table.now; event = u.event.now } };
 }
 
-/// Plans that are kept for later events too. Where they were made for an earlier event, no step was
+/// Plans that are kept for later events too. If they were made for an earlier event, no step was
 /// taken for this one.
 #[derive(Drop)]
 pub(super) struct Shared {
@@ -106,9 +106,9 @@ enum Columns<'a> {
 
 /// An iterator over the pairs of rows of a rows event, up to and including its first fault.
 ///
-/// How the columns are read is found out once, at the first call of `next` with bytes left, which
-/// takes memory. The number of items, the fault included, is at most the number of bytes of the
-/// rows data.
+/// How the columns are read is found out once, which takes memory: by the call of `rows_by`, or,
+/// after `rows`, at the first call of `next` with bytes left. The number of items, the fault
+/// included, is at most the number of bytes of the rows data.
 #[derive(Drop)]
 pub struct RowsEventRows<'a> {
     alloc: Global,
@@ -210,7 +210,7 @@ fn plan_after(
 }
 
 impl Plans {
-    // Makes the plans of both images. `Memory` if memory can't be allocated.
+    // Makes the plans of both images. Fails with `Memory` if memory is refused.
     pub(super) fn make(alloc: Global, events: &Events<'_>) -> Result<Plans, Fault>
         ensures plans { IfOk result (λ p. p.plans ≡ plans_of_events events.now) }
         ensures most { IfOk result (λ p. p.steps ≤ most_of_events events.now) }
@@ -237,7 +237,7 @@ impl Plans {
         self.has_options
     }
 
-    // The plan of the images after the change.
+    // Returns the plan of the images after the change; `None` where the event has no such images.
     fn after(&self) -> &Option<Plan>
         ensures { result.now ≡ self.now.plans.after }
     {
@@ -257,8 +257,8 @@ impl Plans {
         Ok((before, after))
     }
 
-    // Reads the pair at the start of the rows data. Returns it with the bytes after it. `EmptyPair`
-    // if the pair has no bytes.
+    // Reads the pair at the start of the rows data. Returns it with the bytes after it. Fails with
+    // `EmptyPair` if the pair has no bytes.
     fn next_pair<'d>(
         &self,
         alloc: Global,
@@ -325,8 +325,8 @@ impl<'a> RowsEvent<'a> {
     /// `UnexpectedEof`); then, for each column of the event in order, the fault of its type
     /// (`UnknownColumnType`, `UnexpectedColumnType`, `NoColumnType`), of its character set, its
     /// name and its key (`BadLenEnc`, `UnexpectedEof`), and, if it is in the image and isn't NULL,
-    /// of its cell, as `BinlogValue` says. After the images, `EmptyPair` if they have no bytes.
-    /// `Memory` if memory can't be allocated.
+    /// of its cell, as `BinlogValue` says. After the images, `EmptyPair` if they have no bytes. Any
+    /// item may be `Memory` instead, if memory is refused.
     pub fn rows<'b>(&'b self, alloc: Global, table: &'b TableMapEvent<'b>) -> RowsEventRows<'b>
         ensures is_of { IsOf table.now self.now result }
         ensures left { result.left ≡ self.now.rows_data }
@@ -361,11 +361,12 @@ impl<'a> RowsEventRows<'a> {
 
     /// Returns how many steps it took to find out how the columns are read: one for each field of
     /// the optional metadata, one for each item and fault that was taken of the lists in it, and
-    /// one for each column that was walked over, be it in the image or not. They are counted once for
-    /// each plan: an event with two images of the same columns has one plan for both.
+    /// one for each column that was walked over, be it in the image or not. They are counted once
+    /// for each plan: an event with two images of the same columns has one plan for both.
     ///
-    /// The count is 0 before the first call of `next` with bytes left, and no later call changes
-    /// it. By a plan that was kept from an earlier event it stays 0.
+    /// After `rows` the count is 0 before the first call of `next` with bytes left, and no later
+    /// call changes it. After `rows_by` no call changes it, and it is 0 if the plan was kept from
+    /// an earlier event.
     pub fn metadata_steps(&self) -> u128
         ensures value { result ≡ self.now.steps }
         ensures most { result ≤ self.now.most_steps }

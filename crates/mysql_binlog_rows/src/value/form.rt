@@ -67,7 +67,7 @@ pub(crate) enum Form {
     Json,
 }
 
-// Returns the first byte of the metadata. `MissingMetadata` if there is none.
+// Returns the first byte of the metadata. Fails with `MissingMetadata` if there is none.
 fn first_byte(metadata: &[u8]) -> Result<u8, Fault>
     ensures { result ≡ first_byte metadata.now }
 {
@@ -77,7 +77,7 @@ fn first_byte(metadata: &[u8]) -> Result<u8, Fault>
     }
 }
 
-// Returns the first two bytes of the metadata. `MissingMetadata` if there are fewer.
+// Returns the first two bytes of the metadata. Fails with `MissingMetadata` if there are fewer.
 fn first_two(metadata: &[u8]) -> Result<(u8, u8), Fault>
     ensures { result ≡ first_two metadata.now }
 {
@@ -123,7 +123,7 @@ fn bit_bytes(m0: u8, m1: u8) -> usize
 }
 
 // Returns how BLOB, GEOMETRY and VECTOR cells are read, whose length is written in `width` bytes.
-// `UnknownBlob` if `width` isn't 1 to 4.
+// Fails with `UnknownBlob` if `width` isn't 1 to 4.
 fn blob_form(width: u8) -> Result<PlainForm, Fault>
     ensures { result ≡ blob_form width }
 {
@@ -136,8 +136,8 @@ fn blob_form(width: u8) -> Result<PlainForm, Fault>
     }
 }
 
-// Returns how ENUM cells are read, whose number is written in `width` bytes. `UnknownEnum` if
-// `width` isn't 1 or 2.
+// Returns how ENUM cells are read, whose number is written in `width` bytes. Fails with
+// `UnknownEnum` if `width` isn't 1 or 2.
 fn variant_form(width: u8) -> Result<PlainForm, Fault>
     ensures { result ≡ variant_form width }
 {
@@ -148,7 +148,7 @@ fn variant_form(width: u8) -> Result<PlainForm, Fault>
     }
 }
 
-// Returns how the cells of a column are read, if it is neither an array nor JSON.
+// Returns how the cells of a column are read that is neither an array nor JSON.
 #[tactic(auto, unfolding(crate::specs::Cells::plain_form))]
 fn plain_form(column_type: ColumnType, metadata: &[u8], unsigned: bool) -> Result<PlainForm, Fault>
     ensures { result ≡ plain_form column_type metadata.now unsigned }
@@ -179,8 +179,8 @@ fn plain_form(column_type: ColumnType, metadata: &[u8], unsigned: bool) -> Resul
     }
 }
 
-// Returns how cells are read if their type needs two bytes of metadata. All other types are
-// `Unhandled`.
+// Returns how cells are read whose type needs two bytes of metadata. Fails with `Unhandled` for any
+// other type.
 fn two_form(column_type: ColumnType, metadata: &[u8]) -> Result<PlainForm, Fault>
     ensures { result ≡ two_form column_type metadata.now }
 {
@@ -207,7 +207,7 @@ fn two_form(column_type: ColumnType, metadata: &[u8]) -> Result<PlainForm, Fault
     }
 }
 
-// Returns how the cells of a column are read, if it isn't an array.
+// Returns how the cells of a column are read that isn't an array.
 fn element_form(column_type: ColumnType, metadata: &[u8], unsigned: bool) -> Result<Form, Fault>
     ensures { result ≡ element_form column_type metadata.now unsigned }
 {
@@ -218,7 +218,8 @@ fn element_form(column_type: ColumnType, metadata: &[u8], unsigned: bool) -> Res
 }
 
 // Returns how the cells of an array are read: as cells of the type that the first byte of the
-// metadata names, with all of the metadata. `Unhandled` if it names no such type.
+// metadata names, with all of the metadata. Fails with `Unhandled` if it names no type, or
+// TYPED_ARRAY again.
 fn typed_form(metadata: &[u8], unsigned: bool) -> Result<Form, Fault>
     ensures { result ≡ array_form metadata.now unsigned }
 {
@@ -231,8 +232,8 @@ fn typed_form(metadata: &[u8], unsigned: bool) -> Result<Form, Fault>
 /// Returns how the cells of a column of this type and metadata are read. `unsigned` says that its
 /// numbers are unsigned.
 ///
-/// The faults are `MissingMetadata` if the metadata is too short, `UnknownBlob` or `UnknownEnum` if
-/// it has an invalid width, and `Unhandled` if the type isn't supported.
+/// Fails with `MissingMetadata` if the metadata is too short, with `UnknownBlob` or `UnknownEnum`
+/// if it has an invalid width, and with `Unhandled` if the type isn't supported.
 pub(crate) fn form_of(
     column_type: ColumnType,
     metadata: &[u8],

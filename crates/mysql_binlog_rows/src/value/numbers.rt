@@ -12,8 +12,8 @@ use binlog_base::below::{
 };
 use binlog_base::fault::Fault;
 
-// Reads a little-endian number of `width` bytes, without a sign. In each arm the width is known to the
-// compiler, so that reading takes a few instructions.
+// Reads a little-endian number of `width` bytes, without a sign. In each arm the compiler knows the
+// width, so that reading takes a few instructions.
 pub(super) fn read_unsigned(width: Width, buf: &mut ParseBuf<'_>) -> Result<u32, Fault>
     ensures { Parses (little_endian (bytes_in width)) result buf.old.0.now buf.new.0.now }
 {
@@ -25,7 +25,7 @@ pub(super) fn read_unsigned(width: Width, buf: &mut ParseBuf<'_>) -> Result<u32,
     }
 }
 
-// The same of a number in two's complement.
+// Reads a little-endian number of `width` bytes in two's complement.
 fn read_signed(width: Width, buf: &mut ParseBuf<'_>) -> Result<i32, Fault>
     ensures { Parses (signed_little_endian (bytes_in width)) result buf.old.0.now buf.new.0.now }
 {

@@ -108,7 +108,7 @@ fn date_of_digits(year: u16, number: u64) -> Value
 }
 
 // Reads a DATETIME of the format before fractional seconds: the decimal digits YYYYMMDDHHMMSS, as a
-// little-endian number of eight bytes. `YearRange` if the year is above 65535.
+// little-endian number of eight bytes. Fails with `YearRange` if the year is above 65535.
 #[tactic(auto, unfolding(crate::specs::Cells::datetime_cell))]
 pub(super) fn read_datetime(buf: &mut ParseBuf<'_>) -> Result<Value, Fault>
     ensures { ParsesAs plain_of datetime_cell result buf.old.0.now buf.new.0.now }

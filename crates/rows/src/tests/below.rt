@@ -42,7 +42,7 @@ fn numbers_of_fixed_width(rt: HostRuntime) {
     );
 }
 
-/// Whether the bytes are read as the number, and are what is written of it.
+/// Returns whether the bytes are read as the number, and are what is written of it.
 fn is_spelled<T: IntRepr<Primitive: PartialEq>>(
     rt: &HostRuntime,
     bytes: &[u8],
@@ -400,13 +400,13 @@ fn texts_of_errors(rt: HostRuntime) {
     );
 }
 
-/// Whether these bytes are what a value is written as, after a byte that is there already.
+/// Returns whether these bytes are what a value is written as, after a byte that is there already.
 fn writes(rt: &HostRuntime, value: &impl MySerialize, bytes: &[u8]) -> bool {
     let mut buf = Vec::new(rt.alloc());
     buf.push(7u8).is_ok() && value.serialize(&mut buf).is_ok() && buf.as_slice() == bytes
 }
 
-/// Whether the next value is this one.
+/// Returns whether the next value is this one.
 fn next_is<'a, T: MyDeserialize<'a> + PartialEq + Drop>(
     buf: &mut ParseBuf<'a>,
     ctx: T::Ctx,
@@ -418,7 +418,7 @@ fn next_is<'a, T: MyDeserialize<'a> + PartialEq + Drop>(
     }
 }
 
-/// A string of these bytes.
+/// Returns a string of these bytes.
 fn string<T: BytesRepr>(bytes: &[u8]) -> RawBytes<'_, T> {
     RawBytes::new(CowSlice::Borrowed(bytes))
 }
@@ -439,7 +439,7 @@ fn strings_are_read(rt: HostRuntime) {
     );
 }
 
-/// Whether reading a value is refused by this fault.
+/// Returns whether reading a value is refused by this fault.
 fn refuses<'a, T: MyDeserialize<'a, Ctx = ()> + Drop>(bytes: &'a [u8], fault: Fault) -> bool {
     match ParseBuf(bytes).parse::<T>(()) {
         Ok(_) => false,
@@ -476,12 +476,12 @@ fn bytes_are_eaten(rt: HostRuntime) {
     );
 }
 
-/// Whether these bytes are what a string is written as, after a byte that is there already.
+/// Returns whether these bytes are what a string is written as, after a byte that is there already.
 fn is_written<T: BytesRepr>(rt: &HostRuntime, text: &[u8], bytes: &[u8]) -> bool {
     writes(rt, &RawBytes::<T>::new(CowSlice::Borrowed(text)), bytes)
 }
 
-/// Whether these are the bytes of a string.
+/// Returns whether these are the bytes of a string.
 fn has_bytes(text: RawBytes<'_, U8Bytes>, bytes: &[u8]) -> bool {
     text.len() == bytes.len() && !text.is_empty() && text.into_bytes().as_slice() == bytes
 }
@@ -499,7 +499,7 @@ fn strings_are_written(rt: HostRuntime) {
     );
 }
 
-/// Whether a byte is followed by so many bytes where a value is written after it.
+/// Returns whether `count` bytes are written for a value, after a byte that is there already.
 fn adds(rt: &HostRuntime, value: &impl MySerialize, count: usize) -> bool {
     let mut buf = Vec::new(rt.alloc());
     buf.push(7u8).is_ok()
@@ -507,8 +507,8 @@ fn adds(rt: &HostRuntime, value: &impl MySerialize, count: usize) -> bool {
         && buf.len().checked_sub(1) == Some(count)
 }
 
-/// Whether a byte is followed by so many bytes where a string is written after it, whose length has
-/// one byte.
+/// Returns whether `count` bytes are written for a string whose length has one byte, after a byte
+/// that is there already.
 fn adds_short(rt: &HostRuntime, text: &[u8], count: usize) -> bool {
     let mut buf = Vec::new(rt.alloc());
     buf.push(7u8).is_ok()
@@ -519,7 +519,7 @@ fn adds_short(rt: &HostRuntime, text: &[u8], count: usize) -> bool {
 /// A string of 300 bytes.
 const LONG: &[u8] = &[5; 300];
 
-/// Whether so many bytes are added for the long string.
+/// Returns whether `count` bytes are written for the long string.
 fn adds_long<T: BytesRepr>(rt: &HostRuntime, count: usize) -> bool {
     adds(rt, &RawBytes::<T>::new(CowSlice::Borrowed(LONG)), count)
 }
@@ -605,7 +605,7 @@ fn equal_bits(rt: HostRuntime) -> Result<(), Fail> {
     Ok(())
 }
 
-/// A column with a key, and names in each part.
+/// Returns a column with a key, and names in each part.
 fn key_column(alloc: Global) -> Result<Column, AllocError> {
     Ok(
         Column::new(ColumnType::MYSQL_TYPE_LONG)
@@ -630,7 +630,7 @@ fn is_key_column(column: &Column) -> bool {
     ])
 }
 
-/// Whether the row has one column, the value -1, and one that was taken.
+/// Returns whether the row has one column, the value -1, and one that was taken.
 fn has_one_value(row: &Row) -> bool {
     all(&[
         row.len() == 2 && !row.is_empty(),

@@ -21,8 +21,8 @@ use mysql_binlog_rows::row::{BinlogRowToRowError, UnknownBinlogRowValueOptions};
 use mysql_binlog_rows::value::{BinlogValue, BinlogValueToValueError, signed_old_time};
 use std::fmt::{self, InlineText, Write};
 
-/// A cell by its column's type and metadata, and the cell's bytes; and the `Debug` text of its value,
-/// with bytes in quotes, or its fault.
+/// A cell by its column's type and metadata, and the cell's bytes; and the `Debug` text of its
+/// value, with bytes in quotes, or its fault.
 type Cell = (ColumnType, &'static [u8], &'static [u8], &'static str);
 
 /// Writes a value, and how many bytes are left after it.
@@ -50,7 +50,7 @@ fn write_cell(
     }
 }
 
-/// Whether a cell is read as it is described, and takes all of its bytes.
+/// Returns whether a cell is read as it is described, and takes all of its bytes.
 fn is_read(rt: &HostRuntime, unsigned: bool, cell: Cell) -> bool {
     let (column_type, metadata, bytes, text) = cell;
     let mut room = InlineText::new();
@@ -112,12 +112,13 @@ fn numbers(rt: HostRuntime) {
     }
 }
 
-/// Values of TIME columns, and the negative times that they mean.
+/// Checks values of TIME columns, and the negative times that they mean.
 #[test]
 fn negative_old_times(rt: HostRuntime) {
     old_times_have_signs();
     let time = MYSQL_TYPE_TIME;
-    // The bytes FF FF FF, 59 0A 80 and 00 00 80; the greatest number without a minus, and the first that three bytes don't hold.
+    // The bytes FF FF FF, 59 0A 80 and 00 00 80; the greatest number without a minus, and the first
+    // that three bytes don't hold.
     let cases = [
         ((69, 21, 72, 15), Some((0, 0, 0, 1))),
         ((34, 23, 12, 57), Some((34, 22, 59, 59))),
@@ -190,7 +191,7 @@ const OLD_TIMES: [Cell; 9] = [
     ),
 ];
 
-/// Dates and times with fractions of so many digits.
+/// Dates and times with fractions; the metadata is the count of decimals.
 const TIMES: [Cell; 9] = [
     (
         MYSQL_TYPE_TIME2,
@@ -280,7 +281,7 @@ const BITS: [Cell; 9] = [
     (MYSQL_TYPE_TYPED_ARRAY, &[244], b"\x2a\0\0\0", "Unhandled"),
 ];
 
-/// Texts, whose length has two bytes where the greatest is above 255.
+/// Texts, whose length has two bytes where the greatest length is above 255.
 const TEXTS: [Cell; 10] = [
     (MYSQL_TYPE_VARCHAR, &[255, 0], b"\x02ab", "\"ab\""),
     (MYSQL_TYPE_VARCHAR, &[0, 1], b"\x02\0ab", "\"ab\""),

@@ -13,7 +13,7 @@ use binlog_consts::consts::{
 };
 use std::test::Fail;
 
-/// Whether a number gives what the table has for it, and this error where it has nothing.
+/// Returns whether a number gives what the table has for it, and this error if it has nothing.
 fn follows<N, T, E>(table: &[(N, T)], number: N, refusal: E) -> bool
 where
     N: Copy + PartialEq,
@@ -26,7 +26,7 @@ where
     }
 }
 
-/// Whether each value of the table has the number that the table says.
+/// Returns whether each value of the table has the number that the table says.
 fn are_numbered<N, T>(table: &[(N, T)]) -> bool
 where
     N: Copy + PartialEq + From<T>,

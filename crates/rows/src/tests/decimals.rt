@@ -79,7 +79,7 @@ fn packs(rt: &HostRuntime, decimal: &Decimal, wanted: &[u8]) -> bool {
     written == Ok(()) && bytes.as_slice() == wanted && decimal.bin_size() == wanted.len()
 }
 
-// Whether a text is read, and what is printed and packed of it.
+// Returns whether a text is read, and printed and packed as these.
 fn reads(rt: &HostRuntime, text: &str, printed: &str, packed: &[u8]) -> bool {
     match Decimal::from_str(rt.alloc(), text) {
         Ok(decimal) => shows(rt, &decimal, printed) && packs(rt, &decimal, packed),
@@ -101,7 +101,7 @@ fn is_refused_whole(rt: &HostRuntime, text: &[u8]) -> bool {
     )
 }
 
-// What is read of packed bytes, and whether all of them were taken.
+// Returns what is read of packed bytes, and whether all of them were taken.
 fn unpacked(
     alloc: Global,
     bytes: &[u8],
@@ -129,7 +129,7 @@ fn refuses(rt: &HostRuntime, bytes: &[u8], precision: usize, scale: usize) -> Op
     }
 }
 
-// How two texts compare, where both are read.
+// Returns how two texts compare; `None` where one of them isn't read.
 fn compares(rt: &HostRuntime, one: &str, other: &str) -> Option<Ordering> {
     match (
         Decimal::from_str(rt.alloc(), one),
@@ -140,7 +140,7 @@ fn compares(rt: &HostRuntime, one: &str, other: &str) -> Option<Ordering> {
     }
 }
 
-// Whether packed bytes of precision 4 and scale 2 are the lesser ones.
+// Returns whether the first packed bytes, of precision 4 and scale 2, are less than the others.
 fn is_less(rt: &HostRuntime, one: &[u8], other: &[u8]) -> bool {
     match (
         unpacked(rt.alloc(), one, 4, 2, true),
@@ -324,7 +324,7 @@ fn default_is_zero(rt: HostRuntime) -> Result<(), Fail> {
     Ok(())
 }
 
-// What a decimal of two bytes gives that is written where there is room for one, and the number of
+// Writes a decimal of two bytes where there is room for one. Returns the result and the number of
 // the writer's failures.
 fn written_to_one_byte(alloc: Global) -> Result<(Result<(), Fault>, u64), ParseDecimalError> {
     let one = Decimal::from_str(alloc, "1.0")?;

@@ -1,4 +1,5 @@
-//! Walks an event without a list of its pairs, as the example in README.md does.
+//! Walks the rows of an event without a list of its pairs, as the example in README.md does, and
+//! goes on to the strings in a JSON column.
 
 use super::all;
 use binlog_base::below::{ColumnFlags, ParseBuf, Value};
@@ -67,7 +68,7 @@ fn add_after(alloc: Global, lines: &mut String, pair: &RowPair) -> Result<(), Fa
     }
 }
 
-/// The lines of the rows after the changes.
+/// Returns the lines of the rows after the changes.
 fn lines_of(alloc: Global, rows: RowsEventRows<'_>) -> Result<String, Fault> {
     let mut lines = String::new(alloc);
     for pair in rows {
@@ -76,7 +77,7 @@ fn lines_of(alloc: Global, rows: RowsEventRows<'_>) -> Result<String, Fault> {
     Ok(lines)
 }
 
-/// The lines of the rows that were inserted into the table `t`; none for another table.
+/// Returns the lines of the rows that were inserted into the table `t`; none for another table.
 fn inserted(alloc: Global, table: &TableMapEvent<'_>, rows: &[u8]) -> Result<String, Fault> {
     if table.table_name_raw() != b"t".as_slice() {
         return Ok(String::new(alloc));
@@ -89,13 +90,13 @@ fn inserted(alloc: Global, table: &TableMapEvent<'_>, rows: &[u8]) -> Result<Str
     lines_of(alloc, event.rows(alloc, table))
 }
 
-/// The lines of the rows for the bytes of a table map event.
+/// Returns the lines of the rows for the bytes of a table map event and of a rows event.
 fn filter(alloc: Global, table: &[u8], rows: &[u8]) -> Result<String, Fault> {
     let table: TableMapEvent<'_> = ParseBuf(table).parse(8)?;
     inserted(alloc, &table, rows)
 }
 
-/// Whether these are the lines of the rows.
+/// Returns whether these are the lines of the rows.
 fn has_lines(alloc: Global, table: &[u8], text: &str) -> Result<bool, Fault> {
     Ok(filter(alloc, table, ROWS)?.as_str() == text)
 }

@@ -30,7 +30,7 @@ fn an_update_with_other_columns_in_each_image(rt: HostRuntime) -> Result<(), Fai
 /// A column by its type, its name, its flags and its character set.
 type Described<'a> = (ColumnType, &'a [u8], u16, u16);
 
-/// Whether a column of the table d.t is the one that is described.
+/// Returns whether a column of the table d.t is the one that is described.
 fn is_described(column: &Column, described: Described<'_>) -> bool {
     let (column_type, name, flags, character_set) = described;
     column.column_type() == column_type
@@ -42,7 +42,7 @@ fn is_described(column: &Column, described: Described<'_>) -> bool {
         && column.character_set() == character_set
 }
 
-/// Whether the columns are those that are described.
+/// Returns whether the columns are those that are described.
 fn are_described(columns: &[Column], described: [Described<'_>; 2]) -> bool {
     match columns {
         [first, second] => {
@@ -52,7 +52,7 @@ fn are_described(columns: &[Column], described: [Described<'_>; 2]) -> bool {
     }
 }
 
-/// Whether the pair is an inserted row with these columns.
+/// Returns whether the pair is an inserted row with these columns.
 fn has_columns(pair: &RowPair, described: [Described<'_>; 2]) -> bool {
     match pair {
         (None, Some(row)) => are_described(row.columns_ref(), described),
@@ -60,7 +60,7 @@ fn has_columns(pair: &RowPair, described: [Described<'_>; 2]) -> bool {
     }
 }
 
-/// Whether each of the two inserted rows has these columns.
+/// Returns whether each of the two inserted rows has these columns.
 fn describes(alloc: Global, table: &[u8], described: [Described<'_>; 2]) -> Result<bool, Fault> {
     let decoded = decode(alloc, table, TWO_ROWS, EventType::WRITE_ROWS_EVENT, 10)?;
     match decoded.pairs.as_slice() {
@@ -123,13 +123,13 @@ fn columns_with_metadata(rt: HostRuntime) -> Result<(), Fail> {
     Ok(())
 }
 
-/// The steps after a further call of `next`.
+/// Returns the steps after a further call of `next`.
 fn next_steps(rows: &mut RowsEventRows<'_>) -> u128 {
     let _pair = rows.next();
     rows.metadata_steps()
 }
 
-/// The steps before the first call of `next`, after it, and after the fourth.
+/// Returns the steps before the first call of `next`, after it, and after the fourth.
 fn steps(alloc: Global, event: &RowsEvent<'_>, table: &TableMapEvent<'_>) -> (u128, u128, u128) {
     let mut rows = event.rows(alloc, table);
     let before = rows.metadata_steps();
@@ -148,7 +148,7 @@ const NAMED: &[u8] =
 const NAMED_AFTER_UNKNOWN: &[u8] =
     b"\x01\0\0\0\0\0\x01\0\x01d\0\x01t\0\x02\x03\x0f\x02\x0a\0\x02\x0e\x01\x07\x04\x04\x01a\x01b";
 
-/// The steps for the rows of an event over a table.
+/// Returns the steps for the rows of an event over a table, as `steps` does.
 fn steps_of(
     alloc: Global,
     table: &[u8],
@@ -178,7 +178,7 @@ fn steps_of_plans(rt: HostRuntime) {
     );
 }
 
-/// Whether what was taken out is this number, or nothing.
+/// Returns whether what was taken out is this number, or nothing.
 fn is_taken(taken: &Option<BinlogValue<'_>>, number: Option<i64>) -> bool {
     match taken {
         Some(BinlogValue::Value(Value::Int(found))) => number == Some(*found),
@@ -187,12 +187,12 @@ fn is_taken(taken: &Option<BinlogValue<'_>>, number: Option<i64>) -> bool {
     }
 }
 
-/// Whether what is taken out at an index is this number, or nothing.
+/// Returns whether what is taken out at an index is this number, or nothing.
 fn takes(row: &mut BinlogRow, index: usize, number: Option<i64>) -> bool {
     is_taken(&row.take(index), number)
 }
 
-/// Whether a number is the first value once it was placed there.
+/// Returns whether a number is the first value once it was put there.
 fn places(row: &mut BinlogRow, number: i64) -> bool {
     if row.is_empty() {
         return false;
@@ -213,13 +213,13 @@ fn values_taken_out_of_a_row(rt: HostRuntime) -> Result<(), Fail> {
     Ok(())
 }
 
-/// The columns of a row of one number.
+/// Returns the columns of a row of one number.
 fn one_column(alloc: Global) -> Result<RcSlice<Column>, Fault> {
     let column = Column::new(ColumnType::MYSQL_TYPE_LONG);
     Ok(RcSlice::from_vec(vec![in alloc; column]?)?)
 }
 
-/// The values of a row of one number.
+/// Returns the values of a row of one number.
 pub(super) fn unwrapped(alloc: Global, number: i64) -> Result<Vec<BinlogValue<'static>>, Fault> {
     let columns = one_column(alloc)?;
     let values = vec![in alloc; Some(BinlogValue::Value(Value::Int(number)))]?;
@@ -233,7 +233,7 @@ fn all_values_of_a_row(rt: HostRuntime) -> Result<(), Fail> {
     Ok(())
 }
 
-/// Whether the row is converted to a row of this number, or of no value.
+/// Returns whether the row is converted to a row of this number, or of no value.
 fn converts(alloc: Global, row: BinlogRow, number: Option<i64>) -> bool {
     match row.into_row(alloc) {
         Ok(row) => match row.as_ref(0) {

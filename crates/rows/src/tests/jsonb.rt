@@ -14,7 +14,7 @@ fn json(bytes: &[u8]) -> Result<Value<'_>, Fault> {
     ParseBuf(bytes).parse(())
 }
 
-/// The name of the variant.
+/// Returns the name of the variant.
 fn variant(value: &Value<'_>) -> &'static str {
     match value {
         Value::Null => "Null",
@@ -48,7 +48,7 @@ fn write_read(room: &mut InlineText<128>, read: Result<Value<'_>, Fault>) -> fmt
     }
 }
 
-/// Whether the bytes are read as this value, or refused with this fault.
+/// Returns whether the bytes are read as this value, or refused with this fault.
 fn is_read(bytes: &[u8], text: &str) -> bool {
     let mut room = InlineText::new();
     write_read(&mut room, json(bytes)).is_ok() && room.as_str() == text
@@ -88,7 +88,7 @@ fn values(rt: HostRuntime) {
     }
 }
 
-/// The small array that the bytes are.
+/// Returns the small array that the bytes are.
 fn array(bytes: &[u8]) -> Option<ComplexValue<'_, Small, Array>> {
     match json(bytes) {
         Ok(Value::SmallArray(array)) => Some(array),
@@ -108,7 +108,7 @@ fn write_element(
     }
 }
 
-/// Whether element `pos` of a small array is this value or this fault.
+/// Returns whether element `pos` of a small array is this value or this fault.
 pub(super) fn has_element(bytes: &[u8], pos: u32, text: &str) -> bool {
     let mut room = InlineText::new();
     match array(bytes) {
@@ -156,7 +156,7 @@ fn elements(rt: HostRuntime) {
     }
 }
 
-/// The small object that the bytes are.
+/// Returns the small object that the bytes are.
 fn object(bytes: &[u8]) -> Option<ComplexValue<'_, Small, Object>> {
     match json(bytes) {
         Ok(Value::SmallObject(object)) => Some(object),
@@ -164,7 +164,7 @@ fn object(bytes: &[u8]) -> Option<ComplexValue<'_, Small, Object>> {
     }
 }
 
-/// Whether the object has the key `a` at its first place.
+/// Returns whether the object has the key `a` at index 0.
 pub(super) fn has_key_a(bytes: &[u8]) -> bool {
     match object(bytes) {
         Some(object) => match object.key_at(0) {
@@ -204,7 +204,7 @@ fn write_entries(
     Ok(())
 }
 
-/// Whether the entries of the object have this text.
+/// Returns whether the entries of the object have this text.
 fn has_entries(bytes: &[u8], text: &str) -> bool {
     let mut room = InlineText::new();
     match object(bytes) {
@@ -229,7 +229,7 @@ fn write_keys(room: &mut InlineText<128>, object: &ComplexValue<'_, Small, Objec
     Ok(())
 }
 
-/// Whether the keys of the object have this text.
+/// Returns whether the keys of the object have this text.
 fn has_keys(bytes: &[u8], text: &str) -> bool {
     let mut room = InlineText::new();
     match object(bytes) {
@@ -300,27 +300,27 @@ impl StorageFormat for Wide {
     }
 }
 
-/// Whether an element is the number 42.
+/// Returns whether an element is the number 42.
 fn is_element_42(element: Result<Option<Value<'_>>, Fault>) -> bool {
     matches!(element, Ok(Some(Value::I32(42))))
 }
 
-/// Whether the array has one element, the number 42.
+/// Returns whether the array has one element, the number 42.
 fn is_42<T: StorageFormat>(array: &ComplexValue<'_, T, Array>) -> bool {
     array.element_count() == 1 && is_element_42(array.elem_at(0))
 }
 
-/// Whether an item of an iterator is the number 42.
+/// Returns whether an item of an iterator is the number 42.
 fn is_item_42(item: Option<Result<Value<'_>, Fault>>) -> bool {
     matches!(item, Some(Ok(Value::I32(42))))
 }
 
-/// Whether the first element of the array's iterator is the number 42.
+/// Returns whether the first element of the array's iterator is the number 42.
 fn begins_with_42<T: StorageFormat>(array: &ComplexValue<'_, T, Array>) -> bool {
     is_item_42(array.iter().next())
 }
 
-/// Whether the bytes are a large array of the number 42.
+/// Returns whether the bytes are a large array of the number 42.
 fn is_large_42(bytes: &[u8]) -> bool {
     match json(bytes) {
         Ok(Value::LargeArray(array)) => is_42(&array) && begins_with_42(&array),
@@ -328,7 +328,7 @@ fn is_large_42(bytes: &[u8]) -> bool {
     }
 }
 
-/// Whether the bytes are an array of the format `Wide`, of the number 42.
+/// Returns whether the bytes are an array of the format `Wide`, of the number 42.
 fn is_wide_42(bytes: &[u8]) -> bool {
     match ParseBuf(bytes).parse::<ComplexValue<'_, Wide, Array>>(()) {
         Ok(array) => is_42(&array) && begins_with_42(&array),
@@ -363,17 +363,17 @@ fn tables_of_types(rt: HostRuntime) {
     );
 }
 
-/// Whether these are the bytes of a string.
+/// Returns whether these are the bytes of a string.
 fn is_string(string: JsonbString<'_>, bytes: &[u8]) -> bool {
     string.into_raw().as_slice() == bytes
 }
 
-/// Whether these are the type and the bytes of an opaque value.
+/// Returns whether these are the type and the bytes of an opaque value.
 fn is_opaque(opaque: OpaqueValue<'_>, value_type: ColumnType, bytes: &[u8]) -> bool {
     opaque.value_type() == value_type && opaque.into_data().as_slice() == bytes
 }
 
-/// The type of the opaque value that the bytes are.
+/// Returns the type of the opaque value that the bytes are.
 fn field_type(bytes: &[u8]) -> Option<ColumnType> {
     match json(bytes) {
         Ok(value) => value.field_type(),
@@ -394,7 +394,8 @@ fn parts_of_values(rt: HostRuntime) {
     );
 }
 
-/// Whether the bytes are an array, and whether they are an object; the count of the elements.
+/// Returns whether the bytes are an array, whether they are an object, and the count of the
+/// elements.
 fn kind(bytes: &[u8]) -> (bool, bool, Option<u32>) {
     match json(bytes) {
         Ok(value) => (value.is_array(), value.is_object(), value.element_count()),
@@ -407,7 +408,7 @@ fn kinds_of_containers(rt: HostRuntime) {
     assert!(rt; (kind(NUMBERS), kind(NULL)) == ((true, false, Some(2)), (false, true, Some(1))));
 }
 
-/// Whether the value is a signed number, an unsigned one, and a floating one.
+/// Returns whether the value is a signed number, an unsigned one, and a floating one.
 fn is_int_uint_double(value: Value<'_>) -> (bool, bool, bool) {
     (value.is_int(), value.is_uint(), value.is_double())
 }
@@ -424,7 +425,7 @@ fn kinds_of_values(rt: HostRuntime) {
     );
 }
 
-/// Whether two iterators of the same object are equal.
+/// Returns whether two iterators of the same object are equal.
 fn has_equal_iterators(bytes: &[u8]) -> bool {
     match object(bytes) {
         Some(object) => object.keys() == object.keys() && object.iter() == object.iter(),

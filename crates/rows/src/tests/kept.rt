@@ -24,7 +24,7 @@ const SIGNED: &[u8] = b"\x01\0\0\0\0\0\x01\0\x01d\0\x01t\0\x02\x03\x0f\x02\x0a\0
 /// An inserted row of the first column alone.
 const FIRST_COLUMN: &[u8] = b"\x01\0\0\0\0\0\x01\0\x02\0\x02\x01\0\xff\xff\xff\xff";
 
-/// The steps by a plan that is kept, if the items are those of `rows`.
+/// Returns the steps by a plan that is kept; `None` where the items aren't those of `rows`.
 fn steps_of(
     alloc: Global,
     kept: &mut KeptPlan,
@@ -124,7 +124,7 @@ const CASES: [(Case, u128); 9] = [
     ),
 ];
 
-/// The steps of the events of a case.
+/// Returns the steps of the events of a case.
 fn steps_in(alloc: Global, kept: &mut KeptPlan, case: Case) -> Result<Option<u128>, Fault> {
     let (table, server, rows, event_type) = case;
     let table: TableMapEvent<'_> = ParseBuf(table).parse(8)?;

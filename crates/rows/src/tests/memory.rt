@@ -1,7 +1,7 @@
-//! What calls answer where memory is refused.
+//! What calls answer if memory is refused.
 //!
 //! scripts/memory.sh refuses each request for memory of these tests in turn. A test ends with the
-//! error of the call that was refused memory; where none was, it asserts the answer. The tests whose
+//! error of the call that was refused memory; if none was, it asserts the answer. The tests whose
 //! names begin with `nothing` ask for no more memory than the test program itself does.
 
 ghost use Rattle.std.specs.Prelude.{◌≤◌};
@@ -39,8 +39,8 @@ use std::test::Fail;
 #[test]
 fn nothing(_rt: HostRuntime) {}
 
-/// Whether the event of two rows begins without steps over a table with one column that may be
-/// NULL.
+/// Returns whether the event of two rows begins without steps over a table with one column that may
+/// be NULL.
 fn begins_over(alloc: Global, table: &TableMapEvent<'_>) -> Result<bool, Fault> {
     let event = read(TWO_ROWS, EventType::WRITE_ROWS_EVENT, 10)?;
     Ok(
@@ -50,7 +50,7 @@ fn begins_over(alloc: Global, table: &TableMapEvent<'_>) -> Result<bool, Fault> 
     )
 }
 
-/// Whether the event of two rows begins over the table of two columns.
+/// Returns whether the event of two rows begins over the table of two columns.
 fn begins(alloc: Global) -> Result<bool, Fault> {
     let table: TableMapEvent<'_> = ParseBuf(TWO_COLUMNS).parse(8)?;
     begins_over(alloc, &table)
@@ -61,7 +61,7 @@ fn nothing_for_events(rt: HostRuntime) {
     assert!(rt; begins(rt.alloc()) == Ok(true));
 }
 
-/// Whether the bytes are a JSON value that is parsed as a scalar.
+/// Returns whether the bytes are a JSON value that is parsed as a scalar.
 fn is_scalar(alloc: Global, bytes: &[u8]) -> Result<bool, Fault> {
     let value: Json<'_> = ParseBuf(bytes).parse(())?;
     match value.parse(alloc)? {
@@ -82,7 +82,7 @@ fn nothing_for_json(rt: HostRuntime) -> Result<(), Fail> {
     Ok(())
 }
 
-/// Whether the bytes are a diff with the path `$.a` and a value.
+/// Returns whether the bytes are a diff with the path `$.a` and a value.
 fn replaces(bytes: &[u8]) -> Result<bool, Fault> {
     let found: JsonDiff<'_> = ParseBuf(bytes).parse(())?;
     Ok(found.path() == b"$.a".as_slice() && found.value().is_some())
@@ -99,7 +99,7 @@ fn nothing_for_times(rt: HostRuntime) {
     assert!(rt; my_time_packed_from_binary(&mut bytes, 0) == Ok(0x1_9000 << 24));
 }
 
-/// The number of these bytes, of four digits, two of them after the point.
+/// Returns the number of these bytes, of four digits, two of them after the point.
 fn decimal(alloc: Global, mut bytes: &[u8]) -> Result<Decimal, Fault> {
     Decimal::read_bin(alloc, &mut bytes, 4, 2, true)
 }
@@ -112,7 +112,7 @@ fn two_decimals(rt: HostRuntime) -> Result<(), Fail> {
     Ok(())
 }
 
-/// As `two_decimals`: comparing them asks for no more memory.
+/// Compares the numbers of `two_decimals`, which asks for no more memory.
 #[test]
 fn two_decimals_compared(rt: HostRuntime) -> Result<(), Fail> {
     let one = decimal(rt.alloc(), &[0x7f, 0xfe])?;
@@ -121,7 +121,7 @@ fn two_decimals_compared(rt: HostRuntime) -> Result<(), Fail> {
     Ok(())
 }
 
-/// Whether a run has so many pairs, and no fault.
+/// Returns whether the events have this many pairs, and no fault.
 fn decodes(
     alloc: Global,
     table: &[u8],
@@ -147,7 +147,7 @@ fn runs(rt: HostRuntime) -> Result<(), Fail> {
     Ok(())
 }
 
-/// Whether the next item is this pair.
+/// Returns whether the next item is this pair.
 fn next_is(items: &mut RowsEventRows<'_>, pair: &RowPair) -> Result<bool, Fault> {
     match items.next() {
         Some(item) => Ok(item? == *pair),
@@ -155,12 +155,12 @@ fn next_is(items: &mut RowsEventRows<'_>, pair: &RowPair) -> Result<bool, Fault>
     }
 }
 
-/// Whether two further items are none.
+/// Returns whether two further items are none.
 fn is_at_end(items: &mut RowsEventRows<'_>) -> bool {
     items.next().is_none() && items.next().is_none()
 }
 
-/// Whether the items are these pairs. A refusal is the end of the items.
+/// Returns whether the items are these pairs. A refusal is the end of the items.
 fn are_items(items: &mut RowsEventRows<'_>, pairs: &[RowPair]) -> Result<bool, Fault> {
     for pair in pairs {
         match next_is(items, pair) {
@@ -173,8 +173,8 @@ fn are_items(items: &mut RowsEventRows<'_>, pairs: &[RowPair]) -> Result<bool, F
     Ok(is_at_end(items))
 }
 
-/// Whether the items of an event over a table are these pairs, or a beginning of them before a
-/// refusal.
+/// Returns whether the items of an event over a table are these pairs, or a beginning of them
+/// before a refusal.
 fn walks_over(
     alloc: Global,
     table: &TableMapEvent<'_>,
@@ -186,7 +186,7 @@ fn walks_over(
     are_items(&mut event.rows(alloc, table), pairs)
 }
 
-/// The same over the table that the bytes are.
+/// Returns what `walks_over` does, over the table that the bytes are.
 fn walks(
     alloc: Global,
     table: &[u8],
@@ -198,7 +198,7 @@ fn walks(
     walks_over(alloc, &table, rows, event_type, pairs)
 }
 
-/// Whether the items of an event are the pairs that `decode_pairs` gives.
+/// Returns whether the items of an event are the pairs that `decode_pairs` gives.
 fn walks_alike(
     alloc: Global,
     table: &[u8],
@@ -223,7 +223,7 @@ fn pairs_one_by_one(rt: HostRuntime) -> Result<(), Fail> {
     Ok(())
 }
 
-/// Whether the bytes are refused as a tree with this fault.
+/// Returns whether the bytes are refused as a tree with this fault.
 fn has_no_tree(alloc: Global, bytes: &[u8], fault: Fault) -> Result<bool, Fault> {
     let value: Json<'_> = ParseBuf(bytes).parse(())?;
     match value.parse(alloc) {
@@ -233,7 +233,7 @@ fn has_no_tree(alloc: Global, bytes: &[u8], fault: Fault) -> Result<bool, Fault>
     }
 }
 
-/// Whether the bytes are a tree of so many values.
+/// Returns whether the bytes are a tree of `count` values.
 fn has_tree(alloc: Global, bytes: &[u8], count: u64) -> Result<bool, Fault> {
     let value: Json<'_> = ParseBuf(bytes).parse(())?;
     let (dom, read) = value.parse_counted(alloc);
@@ -241,7 +241,7 @@ fn has_tree(alloc: Global, bytes: &[u8], count: u64) -> Result<bool, Fault> {
     Ok(matches!(dom, JsonDom::Container(_)) && read == count)
 }
 
-/// Whether nested arrays are a tree of so many values.
+/// Returns whether nested arrays are a tree of `count` values.
 fn nest(alloc: Global, depth: u16, entries: u8, count: u64) -> Result<bool, Fault>
     requires some { 1 ≤ depth }
     requires depth { depth ≤ 200 }
@@ -250,7 +250,7 @@ fn nest(alloc: Global, depth: u16, entries: u8, count: u64) -> Result<bool, Faul
     has_tree(alloc, &trees::nested(alloc, depth, entries)?, count)
 }
 
-/// Whether nested arrays are refused as a tree with this fault.
+/// Returns whether nested arrays are refused as a tree with this fault.
 fn nest_too_much(alloc: Global, depth: u16, entries: u8, fault: Fault) -> Result<bool, Fault>
     requires some { 1 ≤ depth }
     requires depth { depth ≤ 200 }
@@ -277,12 +277,13 @@ fn deep_trees(rt: HostRuntime) -> Result<(), Fail> {
     Ok(())
 }
 
-/// Whether a buffer that held `old` holds it still, followed by a beginning of the bytes.
+/// Returns whether a buffer that held `old` holds it still, followed by a beginning of the bytes.
 fn is_prefix(buf: &[u8], bytes: &[u8]) -> bool {
     buf.starts_with(b"old") && bytes.starts_with(&buf[3..])
 }
 
-/// Whether the value is appended to `old` as these bytes. A refusal leaves a prefix of that.
+/// Returns whether the value is appended to `old` as these bytes. A refusal leaves a prefix of
+/// that.
 fn is_appended(alloc: Global, value: &impl MySerialize, bytes: &[u8]) -> Result<bool, AllocError> {
     let mut buf = b"old".to_vec(alloc)?;
     let answer = value.serialize(&mut buf);
@@ -293,7 +294,7 @@ fn is_appended(alloc: Global, value: &impl MySerialize, bytes: &[u8]) -> Result<
     Ok(buf.len() == 3 + bytes.len())
 }
 
-/// Whether the bytes are read as a value, which is appended to `old` as the same bytes.
+/// Returns whether the bytes are read as a value, which is appended to `old` as the same bytes.
 fn is_rewritten<'a, T: MyDeserialize<'a> + MySerialize + Drop>(
     alloc: Global,
     ctx: T::Ctx,
@@ -361,7 +362,7 @@ fn written_fields(rt: HostRuntime) -> Result<(), Fail> {
     Ok(())
 }
 
-/// Whether the values of the next column begin with this one, and are so many.
+/// Returns whether the values of the next column begin with this one, and are this many.
 fn next_values_are(
     columns: &mut IterSetStrValues<'_>,
     first: &[u8],
@@ -380,13 +381,13 @@ fn next_values_are(
     }
 }
 
-/// Whether there are no more columns.
+/// Returns whether there are no more columns.
 fn has_no_column(columns: &mut IterSetStrValues<'_>) -> bool {
     columns.next().is_none()
 }
 
-/// Whether the values of each column begin with this one, and are so many. A refusal is the end of
-/// the columns.
+/// Returns whether the values of each column begin with this one, and are this many. A refusal is
+/// the end of the columns.
 fn are_values(
     columns: &mut IterSetStrValues<'_>,
     expected: &[(&[u8], usize)],
@@ -410,7 +411,7 @@ fn values_of_sets(rt: HostRuntime) -> Result<(), Fail> {
     Ok(())
 }
 
-/// The same text for a scalar of a tree: of a time, or of an opaque value.
+/// Appends the text of a scalar of a tree: of a time, or of an opaque value.
 fn write_scalar(dom: &JsonDom, text: &mut String) -> Result<(), AllocError> {
     match dom {
         JsonDom::Scalar(JsonScalar::DateTime(time)) => time.write_text(0, text),
@@ -419,8 +420,8 @@ fn write_scalar(dom: &JsonDom, text: &mut String) -> Result<(), AllocError> {
     }
 }
 
-/// Whether the text of a time or of an opaque value is appended to `old`. A refusal leaves a prefix
-/// of that.
+/// Returns whether the text of a time or of an opaque value is appended to `old`. A refusal leaves
+/// a prefix of that.
 fn is_text(alloc: Global, bytes: &[u8], expected: &str) -> Result<bool, Fault> {
     let value: Json<'_> = ParseBuf(bytes).parse(())?;
     let dom = value.parse(alloc)?;
@@ -445,23 +446,23 @@ fn written_texts(rt: HostRuntime) -> Result<(), Fail> {
     Ok(())
 }
 
-/// Whether an event has an equal copy.
+/// Returns whether an event has an equal copy.
 fn has_copy(alloc: Global, event: &RowsEvent<'_>) -> Result<bool, Fault> {
     Ok(event.clone(alloc)? == *event)
 }
 
-/// Whether the WRITE_ROWS_EVENT that the bytes are has an equal copy.
+/// Returns whether the WRITE_ROWS_EVENT that the bytes are has an equal copy.
 fn is_event_copied(alloc: Global, bytes: &[u8]) -> Result<bool, Fault> {
     let event = read(bytes, EventType::WRITE_ROWS_EVENT, 10)?;
     has_copy(alloc, &event)
 }
 
-/// Whether a copy of a table map event that owns its bytes is equal to it.
+/// Returns whether a copy of a table map event that owns its bytes is equal to it.
 fn has_table_copy(alloc: Global, table: &TableMapEvent<'_>) -> Result<bool, Fault> {
     Ok(table.clone(alloc)?.into_owned(alloc)? == *table)
 }
 
-/// Whether the table map event that the bytes are has an equal copy.
+/// Returns whether the table map event that the bytes are has an equal copy.
 fn is_table_copied(alloc: Global, bytes: &[u8]) -> Result<bool, Fault> {
     let table: TableMapEvent<'_> = ParseBuf(bytes).parse(8)?;
     has_table_copy(alloc, &table)
@@ -479,7 +480,7 @@ fn copies_of_tables(rt: HostRuntime) -> Result<(), Fail> {
     Ok(())
 }
 
-/// Whether an event that owns its bytes has the same parts.
+/// Returns whether an event that owns its bytes has the same parts.
 fn is_owned_event(alloc: Global, event: RowsEvent<'_>) -> Result<bool, AllocError> {
     let owned = event.into_owned(alloc)?;
     Ok(has_parts(&owned, 1, 2, &TWO_ROWS[12..]))
@@ -492,7 +493,7 @@ fn owned_events(rt: HostRuntime) -> Result<(), Fail> {
     Ok(())
 }
 
-/// Whether the text is this one.
+/// Returns whether the text is this one.
 fn matches_text(found: Result<CowStr<'_>, AllocError>, text: &str) -> Result<bool, AllocError> {
     Ok(found?.as_str() == text)
 }
@@ -500,7 +501,7 @@ fn matches_text(found: Result<CowStr<'_>, AllocError>, text: &str) -> Result<boo
 /// A table whose database and name are a byte that isn't UTF-8, without columns.
 const LOSSY: &[u8] = b"\x01\0\0\0\0\0\x01\0\x01\xff\0\x01\xff\0\0\0";
 
-/// Whether the names of a table are these.
+/// Returns whether the names of a table are these.
 fn has_names(
     alloc: Global,
     table: &TableMapEvent<'_>,
@@ -513,7 +514,7 @@ fn has_names(
     )
 }
 
-/// Whether the bytes are a table with these names.
+/// Returns whether the bytes are a table with these names.
 fn is_named(alloc: Global, bytes: &[u8], database: &str, name: &str) -> Result<bool, Fault> {
     let table: TableMapEvent<'_> = ParseBuf(bytes).parse(8)?;
     has_names(alloc, &table, database, name)
@@ -528,7 +529,7 @@ fn names_of_tables(rt: HostRuntime) -> Result<(), Fail> {
     Ok(())
 }
 
-/// Whether bytes of each kind have this text.
+/// Returns whether bytes of each kind have this text.
 fn name_is(alloc: Global, bytes: &[u8], text: &str) -> Result<bool, AllocError> {
     matches_text(ColumnName::new(CowSlice::Borrowed(bytes)).name(alloc), text)
 }
@@ -582,12 +583,12 @@ fn lossy_texts(rt: HostRuntime) -> Result<(), Fail> {
     Ok(())
 }
 
-/// Whether the path of a diff has this text.
+/// Returns whether the path of a diff has this text.
 fn has_path(alloc: Global, diff: &JsonDiff<'_>, text: &str) -> Result<bool, Fault> {
     Ok(matches_text(diff.path_str(alloc), text)?)
 }
 
-/// Whether the bytes are a diff whose path has this text.
+/// Returns whether the bytes are a diff whose path has this text.
 fn path_is(alloc: Global, bytes: &[u8], text: &str) -> Result<bool, Fault> {
     let diff: JsonDiff<'_> = ParseBuf(bytes).parse(())?;
     has_path(alloc, &diff, text)
@@ -603,12 +604,12 @@ fn lossy_paths(rt: HostRuntime) -> Result<(), Fail> {
     Ok(())
 }
 
-/// Whether a decimal has this text.
+/// Returns whether a decimal has this text.
 fn shows<E>(decimal: Result<Decimal, E>, text: &str) -> Result<bool, E> {
     Ok(super::has_text(&decimal?, text))
 }
 
-/// Whether a copy of a packed decimal has this text.
+/// Returns whether a copy of a packed decimal has this text.
 fn copy_shows(alloc: Global, mut bytes: &[u8], text: &str) -> Result<bool, Fault> {
     let decimal = Decimal::read_packed(alloc, &mut bytes, true)?;
     Ok(shows(decimal.clone(alloc), text)?)
@@ -628,7 +629,7 @@ fn decimals(rt: HostRuntime) -> Result<(), Fail> {
     Ok(())
 }
 
-/// Whether packed bytes of four digits, two of them after the point, have this text.
+/// Returns whether packed bytes of four digits, two of them after the point, have this text.
 fn has_text(alloc: Global, bytes: &[u8], text: &[u8]) -> Result<bool, Fault> {
     let found = Decimal::read_text(alloc, &mut ParseBuf(bytes), 4, 2)?;
     Ok(found.as_slice() == text)
@@ -640,12 +641,12 @@ fn texts_of_decimals(rt: HostRuntime) -> Result<(), Fail> {
     Ok(())
 }
 
-/// A copy of the cell that owns its bytes.
+/// Returns a copy of the cell that owns its bytes.
 fn own_copy(alloc: Global, cell: &BinlogValue<'_>) -> Result<BinlogValue<'static>, AllocError> {
     cell.clone(alloc)?.into_owned(alloc)
 }
 
-/// The value of a cell of text.
+/// Returns the value of a cell of text.
 fn text_cell(alloc: Global) -> Result<BinlogValue<'static>, Fault> {
     let metadata: &[u8] = &[10, 0];
     let ctx = (
@@ -659,7 +660,7 @@ fn text_cell(alloc: Global) -> Result<BinlogValue<'static>, Fault> {
     Ok(own_copy(alloc, &cell)?)
 }
 
-/// Whether the value is this text.
+/// Returns whether the value is this text.
 fn is_bytes(value: &BinlogValue<'_>, text: &[u8]) -> bool {
     match value {
         BinlogValue::Value(Value::Bytes(found)) => found.as_slice() == text,
@@ -673,7 +674,7 @@ fn cells(rt: HostRuntime) -> Result<(), Fail> {
     Ok(())
 }
 
-/// A column named `name`.
+/// Returns a column named `name`.
 fn text_column(alloc: Global) -> Result<Column, AllocError> {
     Column::new(ColumnType::MYSQL_TYPE_VARCHAR)
         .with_schema(alloc, b"schema")?
@@ -682,23 +683,23 @@ fn text_column(alloc: Global) -> Result<Column, AllocError> {
         .with_name(alloc, b"name")
 }
 
-/// The columns of a row of one column named `name`.
+/// Returns the columns of a row of one column named `name`.
 fn text_columns(alloc: Global) -> Result<RcSlice<Column>, Fault> {
     Ok(RcSlice::from_vec(vec![in alloc; text_column(alloc)?]?)?)
 }
 
-/// A row of one column named `name`, and a cell of text in it.
+/// Returns a row of one column named `name`, and a cell of text in it.
 fn text_row(alloc: Global) -> Result<BinlogRow, Fault> {
     let columns = text_columns(alloc)?;
     Ok(BinlogRow::new(vec![in alloc; Some(text_cell(alloc)?)]?, columns))
 }
 
-/// Whether a row of one column has an equal copy.
+/// Returns whether a row of one column has an equal copy.
 fn has_row_copy(alloc: Global, row: &BinlogRow) -> Result<bool, AllocError> {
     Ok(row.columns(alloc)?.len() == 1 && row.clone(alloc)? == *row)
 }
 
-/// How many values a row has once it is converted to plain values.
+/// Returns how many values a row has once it is converted to plain values.
 fn plain_len(alloc: Global, row: BinlogRow) -> Result<usize, BinlogRowToRowError> {
     Ok(row.into_row(alloc)?.len())
 }
@@ -716,17 +717,17 @@ fn values_of_rows(rt: HostRuntime) -> Result<(), Fail> {
     Ok(())
 }
 
-/// A copy of a JSON value that owns its bytes.
+/// Returns a copy of a JSON value that owns its bytes.
 fn owned_json(alloc: Global, value: &Json<'_>) -> Result<Json<'static>, AllocError> {
     value.clone(alloc)?.into_owned(alloc)
 }
 
-/// Whether a copy of a JSON value that owns its bytes is equal to it.
+/// Returns whether a copy of a JSON value that owns its bytes is equal to it.
 fn has_json_copy(alloc: Global, value: &Json<'_>) -> Result<bool, Fault> {
     Ok(owned_json(alloc, value)? == *value)
 }
 
-/// Whether the bytes are a JSON value, and a copy that owns its bytes is equal to it.
+/// Returns whether the bytes are a JSON value, and a copy that owns its bytes is equal to it.
 fn is_copied(alloc: Global, bytes: &[u8]) -> Result<bool, Fault> {
     let value: Json<'_> = ParseBuf(bytes).parse(())?;
     has_json_copy(alloc, &value)
@@ -747,7 +748,7 @@ fn copies_of_json(rt: HostRuntime) -> Result<(), Fail> {
     Ok(())
 }
 
-/// Whether each kind of string that owns its bytes has the same bytes.
+/// Returns whether each kind of string that owns its bytes has the same bytes.
 fn name_is_owned(alloc: Global) -> Result<bool, AllocError> {
     let name = ColumnName::new(CowSlice::Borrowed(b"ab"));
     Ok(name.into_owned(alloc)?.name_raw() == b"ab".as_slice())
@@ -787,12 +788,12 @@ fn owned_strings(rt: HostRuntime) -> Result<(), Fail> {
     Ok(())
 }
 
-/// Whether an array has the one element 1.
+/// Returns whether an array has the one element 1.
 fn has_one(array: &ComplexValue<'_, Small, Array>) -> bool {
     array.element_count() == 1 && matches!(array.elem_at(0), Ok(Some(Json::I16(1))))
 }
 
-/// Whether a container that owns its bytes has the one element 1.
+/// Returns whether a container that owns its bytes has the one element 1.
 fn container_is_owned(alloc: Global) -> Result<bool, Fault> {
     let array: ComplexValue<'_, Small, Array> = ParseBuf(b"\x01\0\x07\0\x05\x01\0").parse(())?;
     Ok(has_one(&ComplexValue::into_owned(array, alloc)?))
@@ -804,7 +805,7 @@ fn an_owned_container(rt: HostRuntime) -> Result<(), Fail> {
     Ok(())
 }
 
-/// Whether a tree has an equal copy.
+/// Returns whether a tree has an equal copy.
 fn has_tree_copy(alloc: Global, dom: &JsonDom) -> Result<bool, AllocError> {
     Ok(dom.clone(alloc)? == *dom)
 }
@@ -818,17 +819,17 @@ fn copies_of_trees(rt: HostRuntime) -> Result<(), Fail> {
     Ok(())
 }
 
-/// A copy of a diff that owns its bytes.
+/// Returns a copy of a diff that owns its bytes.
 fn owned_diff(alloc: Global, diff: &JsonDiff<'_>) -> Result<JsonDiff<'static>, AllocError> {
     diff.clone(alloc)?.into_owned(alloc)
 }
 
-/// Whether a copy of a diff that owns its bytes is equal to it.
+/// Returns whether a copy of a diff that owns its bytes is equal to it.
 fn has_diff_copy(alloc: Global, diff: &JsonDiff<'_>) -> Result<bool, Fault> {
     Ok(owned_diff(alloc, diff)? == *diff)
 }
 
-/// Whether the diff that the bytes are has an equal copy.
+/// Returns whether the diff that the bytes are has an equal copy.
 fn is_diff_copied(alloc: Global, bytes: &[u8]) -> Result<bool, Fault> {
     let diff: JsonDiff<'_> = ParseBuf(bytes).parse(())?;
     has_diff_copy(alloc, &diff)

@@ -66,7 +66,7 @@ fn timestamp2(mut bytes: &[u8], dec: u8) -> Result<(i32, i32), Fault> {
     my_timestamp_from_binary(&mut bytes, dec)
 }
 
-// What is read from a source that gives one byte a call, and the count of its failures.
+// Returns what is read from a source that gives one byte a call, and the count of its failures.
 fn dripped(bytes: &[u8], calls: u64) -> (Result<i64, Fault>, u64) {
     let mut source = Dripping {
         bytes,
@@ -310,7 +310,8 @@ fn is_error(answer: io::Result<usize>, kind: ErrorKind) -> bool {
     }
 }
 
-// An error keeps the limit of 3; then up to two bytes are taken a call, until the limit is reached.
+// Checks that an error keeps the limit of 3, and that then up to two bytes are taken a call, until
+// the limit is reached.
 #[test]
 fn a_limited_writer_answers_the_inner_one(rt: HostRuntime) {
     let mut halting = Halting { all: 1, most: 2 };

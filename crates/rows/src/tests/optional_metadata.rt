@@ -15,12 +15,12 @@ use std::test::Fail;
 
 type Item<'a> = Option<Result<OptionalMetadataField<'a>, Fault>>;
 
-/// The items of optional metadata, in a table of two columns, one of them numeric.
+/// Returns the items of optional metadata, in a table of two columns, one of them numeric.
 fn items(metadata: &[u8]) -> OptionalMetadataIter<'_> {
     OptionalMetadataIter::new(1, 2, metadata)
 }
 
-/// Whether an item is this fault.
+/// Returns whether an item is this fault.
 fn is_fault(item: &Item<'_>, fault: Fault) -> bool {
     match item {
         Some(Err(found)) => *found == fault,
@@ -28,7 +28,7 @@ fn is_fault(item: &Item<'_>, fault: Fault) -> bool {
     }
 }
 
-/// Whether an item is the field of the column name `a`.
+/// Returns whether an item is the field of the column name `a`.
 fn is_name_a(item: &Item<'_>) -> bool {
     match item {
         Some(Ok(OptionalMetadataField::ColumnName(list))) => list.as_bytes()
@@ -37,7 +37,7 @@ fn is_name_a(item: &Item<'_>) -> bool {
     }
 }
 
-/// Whether an item is the field of SET columns with this list.
+/// Returns whether an item is the field of SET columns with this list.
 fn is_set(item: &Item<'_>, bytes: &[u8]) -> bool {
     match item {
         Some(Ok(OptionalMetadataField::SetStrValue(list))) => list.as_bytes() == bytes,
@@ -45,7 +45,7 @@ fn is_set(item: &Item<'_>, bytes: &[u8]) -> bool {
     }
 }
 
-/// Whether the items are this fault, and then the column name `a` alone.
+/// Returns whether the items are this fault, and then the column name `a` alone.
 fn are_fault_and_name(metadata: &[u8], fault: Fault) -> bool {
     let mut items = items(metadata);
     is_fault(&items.next(), fault) && is_name_a(&items.next()) && items.next().is_none()
@@ -61,7 +61,7 @@ fn faults_and_names(rt: HostRuntime) {
     );
 }
 
-/// Whether the items are this fault alone.
+/// Returns whether the items are this fault alone.
 fn are_fault(metadata: &[u8], fault: Fault) -> bool {
     let mut items = items(metadata);
     is_fault(&items.next(), fault) && items.next().is_none()
@@ -106,7 +106,7 @@ fn cut_fields_and_lists(rt: HostRuntime) {
     );
 }
 
-/// Whether an item is the signs of these columns.
+/// Returns whether an item is the signs of these columns.
 fn is_signs(item: &Item<'_>, expected: [bool; 1]) -> bool {
     match item {
         Some(Ok(OptionalMetadataField::Signedness(bits))) => bits.iter().eq(expected),
@@ -114,7 +114,7 @@ fn is_signs(item: &Item<'_>, expected: [bool; 1]) -> bool {
     }
 }
 
-/// Whether an item is the visibility of these columns.
+/// Returns whether an item is the visibility of these columns.
 fn is_visibility(item: &Item<'_>, expected: [bool; 2]) -> bool {
     match item {
         Some(Ok(OptionalMetadataField::ColumnVisibility(bits))) => bits.iter().eq(expected),
@@ -135,12 +135,12 @@ fn bits_of_columns(rt: HostRuntime) {
 /// The table d.t of two columns, LONG and VARCHAR, and the sign of the first.
 const SIGNED: &[u8] = b"\x01\0\0\0\0\0\x01\0\x01d\0\x01t\0\x02\x03\x0f\x02\x0a\0\x02\x01\x01\x80";
 
-/// Whether the first field of a table is the sign of its numeric column.
+/// Returns whether the first field of a table is the sign of its numeric column.
 fn begins_with_sign(table: &TableMapEvent<'_>) -> bool {
     is_signs(&table.iter_optional_meta().next(), [true])
 }
 
-/// Whether the first field of a table map event is the sign of its numeric column.
+/// Returns whether the first field of a table map event is the sign of its numeric column.
 fn has_sign(bytes: &[u8]) -> Result<bool, Fault> {
     let table: TableMapEvent<'_> = ParseBuf(bytes).parse(8)?;
     Ok(begins_with_sign(&table))
@@ -187,7 +187,7 @@ fn lists_of_numbers(rt: HostRuntime) {
     );
 }
 
-/// Whether an item is the name `a`.
+/// Returns whether an item is the name `a`.
 fn is_a(item: &Option<Result<ColumnName<'_>, Fault>>) -> bool {
     match item {
         Some(Ok(name)) => name.name_raw() == b"a".as_slice(),
@@ -208,7 +208,7 @@ fn names_of_columns(rt: HostRuntime) {
     );
 }
 
-/// Whether an item is the values of one column, `a` and `b`.
+/// Returns whether an item is the values of one column, `a` and `b`.
 fn are_a_and_b(
     rt: &HostRuntime,
     item: &Option<Result<SetStrValues<'_>, Fault>>,
@@ -242,12 +242,13 @@ fn values_of_sets(rt: HostRuntime) -> Result<(), Fail> {
     Ok(())
 }
 
-/// What is extracted from optional metadata, in a table of three columns, with so many numeric ones.
+/// Returns what is extracted from optional metadata, in a table of three columns, `numeric` of them
+/// numeric.
 fn extract(numeric: usize, metadata: &[u8]) -> Result<OptionalMetaExtractor<'_>, Fault> {
     OptionalMetaExtractor::new(OptionalMetadataIter::new(numeric, 3, metadata))
 }
 
-/// Whether three columns have the character sets 45, 33, 45.
+/// Returns whether three columns have the character sets 45, 33, 45.
 fn has_three_charsets(metadata: &[u8]) -> Result<bool, Fault> {
     let mut charsets = extract(0, metadata)?.iter_charset();
     Ok(
@@ -339,7 +340,7 @@ fn fields_are_counted(rt: HostRuntime) -> Result<(), Fail> {
     Ok(())
 }
 
-/// Whether an item is the column of this type, sign and name, and no key column.
+/// Returns whether an item is the column of this type, sign and name, and no key column.
 fn is_column(
     item: &Option<Result<TableColumn<'_>, Fault>>,
     column_type: ColumnType,
@@ -362,8 +363,8 @@ fn is_column(
 const NAMED: &[u8] = b"\x01\0\0\0\0\0\x01\0\x01d\0\x01t\0\x02\x03\x0f\x02\x0a\0\x02\
     \x01\x01\x80\x04\x04\x01a\x01b";
 
-/// Whether the columns are `a`, an unsigned LONG, and `b`, a VARCHAR, in six steps: two fields, two
-/// names and two columns.
+/// Returns whether the columns are `a`, an unsigned LONG, and `b`, a VARCHAR, in six steps: two
+/// fields, two names and two columns.
 fn are_a_long_and_a_varchar(columns: &mut TableColumns<'_>) -> bool {
     is_column(&columns.next(), ColumnType::MYSQL_TYPE_LONG, true, b"a")
         && is_column(
@@ -376,7 +377,7 @@ fn are_a_long_and_a_varchar(columns: &mut TableColumns<'_>) -> bool {
         && columns.steps() == 6
 }
 
-/// Whether the columns of a table are these two.
+/// Returns whether the columns of a table are these two.
 fn has_a_long_and_a_varchar(table: &TableMapEvent<'_>) -> bool {
     let mut columns = TableColumns::new(table);
     columns.fault().is_none() && are_a_long_and_a_varchar(&mut columns)

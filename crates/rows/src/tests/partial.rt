@@ -19,7 +19,7 @@ fn diff(bytes: &[u8]) -> Result<JsonDiff<'_>, Fault> {
     ParseBuf(bytes).parse(())
 }
 
-/// Whether the bytes begin with a diff of this operation, path and value.
+/// Returns whether the bytes begin with a diff of this operation, path and value.
 fn is_diff(
     bytes: &[u8],
     operation: JsonDiffOperation,
@@ -34,7 +34,7 @@ fn is_diff(
     }
 }
 
-/// Whether the bytes are refused as a diff with this fault.
+/// Returns whether the bytes are refused as a diff with this fault.
 fn is_no_diff(bytes: &[u8], fault: Fault) -> bool {
     match diff(bytes) {
         Ok(_) => false,
@@ -74,7 +74,7 @@ fn cell<'a>(alloc: Global, partial: bool, bytes: &'a [u8]) -> Result<BinlogValue
     ParseBuf(bytes).parse(ctx)
 }
 
-/// Whether the cell is this document.
+/// Returns whether the cell is this document.
 fn is_cell(alloc: Global, bytes: &[u8], value: &Value<'_>) -> bool {
     match cell(alloc, false, bytes) {
         Ok(BinlogValue::Jsonb(found)) => found == *value,
@@ -88,7 +88,7 @@ const SHARED: &[u8] = &[
     2, 0, 0x0e, 0, 2, 0x0a, 0, 2, 0x0a, 0, 0, 0, 4, 0,
 ];
 
-/// Whether the cell is a document that has more values than its bytes allow.
+/// Returns whether the cell is a document that has more values than its bytes allow.
 fn has_too_many_values(alloc: Global, bytes: &[u8]) -> bool {
     match cell(alloc, false, bytes) {
         Ok(BinlogValue::Jsonb(value)) => matches!(value.parse(alloc), Err(Fault::TooManyValues)),
@@ -96,7 +96,7 @@ fn has_too_many_values(alloc: Global, bytes: &[u8]) -> bool {
     }
 }
 
-/// Whether the cell is partial and has no diffs.
+/// Returns whether the cell is partial and has no diffs.
 fn has_no_diffs(alloc: Global, bytes: &[u8]) -> bool {
     match cell(alloc, true, bytes) {
         Ok(BinlogValue::JsonDiff(diffs)) => diffs.is_empty(),
@@ -118,12 +118,12 @@ fn json_cells(rt: HostRuntime) {
     );
 }
 
-/// Whether the conversion to a plain value gives the number 5.
+/// Returns whether the conversion to a plain value gives the number 5.
 fn is_five(value: BinlogValue<'_>) -> bool {
     matches!(PlainValue::try_from(value), Ok(PlainValue::Int(5)))
 }
 
-/// Whether the conversion to a plain value is refused for a document.
+/// Returns whether the conversion to a plain value is refused for a document.
 fn is_document(value: BinlogValue<'_>) -> bool {
     matches!(
         PlainValue::try_from(value),
@@ -149,7 +149,7 @@ pub(super) const DIFF: &[u8] =
 
 const WHOLE: &[u8] = b"\x01\0\0\0\0\0\x01\0\x02\0\x02\0\x02\0\0\x03\0\0\0\x05\x2a\0";
 
-/// The row after the change of the only pair, if the row before it is empty.
+/// Returns the row after the change of the only pair; `None` where the row before it isn't empty.
 fn changed(alloc: Global, rows: &[u8]) -> Option<BinlogRow> {
     let partial = EventType::PARTIAL_UPDATE_ROWS_EVENT;
     let mut decoded = decode(alloc, TABLE, rows, partial, 10).ok()?;
@@ -160,7 +160,7 @@ fn changed(alloc: Global, rows: &[u8]) -> Option<BinlogRow> {
     }
 }
 
-/// Whether a diff is equal to the one that the bytes are.
+/// Returns whether a diff is equal to the one that the bytes are.
 fn equals(found: &JsonDiff<'_>, bytes: &[u8]) -> bool {
     match diff(bytes) {
         Ok(other) => *found == other,
@@ -168,7 +168,7 @@ fn equals(found: &JsonDiff<'_>, bytes: &[u8]) -> bool {
     }
 }
 
-/// Whether the row has one value, the diff that removes `$.a`.
+/// Returns whether the row has one value, the diff that removes `$.a`.
 fn is_removal(row: &BinlogRow) -> bool {
     match row.as_ref(0) {
         Some(BinlogValue::JsonDiff(diffs)) => match diffs.as_slice() {
@@ -179,7 +179,7 @@ fn is_removal(row: &BinlogRow) -> bool {
     }
 }
 
-/// Whether the row has one value, the number 42 as a JSON document.
+/// Returns whether the row has one value, the number 42 as a JSON document.
 fn is_42(row: &BinlogRow) -> bool {
     match row.as_ref(0) {
         Some(BinlogValue::Jsonb(value)) => row.len() == 1 && *value == Value::I16(42),
@@ -187,7 +187,7 @@ fn is_42(row: &BinlogRow) -> bool {
     }
 }
 
-/// Whether a copy of the row is equal to it.
+/// Returns whether a copy of the row is equal to it.
 fn is_copied(alloc: Global, row: &BinlogRow) -> bool {
     match row.clone(alloc) {
         Ok(copy) => copy == *row,
@@ -195,12 +195,12 @@ fn is_copied(alloc: Global, row: &BinlogRow) -> bool {
     }
 }
 
-/// Why the conversion to a row of plain values is refused.
+/// Returns why the conversion to a row of plain values is refused.
 fn refusal(alloc: Global, row: BinlogRow) -> Option<BinlogRowToRowError> {
     row.into_row(alloc).err()
 }
 
-/// Whether the conversion is refused at place 0 for the diffs.
+/// Returns whether the conversion is refused at index 0 for the diffs.
 fn is_of_diffs(refusal: &Option<BinlogRowToRowError>) -> bool {
     matches!(
         refusal,
@@ -208,7 +208,7 @@ fn is_of_diffs(refusal: &Option<BinlogRowToRowError>) -> bool {
     )
 }
 
-/// Whether the conversion is refused at place 0 for the document.
+/// Returns whether the conversion is refused at index 0 for the document.
 fn is_of_document(refusal: &Option<BinlogRowToRowError>) -> bool {
     matches!(
         refusal,
@@ -216,7 +216,7 @@ fn is_of_document(refusal: &Option<BinlogRowToRowError>) -> bool {
     )
 }
 
-/// Whether the only row after a change is the diff that removes `$.a`.
+/// Returns whether the only row after a change is the diff that removes `$.a`.
 fn removes(alloc: Global, rows: &[u8]) -> bool {
     match changed(alloc, rows) {
         Some(row) => {
@@ -226,7 +226,7 @@ fn removes(alloc: Global, rows: &[u8]) -> bool {
     }
 }
 
-/// Whether the only row after a change is the number 42 as a JSON document.
+/// Returns whether the only row after a change is the number 42 as a JSON document.
 fn replaces(alloc: Global, rows: &[u8]) -> bool {
     match changed(alloc, rows) {
         Some(row) => {

@@ -20,8 +20,8 @@ const TABLE: &str = "010000000000010001640001740002030F020A0002";
 /// A table of two JSON columns.
 const DOCUMENTS: &str = "010000000000010001640001740002F5F502040403";
 
-/// Whether the program, on these words, ends with the status and writes the text: to the standard
-/// error if the status is 2.
+/// Returns whether the program, on these words, ends with the status and writes the text: to the
+/// standard error if the status is 2.
 fn prints(alloc: Global, all: &[&str], status: u8, text: &str) -> Result<bool, AllocError> {
     let mut words = Vec::new(alloc);
     for word in all {
@@ -224,8 +224,8 @@ const EVENTS: [(&str, &str, &str, u8, &str); 54] = [
         0,
         "{a=7} -> {b=NULL}\n",
     ),
-    // One name for two columns; key columns without and with a prefix. The fault of the keys belongs
-    // to no column.
+    // One name for two columns; key columns without and with a prefix. The fault of the keys
+    // belongs to no column.
     (
         "1E",
         "010000000000010001640001740002030F020A000204020161",
@@ -437,7 +437,7 @@ fn events(rt: HostRuntime) -> Result<(), Fail> {
 /// The digits of two inserted rows.
 const INSERTED: &[u8] = b"010000000000010002000203002A00000002616202FFFFFFFF";
 
-/// The status for the first `len` bytes of `INSERTED`, and what is printed.
+/// Returns the status for the first `len` bytes of `INSERTED`, and what is printed.
 fn printed(len: usize) -> (u8, &'static str) {
     match len {
         12 => (0, ""),
@@ -683,7 +683,7 @@ fn real_inserts(rt: HostRuntime) -> Result<(), Fail> {
     Ok(())
 }
 
-/// A text of 70 bytes, which are converted to digits in three parts.
+/// Prints a text of 70 bytes, which are converted to digits in three parts.
 #[test]
 fn long_bytes(rt: HostRuntime) -> Result<(), Fail> {
     let mut rows = String::from_str(rt.alloc(), "010000000000010002000202FE46")?;
@@ -775,7 +775,7 @@ impl Write for Closed {
     }
 }
 
-/// The status where the output fails.
+/// Returns the status of a run whose output fails.
 fn status_of_closed(alloc: Global) -> Result<u8, AllocError> {
     let rows = "010000000000010002000203002A00000002616202FFFFFFFF";
     let mut words = Vec::new(alloc);
@@ -791,7 +791,8 @@ fn closed_output(rt: HostRuntime) -> Result<(), Fail> {
     Ok(())
 }
 
-/// The numbers in the first column of the rows that a WRITE_ROWS_EVENT inserts; none for a value that is no number.
+/// Returns the numbers in the first column of the rows that a WRITE_ROWS_EVENT inserts; `None` for
+/// a value that is no number.
 fn first_numbers(alloc: Global, table: &[u8], rows: &[u8]) -> Result<Vec<Option<i64>>, Fault> {
     let ctx = RowsEventCtx {
         event_type: EventType::WRITE_ROWS_EVENT,
@@ -816,7 +817,7 @@ fn first_numbers(alloc: Global, table: &[u8], rows: &[u8]) -> Result<Vec<Option<
     Ok(numbers)
 }
 
-/// The rows of the README's first example, by the library.
+/// Reads by the library the two stored events of README.md, which are those of the file `args`.
 #[test]
 fn example(rt: HostRuntime) -> Result<(), Fail> {
     let table = [

@@ -1,5 +1,5 @@
-//! Tests of readers and writers that fail at one of their calls, of those that take one byte a call,
-//! and of readers that end early.
+//! Tests of readers and writers that fail at one of their calls, of those that take one byte a
+//! call, and of readers that end early.
 
 use super::all;
 use binlog_base::below::{Counted, Source};
@@ -12,7 +12,7 @@ use std::alloc::Global;
 use std::io::{self, ErrorKind, Read, Write};
 use std::test::Fail;
 
-/// Gives one byte a call until its bytes end. After so many calls it fails.
+/// A reader that gives one byte a call until its bytes end, and fails after `calls` calls.
 #[derive(Drop)]
 struct Dripping<'a> {
     bytes: &'a [u8],
@@ -34,7 +34,7 @@ impl Read for Dripping<'_> {
     }
 }
 
-/// Takes one byte a call. After so many calls it fails.
+/// A writer that takes one byte a call, and fails after `calls` calls.
 #[derive(Drop)]
 struct Filling {
     calls: usize,
@@ -73,7 +73,7 @@ const CALLS: [(Call, &[u8]); 5] = [
     (Call::CountedDecimal, &[4, 2, 0x7f, 0xfe]),
 ];
 
-/// The text of what a call answers.
+/// Returns the text of what a call answers.
 fn answer<S: Source>(alloc: Global, call: Call, source: &mut S) -> Result<String, Fault> {
     Ok(match call {
         Call::Time => format!(in alloc; "{}", my_time_packed_from_binary(source, 3)?)?,
@@ -86,8 +86,8 @@ fn answer<S: Source>(alloc: Global, call: Call, source: &mut S) -> Result<String
     })
 }
 
-/// Whether the call answers this fault, where the reader has these bytes and fails after so many
-/// calls, and whether the reader then failed as often as this.
+/// Returns whether the call answers this fault, and whether the reader then failed `failures`
+/// times. The reader has these bytes and fails after a number of calls.
 fn refuses(alloc: Global, call: Call, source: Dripping<'_>, fault: Fault, failures: u64) -> bool {
     let mut source = Counted::new(source);
     match answer(alloc, call, &mut source) {
@@ -96,7 +96,7 @@ fn refuses(alloc: Global, call: Call, source: Dripping<'_>, fault: Fault, failur
     }
 }
 
-/// Whether the call answers the same for a reader that gives one byte a call.
+/// Returns whether the call answers the same for a reader that gives one byte a call.
 fn drips(alloc: Global, call: Call, bytes: &[u8]) -> Result<bool, Fault> {
     let mut slice = bytes;
     let expected = answer(alloc, call, &mut slice)?;

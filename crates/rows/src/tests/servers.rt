@@ -38,7 +38,7 @@ fn read(bytes: &[u8]) -> Result<TableMapEvent<'_>, Fault> {
     ParseBuf(bytes).parse(8)
 }
 
-/// Whether the columns of a table have these signs and character sets.
+/// Returns whether the columns of a table have these signs and character sets.
 fn are_columns(table: &TableMapEvent<'_>, expected: &[(bool, u16)]) -> bool {
     let mut columns = TableColumns::new(table);
     for (unsigned, charset) in expected {
@@ -50,13 +50,13 @@ fn are_columns(table: &TableMapEvent<'_>, expected: &[(bool, u16)]) -> bool {
     columns.next().is_none()
 }
 
-/// Whether the columns are these where the table is read as the server's.
+/// Returns whether the columns are these if the table is read as the server's.
 fn are_columns_of(bytes: &[u8], server: Server, expected: &[(bool, u16)]) -> Result<bool, Fault> {
     let table = read(bytes)?.with_server(server);
     Ok(table.server() == server && are_columns(&table, expected))
 }
 
-/// Whether the first column of a row has these flags, and the second this value.
+/// Returns whether the first column of a row has these flags, and the second this value.
 fn is_row(row: &BinlogRow, flags: ColumnFlags, number: &Value) -> bool {
     let has_flags = match row.columns_ref().first() {
         Some(column) => column.flags() == flags,
@@ -68,7 +68,8 @@ fn is_row(row: &BinlogRow, flags: ColumnFlags, number: &Value) -> bool {
     }
 }
 
-/// Whether the row of a YEAR and an INT is so where the events are read as the server's.
+/// Returns whether the row of a YEAR and an INT has these flags and this value if the events are
+/// read as the server's.
 fn is_row_of(
     alloc: Global,
     server: Server,

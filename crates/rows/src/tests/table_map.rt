@@ -10,7 +10,7 @@ fn read(bytes: &[u8], post_header_len: u8) -> Result<TableMapEvent<'_>, Fault> {
     ParseBuf(bytes).parse(post_header_len)
 }
 
-/// Whether the bytes are refused by this fault.
+/// Returns whether the bytes are refused by this fault.
 fn is_refused(bytes: &[u8], fault: Fault) -> bool {
     match read(bytes, 8) {
         Ok(_) => false,
@@ -18,34 +18,35 @@ fn is_refused(bytes: &[u8], fault: Fault) -> bool {
     }
 }
 
-/// A column by its place, with its type and its metadata.
+/// A column by its index, with its type and its metadata.
 type Column<'a> = (
     usize,
     Result<Option<ColumnType>, BadColumnType>,
     Option<&'a [u8]>,
 );
 
-/// Whether the table has this column.
+/// Returns whether the table has this column.
 fn is_column(table: &TableMapEvent<'_>, column: Column<'_>) -> bool {
     let (index, column_type, metadata) = column;
     table.get_column_type(index) == column_type && table.get_column_metadata(index) == metadata
 }
 
-/// Whether the table has this id and these names.
+/// Returns whether the table has this id and these names.
 fn is_table(table: &TableMapEvent<'_>, id: u64, database: &[u8], name: &[u8]) -> bool {
     table.table_id() == id
         && table.database_name_raw() == database
         && table.table_name_raw() == name
 }
 
-/// Whether the table has this many columns, JSON columns among them, and no optional metadata.
+/// Returns whether the table has this many columns, JSON columns among them, and no optional
+/// metadata.
 fn has_counts(table: &TableMapEvent<'_>, columns: u64, json_columns: usize) -> bool {
     table.columns_count() == columns
         && table.json_column_count() == json_columns
         && table.optional_metadata_raw().is_empty()
 }
 
-/// Whether these are the columns' null bits: set where a column may be NULL.
+/// Returns whether these are the columns' null bits: set if a column may be NULL.
 fn has_null_bits(table: &TableMapEvent<'_>, bits: &[bool]) -> bool {
     let null_bits = table.null_bitmask();
     null_bits.len() == bits.len()
@@ -55,7 +56,7 @@ fn has_null_bits(table: &TableMapEvent<'_>, bits: &[bool]) -> bool {
             .all(|(i, bit)| null_bits.get(i) == Some(*bit))
 }
 
-/// Whether the bytes, with this post-header length, are read as this event.
+/// Returns whether the bytes, with this post-header length, are read as this event.
 fn is_read_as<'a>(bytes: &'a [u8], post_header_len: u8, table: &TableMapEvent<'a>) -> bool {
     match read(bytes, post_header_len) {
         Ok(other) => other == *table,
@@ -63,13 +64,13 @@ fn is_read_as<'a>(bytes: &'a [u8], post_header_len: u8, table: &TableMapEvent<'a
     }
 }
 
-/// Whether the raw types are LONG, and none past the last column.
+/// Returns whether the raw types are LONG, and none past the last column.
 fn has_raw_types(table: &TableMapEvent<'_>) -> bool {
     table.get_raw_column_type(0) == Ok(Some(ColumnType::MYSQL_TYPE_LONG))
         && table.get_raw_column_type(2) == Ok(None)
 }
 
-/// Whether these are the columns LONG and VARCHAR, and none after them.
+/// Returns whether these are the columns LONG and VARCHAR, and none after them.
 fn has_two_columns(table: &TableMapEvent<'_>) -> bool {
     let varchar = Ok(Some(ColumnType::MYSQL_TYPE_VARCHAR));
     is_column(table, (0, Ok(Some(ColumnType::MYSQL_TYPE_LONG)), Some(&[])))
@@ -149,7 +150,7 @@ const NINE_COLUMNS: &[u8] =
 /// STRING twice. The first metadata byte is 0, and the second column has no chunk.
 const TWO_STRINGS: &[u8] = b"\x01\0\0\0\0\0\x01\0\x01d\0\x01t\0\x02\xfe\xfe\x02\0\x05\0";
 
-/// Whether the first five of the nine columns have their types.
+/// Returns whether the first five of the nine columns have their types.
 fn has_strings_and_date(table: &TableMapEvent<'_>) -> bool {
     let string = Ok(Some(ColumnType::MYSQL_TYPE_STRING));
     let date = Ok(Some(ColumnType::MYSQL_TYPE_NEWDATE));
@@ -165,7 +166,7 @@ fn has_strings_and_date(table: &TableMapEvent<'_>) -> bool {
         && is_column(table, (4, date, Some(&[])))
 }
 
-/// Whether the last four of the nine columns have their types.
+/// Returns whether the last four of the nine columns have their types.
 fn has_arrays_and_unknown(table: &TableMapEvent<'_>) -> bool {
     let array = Ok(Some(ColumnType::MYSQL_TYPE_TYPED_ARRAY));
     let unknown = Err(BadColumnType::Unknown(UnknownColumnType(244)));
@@ -180,8 +181,8 @@ fn faults_of_types(rt: HostRuntime) {
     assert!(rt; Fault::from(BadColumnType::Unexpected(49)) == Fault::UnexpectedColumnType(49));
 }
 
-/// Whether a walk over the chunks gives each column's own chunk and real type, and none after the
-/// last.
+/// Returns whether a walk over the chunks gives each column's own chunk and real type, and none
+/// after the last.
 fn walks_alike(table: &TableMapEvent<'_>, columns: usize) -> bool {
     let mut chunks = table.column_chunks();
     for index in 0..columns {
@@ -195,13 +196,13 @@ fn walks_alike(table: &TableMapEvent<'_>, columns: usize) -> bool {
     chunks.next_chunk().is_none()
 }
 
-/// Whether both columns are STRING, the second without a chunk.
+/// Returns whether both columns are STRING, the second without a chunk.
 fn has_two_strings(table: &TableMapEvent<'_>) -> bool {
     let string = Ok(Some(ColumnType::MYSQL_TYPE_STRING));
     is_column(table, (0, string, Some(&[0, 5]))) && is_column(table, (1, string, None))
 }
 
-/// Whether the bytes are the nine columns.
+/// Returns whether the bytes are the nine columns.
 fn are_nine(bytes: &[u8]) -> bool {
     match read(bytes, 8) {
         Ok(table) => {
@@ -211,7 +212,7 @@ fn are_nine(bytes: &[u8]) -> bool {
     }
 }
 
-/// Whether the bytes are the two STRING columns.
+/// Returns whether the bytes are the two STRING columns.
 fn are_two(bytes: &[u8]) -> bool {
     match read(bytes, 8) {
         Ok(table) => has_two_strings(&table) && walks_alike(&table, 2),

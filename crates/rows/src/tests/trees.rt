@@ -14,7 +14,7 @@ fn json(bytes: &[u8]) -> Result<Value<'_>, Fault> {
     ParseBuf(bytes).parse(())
 }
 
-/// Whether `parse_counted` gives this tree, or this fault, and reads so many positions.
+/// Returns whether `parse_counted` gives this tree, or this fault, and reads `count` positions.
 fn is_parsed(alloc: Global, bytes: &[u8], text: &str, count: u64) -> Result<bool, Fault> {
     let (dom, read) = json(bytes)?.parse_counted(alloc);
     let shown = format!(in alloc; "{dom:?}")?;
@@ -203,12 +203,12 @@ fn write_scalar(dom: &JsonDom, text: &mut String) -> Result<(), Fail> {
     Ok(())
 }
 
-/// The tree of a document.
+/// Returns the tree of a document.
 fn tree(alloc: Global, bytes: &[u8]) -> Result<JsonDom, Fault> {
     json(bytes)?.parse(alloc)
 }
 
-/// Whether a document is a scalar with this text.
+/// Returns whether a document is a scalar with this text.
 fn has_scalar_text(alloc: Global, bytes: &[u8], expected: &str) -> Result<bool, Fail> {
     let dom = tree(alloc, bytes)?;
     let mut text = String::new(alloc);
@@ -245,7 +245,7 @@ fn opaque_values_in_trees(rt: HostRuntime) -> Result<(), Fail> {
     Ok(())
 }
 
-/// Whether this is the text that `Display` writes for an opaque value.
+/// Returns whether this is the text that `Display` writes for an opaque value.
 fn displays(alloc: Global, bytes: &[u8], text: &str) -> Result<bool, Fault> {
     match &tree(alloc, bytes)? {
         JsonDom::Scalar(JsonScalar::Opaque(value)) => Ok(has_text(value, text)),
@@ -259,8 +259,8 @@ fn displayed_opaque_values(rt: HostRuntime) -> Result<(), Fail> {
     Ok(())
 }
 
-/// Nested small arrays, so many, of this many entries that all point at the next one; the innermost
-/// is empty.
+/// Returns `depth` nested small arrays. Each has `entries` entries, which all point at the next
+/// array; the innermost is empty.
 pub(super) fn nested(alloc: Global, depth: u16, entries: u8) -> Result<Vec<u8>, AllocError>
     requires some { 1 ≤ depth }
     requires depth { depth ≤ 200 }
@@ -280,8 +280,8 @@ pub(super) fn nested(alloc: Global, depth: u16, entries: u8) -> Result<Vec<u8>, 
     Ok(bytes)
 }
 
-/// Whether `parse_counted` of nested arrays gives this fault, and this count, or a tree of so many
-/// values where there is no fault.
+/// Returns whether `parse_counted` of nested arrays gives this fault, or a tree if `fault` is
+/// `None`, and reads `count` positions.
 fn nest(
     alloc: Global,
     depth: u16,
@@ -311,7 +311,7 @@ fn nested_arrays(rt: HostRuntime) -> Result<(), Fail> {
     Ok(())
 }
 
-/// A small array of so many 16-bit integers, all of them 1.
+/// Returns a small array of `count` 16-bit integers, all of them 1.
 fn ones(alloc: Global, count: u16) -> Result<Vec<u8>, AllocError>
     requires { count ≤ 21843 }
 {
@@ -322,7 +322,7 @@ fn ones(alloc: Global, count: u16) -> Result<Vec<u8>, AllocError>
     Ok(bytes)
 }
 
-/// Appends the key entries of a small object of so many keys of two bytes each.
+/// Appends the key entries of a small object of `keys` keys of two bytes each.
 fn push_key_entries(bytes: &mut Vec<u8>, keys: u16) -> Result<(), AllocError>
     requires { keys ≤ 1000 }
 {
@@ -333,7 +333,7 @@ fn push_key_entries(bytes: &mut Vec<u8>, keys: u16) -> Result<(), AllocError>
     Ok(())
 }
 
-/// Appends so many keys.
+/// Appends `keys` keys of two bytes each.
 fn push_keys(bytes: &mut Vec<u8>, keys: u16) -> Result<(), AllocError>
     requires { keys ≤ 1000 }
 {
@@ -343,7 +343,7 @@ fn push_keys(bytes: &mut Vec<u8>, keys: u16) -> Result<(), AllocError>
     Ok(())
 }
 
-/// Appends so many entries of the number 1.
+/// Appends `count` entries of the number 1.
 fn push_ones(bytes: &mut Vec<u8>, count: u16) -> Result<(), AllocError> {
     for _ in 0..count {
         bytes.extend_from_slice(&[5, 1, 0])?;
@@ -351,7 +351,7 @@ fn push_ones(bytes: &mut Vec<u8>, count: u16) -> Result<(), AllocError> {
     Ok(())
 }
 
-/// A large array of so many small objects, of so many keys each.
+/// Returns a large array of `count` small objects, of `keys` keys each.
 fn objects(alloc: Global, count: u32, keys: u16) -> Result<Vec<u8>, AllocError>
     requires count { count ≤ 1000 }
     requires keys { keys ≤ 1000 }
@@ -375,18 +375,18 @@ fn objects(alloc: Global, count: u32, keys: u16) -> Result<Vec<u8>, AllocError>
     Ok(bytes)
 }
 
-/// Whether `parse` gives a tree, of so many values. scripts/instructions.sh counts the call.
+/// Returns whether `parse` gives a tree of `count` values. scripts/instructions.sh counts the call.
 fn is_tree_of(alloc: Global, bytes: &[u8], count: u64) -> Result<bool, Fail> {
     let (_, read) = json(bytes)?.parse_counted(alloc);
     Ok(json(bytes)?.parse(alloc).is_ok() && read == count)
 }
 
-/// Whether a tree is the number 1.
+/// Returns whether a tree is the number 1.
 fn is_one(dom: &JsonDom) -> bool {
     matches!(dom, JsonDom::Scalar(JsonScalar::Number(JsonNumber::Int(1))))
 }
 
-/// Whether the bytes are an array of so many items, each of them the number 1.
+/// Returns whether the bytes are an array of `count` items, each of them the number 1.
 fn are_ones(alloc: Global, bytes: &[u8], count: usize) -> Result<bool, Fault> {
     match &tree(alloc, bytes)? {
         JsonDom::Container(JsonContainer::Array(items)) => {
@@ -422,7 +422,7 @@ fn ten_thousand_keys_by_a_thousand(rt: HostRuntime) -> Result<(), Fail> {
     Ok(())
 }
 
-/// Whether a copy of a tree is equal to it.
+/// Returns whether a copy of a tree is equal to it.
 fn is_copied(alloc: Global, dom: &JsonDom) -> bool {
     match dom.clone(alloc) {
         Ok(copy) => copy == *dom,
@@ -430,7 +430,7 @@ fn is_copied(alloc: Global, dom: &JsonDom) -> bool {
     }
 }
 
-/// The tree of so many nested arrays.
+/// Returns the tree of `depth` nested arrays.
 fn deep(alloc: Global, depth: u16) -> Result<JsonDom, Fault>
     requires some { 1 ≤ depth }
     requires depth { depth ≤ 100 }
@@ -438,7 +438,7 @@ fn deep(alloc: Global, depth: u16) -> Result<JsonDom, Fault>
     tree(alloc, &nested(alloc, depth, 1)?)
 }
 
-/// Whether the `Debug` text of a tree has this length.
+/// Returns whether the `Debug` text of a tree has this length.
 fn has_length(alloc: Global, dom: &JsonDom, length: usize) -> bool {
     match format!(in alloc; "{dom:?}") {
         Ok(text) => text.len() == length,
@@ -446,8 +446,8 @@ fn has_length(alloc: Global, dom: &JsonDom, length: usize) -> bool {
     }
 }
 
-/// Whether a copy of the deepest tree is equal to it and to no other, and its `Debug` text is
-/// `Container(Array([]))` of 20 bytes, a hundred times.
+/// Returns whether a copy of the deepest tree is equal to it and to no other, and its `Debug` text
+/// is `Container(Array([]))` of 20 bytes, a hundred times.
 fn is_deepest(alloc: Global, dom: &JsonDom, other: &JsonDom) -> bool {
     is_copied(alloc, dom) && dom != other && has_length(alloc, dom, 2000)
 }

@@ -103,8 +103,8 @@ impl Column {
         }
     }
 
-    /// Returns the column with this name of its schema. Fails where memory for a copy of the bytes
-    /// is refused.
+    /// Returns the column with this name of its schema. Fails if memory for a copy of the bytes is
+    /// refused.
     pub fn with_schema(mut self, alloc: Global, schema: &[u8]) -> Result<Self, AllocError>
         ensures { IfOk result (λ c. c ≡ record self { schema = schema.now }) }
     {
@@ -112,8 +112,8 @@ impl Column {
         Ok(self)
     }
 
-    /// Returns the column with this name of its table, which may be an alias. Fails where memory
-    /// for a copy of the bytes is refused.
+    /// Returns the column with this name of its table, which may be an alias. Fails if memory for a
+    /// copy of the bytes is refused.
     pub fn with_table(mut self, alloc: Global, table: &[u8]) -> Result<Self, AllocError>
         ensures { IfOk result (λ c. c ≡ record self { table = table.now }) }
     {
@@ -121,8 +121,8 @@ impl Column {
         Ok(self)
     }
 
-    /// Returns the column with this name of its original table. Fails where memory for a copy of
-    /// the bytes is refused.
+    /// Returns the column with this name of its original table. Fails if memory for a copy of the
+    /// bytes is refused.
     pub fn with_org_table(mut self, alloc: Global, org_table: &[u8]) -> Result<Self, AllocError>
         ensures { IfOk result (λ c. c ≡ record self { org_table = org_table.now }) }
     {
@@ -130,7 +130,7 @@ impl Column {
         Ok(self)
     }
 
-    /// Returns the column with this name. Fails where memory for a copy of the bytes is refused.
+    /// Returns the column with this name. Fails if memory for a copy of the bytes is refused.
     pub fn with_name(mut self, alloc: Global, name: &[u8]) -> Result<Self, AllocError>
         ensures { IfOk result (λ c. c ≡ record self { name = name.now }) }
     {

@@ -54,8 +54,9 @@ impl Model for ColumnList {
 }
 
 impl ColumnList {
-    /// Begins a list of about so many columns, of a table with this name in a schema with this name.
-    /// Fails where memory is refused.
+    /// Begins the list of the columns of a table, by the names of its schema and of the table.
+    /// `count` says how many columns are expected; memory for them is reserved. Fails if memory is
+    /// refused.
     #[tactic(auto, using(crate::proofs::Cuts::cut_front, crate::proofs::Cuts::cut_last))]
     pub fn new(alloc: Global, schema: &[u8], table: &[u8], count: usize) -> Result<Self, AllocError>
         ensures { IfOk result
@@ -80,7 +81,7 @@ impl ColumnList {
     }
 
     /// Adds a column of this type, name, flags and character set. The name of its original table is
-    /// the table's. Fails where memory is refused; what the list holds then is unspecified.
+    /// the table's. Fails if memory is refused; what the list holds then is unspecified.
     pub fn add(
         &mut self,
         column_type: ColumnType,
@@ -113,7 +114,7 @@ impl ColumnList {
         Ok(())
     }
 
-    /// Makes the columns, which share their names. Fails where memory is refused.
+    /// Makes the columns, which share their names. Fails if memory is refused.
     pub fn into_columns(self, alloc: Global) -> Result<RcSlice<Column>, AllocError>
         ensures { IfOk result (λ columns. rc_slice_items columns ≡ self.columns) }
     {

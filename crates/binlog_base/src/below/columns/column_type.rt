@@ -141,8 +141,8 @@ impl Constant for ColumnType {
 }
 
 impl ColumnType {
-    /// Returns whether the type is numeric: TINY, SHORT, INT24, LONG, LONGLONG, FLOAT, DOUBLE or
-    /// NEWDECIMAL.
+    /// Returns whether the type is numeric to MySQL: TINY, SHORT, INT24, LONG, LONGLONG, FLOAT,
+    /// DOUBLE or NEWDECIMAL.
     pub fn is_numeric_type(&self) -> bool
         ensures { result ≡ is_numeric self.now }
     {
@@ -159,7 +159,7 @@ impl ColumnType {
         )
     }
 
-    /// Returns whether the type has a character set: STRING, VAR_STRING, VARCHAR or BLOB.
+    /// Returns whether the type is a character type to MySQL: STRING, VAR_STRING, VARCHAR or BLOB.
     pub fn is_character_type(&self) -> bool
         ensures { result ≡ is_character self.now }
     {

@@ -50,7 +50,7 @@ impl Row {
         self.values.len()
     }
 
-    /// Returns whether `len` is 0.
+    /// Returns whether the row has no values.
     pub fn is_empty(&self) -> bool
         ensures { IsTrue result ↔ (length self.now.values ≡ 0) }
     {
@@ -64,8 +64,8 @@ impl Row {
         self.columns.as_slice()
     }
 
-    /// Returns the value at place `index`, counted from 0; `None` where `index` is `len` or above,
-    /// or where the value was taken out.
+    /// Returns the value at `index`, counted from 0; `None` where `index` is `len` or above, or
+    /// where the value was taken out.
     pub fn as_ref(&self, index: usize) -> Option<&Value>
         ensures { option_map (λ v. plain_of v.now) result ≡ value_at self.now.values index }
     {

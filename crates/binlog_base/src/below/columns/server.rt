@@ -1,4 +1,5 @@
-//! The servers that write binary logs, and the groups of column types by which each numbers columns.
+//! The servers that write binary logs, and the groups of column types by which each numbers
+//! columns.
 
 ghost use Rattle.std.specs.Prelude.{◌≡◌};
 ghost use Rattle.binlog_base.specs.Servers.{numeric_group, character_group, enum_or_set_group};

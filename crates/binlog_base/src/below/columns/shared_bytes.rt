@@ -34,7 +34,7 @@ impl Model for SharedBytes {
 }
 
 impl SharedBytes {
-    /// No bytes, which takes no memory.
+    /// Returns no bytes. This takes no memory.
     pub fn none() -> Self
         ensures { result ≡ [] }
     {
@@ -45,7 +45,7 @@ impl SharedBytes {
         }
     }
 
-    /// A copy of these bytes, as a text of its own. Fails where memory is refused.
+    /// Copies the bytes into a text of their own. Fails if memory is refused.
     #[tactic(auto, using(crate::proofs::Cuts::cut_all))]
     pub fn copy(alloc: Global, bytes: &[u8]) -> Result<Self, AllocError>
         ensures { IfOk result (λ s. s ≡ bytes.now) }
@@ -59,8 +59,9 @@ impl SharedBytes {
         })
     }
 
-    /// The bytes of a text from `start` up to `end`, shared with it. Fails where the text is shared
-    /// too often.
+    /// Returns the bytes of a text from index `start` up to but without index `end`, shared with
+    /// the text. `start` must be at most `end`, and `end` at most the length of the text. Fails if
+    /// the counter of owners would overflow.
     pub fn part(text: &RcSlice<u8>, start: usize, end: usize) -> Result<Self, AllocError>
         requires order { start ≤ end }
         requires inside { end ≤ length (rc_slice_items text.now) }
@@ -73,7 +74,7 @@ impl SharedBytes {
         })
     }
 
-    /// The same bytes, shared with these. Fails where they are shared too often.
+    /// Returns the same bytes, shared with these. Fails if the counter of owners would overflow.
     pub fn share(&self) -> Result<Self, AllocError>
         ensures { IfOk result (λ s. s ≡ self.now) }
     {

@@ -26,7 +26,7 @@ pub trait OfWidth {
         ensures most { result ≤ 8 };
 
     /// Reads a value at the start of the bytes, and takes its bytes. Fails with the fault of the
-    /// format where no prefix of the bytes spells a value.
+    /// format if no prefix of the bytes spells a value.
     fn deserialize(ctx: Self::Ctx, buf: &mut ParseBuf<'_>) -> Result<Self::Primitive, Fault>
         ensures { Parses (format ctx) result buf.old.0.now buf.new.0.now };
 
@@ -35,8 +35,8 @@ pub trait OfWidth {
 
 /// Takes all bytes of a value from a source, and then reads the value from them.
 ///
-/// Fails with `UnexpectedEof` where the source ends before the value does, with `Reader` where the
-/// source failed, and with the fault of the format where the bytes spell no value.
+/// Fails with `UnexpectedEof` if the source ends before the value does, with `Reader` if the source
+/// failed, and with the fault of the format if the bytes spell no value.
 pub fn read_of_width<S: Source, T: OfWidth>(
     source: &mut S,
     ctx: T::Ctx,

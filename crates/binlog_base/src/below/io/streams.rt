@@ -32,7 +32,7 @@ pub trait Source {
     /// Writes bytes to the start of the slice and returns how many. A count of 0 for a slice that
     /// isn't empty means that no bytes are left.
     ///
-    /// Fails where the source failed, which adds one to its count of failures.
+    /// Fails if the source failed, which adds one to its count of failures.
     fn read_some(&mut self, buf: &mut [u8]) -> Result<usize, Failed>
         ensures bound { ReadsAtMost result buf.new }
         ensures bytes { ReadConsumes (remaining self.old) (remaining self.new) result buf.new }
@@ -47,10 +47,10 @@ pub trait Sink {
     /// The bytes that it holds, where they are known.
     ghost contents: { Self → Option (List ℕ) } = { λ _. None };
 
-    /// Takes bytes from the start of the slice and returns how many: at least one where the slice
+    /// Takes bytes from the start of the slice and returns how many: at least one if the slice
     /// isn't empty.
     ///
-    /// Fails where the sink failed, which adds one to its count of failures.
+    /// Fails if the sink failed, which adds one to its count of failures.
     fn write_some(&mut self, buf: &[u8]) -> Result<usize, Failed>
         ensures bound { WritesAtMost result buf.now }
         ensures some { IfOk result (λ n. 0 < length buf.now → 0 < n) }

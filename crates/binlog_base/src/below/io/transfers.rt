@@ -8,8 +8,8 @@ ghost use Rattle.binlog_base.specs.Failures.{CountsFailure, IsShort};
 use super::streams::{Sink, Source};
 use crate::fault::Fault;
 
-/// Fills the slice with bytes from the source. Fails with `UnexpectedEof` where the source ends
-/// before the slice is full, and with `Reader` where the source failed.
+/// Fills the slice with bytes from the source. Fails with `UnexpectedEof` if the source ends before
+/// the slice is full, and with `Reader` if the source failed.
 pub fn read_exact<S: Source>(source: &mut S, buf: &mut [u8]) -> Result<(), Fault>
     ensures bytes { OnOk result (Consumes (S.remaining source.old) (S.remaining source.new) buf.new) }
     ensures faults { IfErr result (λ e. e ≢ Reader → (e ≡ UnexpectedEof) × IsShort (S.remaining source.old)
@@ -27,7 +27,7 @@ pub fn read_exact<S: Source>(source: &mut S, buf: &mut [u8]) -> Result<(), Fault
     Ok(())
 }
 
-/// Writes the whole slice to the sink. Fails with `Reader` where the sink failed.
+/// Writes the whole slice to the sink. Fails with `Reader` if the sink failed.
 pub fn write_all<S: Sink>(sink: &mut S, buf: &[u8]) -> Result<(), Fault>
     ensures bytes { OnOk result (Appends (S.contents sink.old) (S.contents sink.new) buf.now) }
     ensures faults { IfErr result (λ e. e ≡ Reader) }

@@ -50,14 +50,14 @@ pub trait BytesRepr {
 
     /// Reads a string at the start of the bytes, and takes its bytes.
     ///
-    /// Fails with `UnexpectedEof` where the bytes end before the string does, or with the fault of
-    /// a length that can't be read. After a fault, the bytes that are left are unspecified.
+    /// Fails with `UnexpectedEof` if the bytes end before the string does, or with the fault of a
+    /// length that can't be read. After a fault, the bytes that are left are unspecified.
     fn deserialize<'de>(ctx: Self::Ctx, buf: &mut ParseBuf<'de>) -> Result<&'de [u8], Fault>
         ensures { ParsesAs (λ x. x.now) (format ctx) result buf.old.0.now buf.new.0.now };
 
     /// Writes a string at the end of the buffer, with at most its first `MAX_LEN` bytes.
     ///
-    /// Fails where memory is refused; a prefix of what is to be written may then be in the buffer.
+    /// Fails if memory is refused; a prefix of what is to be written may then be in the buffer.
     fn serialize(text: &[u8], buf: &mut Vec<u8>) -> Result<(), AllocError>
         ensures { Appends result buf.old.items buf.new.items (spelling (take MAX_LEN text.now)) };
 
@@ -81,7 +81,7 @@ impl<'a, T: BytesRepr> Model for RawBytes<'a, T> {
     ghost view = { λ a. cow_slice_items a.text };
 }
 
-// Returns the first `n` bytes of the text, or all of it where it is shorter.
+// Returns the first `n` bytes of the text, or all of it if it is shorter.
 fn prefix(text: &[u8], n: usize) -> &[u8]
     ensures items { result.now ≡ take n text.now }
     ensures len { length result.now ≤ n }
@@ -124,7 +124,7 @@ impl<'a, T: BytesRepr> RawBytes<'a, T> {
     /// Returns the bytes as text, with `U+FFFD` in place of what isn't UTF-8.
     ///
     /// Bytes that are UTF-8 are borrowed, which takes no memory. Others are copied, and the call
-    /// fails where memory is refused.
+    /// fails if memory is refused.
     #[tactic(auto, using(crate::proofs::Lossy::lossy))]
     pub fn as_str(&self, alloc: Global) -> Result<CowStr<'_>, AllocError>
         ensures { IfOk result (λ text. cow_str_bytes text ≡ utf8_lossy self.now) }
@@ -132,8 +132,8 @@ impl<'a, T: BytesRepr> RawBytes<'a, T> {
         self.as_bytes().to_str_lossy(alloc)
     }
 
-    /// Returns the string with bytes that it owns. Borrowed bytes are copied, and the call fails
-    /// where memory is refused.
+    /// Returns the string with bytes that it owns. Borrowed bytes are copied, and the call fails if
+    /// memory is refused.
     pub fn into_owned(self, alloc: Global) -> Result<RawBytes<'static, T>, AllocError>
         ensures { IfOk result (λ owned. owned ≡ self.entry) }
     {
@@ -151,7 +151,7 @@ impl<'a, T: BytesRepr> RawBytes<'a, T> {
         self.text
     }
 
-    /// Returns the same string, with bytes of its own. The call fails where memory is refused.
+    /// Returns the same string, with bytes of its own. The call fails if memory is refused.
     pub fn clone(&self, alloc: Global) -> Result<Self, AllocError>
         ensures { IfOk result (λ copy. copy ≡ self.now) }
     {
@@ -160,7 +160,8 @@ impl<'a, T: BytesRepr> RawBytes<'a, T> {
     }
 }
 
-/// Writes the bytes at the end of the buffer; if memory can't be allocated, a prefix of them.
+/// Writes the bytes at the end of the buffer. Fails if memory is refused; a prefix of them may then
+/// be in the buffer.
 pub fn write_bytes(bytes: &[u8], buf: &mut Vec<u8>) -> Result<(), AllocError>
     ensures { Appends result buf.old.items buf.new.items bytes.now }
 {

@@ -24,7 +24,7 @@ pub trait Constant: Sized {
     ghost number_of: { Self → Self.Number };
 
     /// Returns the constant that has this number. Fails with the type's own fault, such as
-    /// `UnknownColumnType`, where no constant has it.
+    /// `UnknownColumnType`, if no constant has it.
     fn from_number(number: Self::Number) -> Result<Self, Fault>
         ensures { result ≡ constant_of number };
 

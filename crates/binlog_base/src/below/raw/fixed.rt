@@ -22,9 +22,9 @@ use std::marker::PhantomData;
 
 /// Reads a number of `width` bytes in the byte order `O`, and takes its bytes.
 ///
-/// Where `width` is above the size of the type `P`, only as many bytes as `P` has are read. A
-/// number of no bytes is 0. Numbers of a signed type are in two's complement. Fails with
-/// `UnexpectedEof` where fewer bytes are left.
+/// If `width` is above the size of the type `P`, only as many bytes as `P` has are read. A number
+/// of no bytes is 0. Numbers of a signed type are in two's complement. Fails with `UnexpectedEof`
+/// if fewer bytes are left.
 #[tactic(auto, unfolding(crate::specs::Fixed::fixed))]
 pub fn read_number<O: ByteOrder, P: Integer>(
     width: usize,

@@ -29,9 +29,9 @@ pub trait IntRepr {
 
     /// Reads a number at the start of the bytes, and takes its bytes.
     ///
-    /// Fails with `UnexpectedEof` where the bytes end before the number does, and with `BadLenEnc`
-    /// or `BadVarLen` where no number of that kind begins so. After a fault, the bytes that are
-    /// left are unspecified.
+    /// Fails with `UnexpectedEof` if the bytes end before the number does, and with `BadLenEnc` or
+    /// `BadVarLen` if no number of the kind begins so. After a fault, the bytes that are left are
+    /// unspecified.
     fn deserialize(buf: &mut ParseBuf<'_>) -> Result<Self::Primitive, Fault>
         ensures parses { Parses format result buf.old.0.now buf.new.0.now }
         ensures in_range { IfOk result IsInRange };
@@ -39,7 +39,7 @@ pub trait IntRepr {
     /// Writes a number at the end of the buffer. Of a number that the kind can't hold, its lowest
     /// bytes are written.
     ///
-    /// Fails where memory is refused; a prefix of what is to be written may then be in the buffer.
+    /// Fails if memory is refused; a prefix of what is to be written may then be in the buffer.
     fn serialize(value: Self::Primitive, buf: &mut Vec<u8>) -> Result<(), AllocError>
         ensures { Appends result buf.old.items buf.new.items (spelling value) };
 

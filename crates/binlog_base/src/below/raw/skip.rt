@@ -10,7 +10,7 @@ use crate::fault::Fault;
 use std::alloc::AllocError;
 
 /// `N` bytes that are ignored: any bytes are read, and zeros are written. Reading fails with
-/// `UnexpectedEof` where fewer than `N` bytes are left.
+/// `UnexpectedEof` if fewer than `N` bytes are left.
 #[derive(Clone, Copy, Debug, PartialEq, Eq, Hash)]
 pub struct Skip<const N: usize>;
 

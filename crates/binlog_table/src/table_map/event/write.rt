@@ -68,7 +68,7 @@ impl<'a> TableMapEvent<'a> {
     }
 
     /// Returns the same event, with bytes of its own. Borrowed bytes are copied, and the call fails
-    /// where memory is refused.
+    /// if memory is refused.
     pub fn into_owned(self, alloc: Global) -> Result<TableMapEvent<'static>, AllocError>
         ensures { IfOk result (λ owned. owned ≡ self.entry) }
     {
@@ -86,7 +86,7 @@ impl<'a> TableMapEvent<'a> {
         })
     }
 
-    /// Returns a copy of the event, with bytes of its own. The call fails where memory is refused.
+    /// Returns a copy of the event, with bytes of its own. The call fails if memory is refused.
     pub fn clone(&self, alloc: Global) -> Result<Self, AllocError>
         ensures { IfOk result (λ copy. copy ≡ self.now) }
     {
@@ -109,7 +109,8 @@ impl<'a> MySerialize for TableMapEvent<'a> {
     ghost written = { written_table_map };
 
     /// Writes the event's body at the end of the buffer: the table id in six bytes, and a zero byte
-    /// after each name. If memory can't be allocated, a prefix of it is written.
+    /// after each name. Fails if memory is refused; a prefix of the bytes may then be in the
+    /// buffer.
     #[tactic(auto, using(crate::specs::Lemmas::TableMapWritten::written_table_map_spelled))]
     fn serialize(&self, buf: &mut Vec<u8>) -> Result<(), AllocError>
         ensures appends { Appends result buf.old.items buf.new.items (written_table_map self.now) }

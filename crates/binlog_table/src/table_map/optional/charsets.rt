@@ -55,7 +55,7 @@ impl<'a> DefaultCharset<'a> {
         self.default_charset
     }
 
-    /// Returns the columns with another character set, up to the first fault.
+    /// Returns an iterator over the columns with another character set, up to the first fault.
     pub fn iter_non_default(&self) -> IterNonDefault<'a>
         ensures { result ≡ record { bytes = self.now.pairs; taken = 0 } }
     {
@@ -63,8 +63,8 @@ impl<'a> DefaultCharset<'a> {
     }
 }
 
-/// The default is read, and what follows it is the list, whatever its bytes are. `BadLenEnc` where the
-/// default isn't a length-encoded number, and `UnexpectedEof` where it isn't all there.
+/// The default is read, and what follows it is the list, whatever its bytes are. Reading fails with
+/// `BadLenEnc` if the default isn't a length-encoded number, and with `UnexpectedEof` if it is cut.
 impl<'de> MyDeserialize<'de> for DefaultCharset<'de> {
     ghost Seen = { Spec.DefaultCharset };
 
@@ -97,7 +97,7 @@ impl<'a> MySerialize for DefaultCharset<'a> {
     }
 }
 
-/// A column of a group, by its place in the group, and its character set: two length-encoded
+/// A column of a group, by its index in the group, and its character set: two length-encoded
 /// numbers, of the second of which the low 16 bits count. Contracts see them as a pair.
 #[derive(Clone, Copy, Debug, PartialEq, Eq)]
 pub struct NonDefaultCharset {
@@ -114,7 +114,8 @@ impl Model for NonDefaultCharset {
 }
 
 impl NonDefaultCharset {
-    /// Makes the column of this place in its group, counted from 0, with this character set.
+    /// Makes the column of this index in its group, counted from 0, with the character set of this
+    /// number.
     pub fn new(column_index: u64, charset: u16) -> Self
         ensures { result ≡ (column_index, charset) }
     {
@@ -124,7 +125,7 @@ impl NonDefaultCharset {
         }
     }
 
-    /// Returns the place of the column in its group, counted from 0.
+    /// Returns the index of the column in its group, counted from 0.
     pub fn column_index(&self) -> u64
         ensures { result ≡ self.now.0 }
     {
@@ -139,8 +140,8 @@ impl NonDefaultCharset {
     }
 }
 
-/// `BadLenEnc` where one of the two isn't a length-encoded number, and `UnexpectedEof` where one isn't
-/// all there.
+/// Reading fails with `BadLenEnc` if one of the two isn't a length-encoded number, and with
+/// `UnexpectedEof` if one is cut.
 impl<'de> MyDeserialize<'de> for NonDefaultCharset {
     ghost Seen = { ℕ × ℕ };
 
@@ -206,8 +207,8 @@ impl<'a> Model for IterCharset<'a> {
 }
 
 impl<'a> IterCharset<'a> {
-    /// Returns the character sets that a default, the columns with another, and a list with one for
-    /// each column give.
+    /// Returns the character sets of a group's columns, which follow from a default, the columns
+    /// with another one, and a list with one for each column.
     pub(super) fn new(
         default: Option<u16>,
         pairs: IterNonDefault<'a>,
@@ -239,7 +240,7 @@ impl<'a> IterCharset<'a> {
         u128::from(self.pairs.taken()) + u128::from(self.list.taken())
     }
 
-    // Returns the character set of the next column of the group, if it has one.
+    // Returns the character set of the next column of the group; `None` where it has none.
     #[tactic(auto, using(crate::proofs::CharsetByCharset::taken_now, crate::proofs::CharsetByCharset::taken_later, crate::proofs::CharsetByCharset::passed_now, crate::proofs::CharsetByCharset::passed_later, crate::proofs::CharsetByCharset::pair_fault, crate::proofs::CharsetByCharset::list_fault, crate::proofs::CharsetByCharset::listed_now, crate::proofs::CharsetByCharset::listed_later))]
     fn turn(&mut self) -> Result<Option<u16>, Fault>
         requires { self.old.ordinal < u64.MAX }
@@ -275,7 +276,8 @@ impl<'a> IterCharset<'a> {
         }
     }
 
-    // Returns the character set that the next column of the group has in a row: 0 where it has none.
+    // Returns the character set that the next column of the group has in a row: 0 where it has
+    // none.
     #[tactic(auto, using(crate::proofs::CharsetByCharset::row_now, crate::proofs::CharsetByCharset::row_later))]
     pub(crate) fn next_in_row(&mut self) -> Result<u16, Fault>
         requires { self.old.ordinal < u64.MAX }

@@ -34,13 +34,13 @@ use std::marker::Model;
 pub struct TableColumn<'a> {
     /// The real type.
     pub column_type: ColumnType,
-    /// The chunk of metadata, if there is one.
+    /// The chunk of metadata; `None` where it has none.
     pub metadata: Option<&'a [u8]>,
-    /// Whether it holds numbers without a sign.
+    /// Whether its numbers are unsigned.
     pub unsigned: bool,
-    /// The charset's number, 0 without one.
+    /// The number of its character set; 0 where it has none.
     pub charset: u16,
-    /// The name, if it has one.
+    /// The name; `None` where the optional metadata has none for it.
     pub name: Option<ColumnName<'a>>,
     /// Whether it is in the primary key.
     pub is_key: bool,
@@ -64,7 +64,7 @@ struct Walk<'a> {
     fields: u64,
 }
 
-// The real type of a column by its raw type and its chunk.
+// Returns the real type of a column, by its type byte and its chunk.
 fn type_of(raw: u8, chunk: Option<&[u8]>) -> Result<ColumnType, Fault>
     ensures { result ≡ typed
         (real_type_of (raw_type_of (Some raw)) (option_map (λ c. c.now) chunk.entry)) }
@@ -73,7 +73,7 @@ fn type_of(raw: u8, chunk: Option<&[u8]>) -> Result<ColumnType, Fault>
     Ok(real_type(raw_type, chunk)?)
 }
 
-// The sign of the next column; only a numeric one takes a bit.
+// Returns whether the next column is unsigned. Only a numeric column takes a sign bit.
 fn next_sign(server: Server, raw: u8, signs: &mut BitIter<'_>) -> bool
     ensures now { result ≡ bit_here (is_numeric_number server raw) signs.old }
     ensures left { signs.new ≡ bits_after (is_numeric_number server raw) signs.old }
@@ -85,7 +85,7 @@ fn next_sign(server: Server, raw: u8, signs: &mut BitIter<'_>) -> bool
     }
 }
 
-// The name of the next column.
+// Takes the name of the next column.
 #[tactic(auto, using(crate::proofs::ColumnWalk::named_later, crate::proofs::ColumnWalk::named_none))]
 fn next_name<'a>(names: &mut IterNames<'a>) -> Result<Option<ColumnName<'a>>, Fault>
     ensures now { result ≡ named (items lenenc_string names.old.bytes) 0 }
@@ -101,7 +101,7 @@ fn next_name<'a>(names: &mut IterNames<'a>) -> Result<Option<ColumnName<'a>>, Fa
     }
 }
 
-// The charset of the next column, by its type.
+// Takes the character set of the next column, by its type; 0 where it has none.
 fn next_charset(
     server: Server,
     column_type: ColumnType,
@@ -131,7 +131,7 @@ fn next_charset(
     }
 }
 
-// How many JSON columns a column of this raw type is.
+// Returns 1 for the type byte of JSON, and 0 for any other.
 fn json_columns(raw: u8) -> usize
     ensures { result ≡ if raw == column_number MYSQL_TYPE_JSON then 1 else 0 }
 {
@@ -142,7 +142,7 @@ fn json_columns(raw: u8) -> usize
     }
 }
 
-// The next column.
+// Takes the next column.
 #[tactic(auto, unfolding(crate::specs::ColumnsLeft::parts_left))]
 fn next_column<'a>(walk: &mut Walk<'a>) -> Result<TableColumn<'a>, Fault>
     requires room { HasRoom walk.old }
@@ -183,8 +183,8 @@ fn next_column<'a>(walk: &mut Walk<'a>) -> Result<TableColumn<'a>, Fault>
     })
 }
 
-// Begins the walk over columns of these type bytes, by what is kept of the optional metadata, after
-// so many fields and faults were taken of it.
+// Begins the walk over columns of these type bytes, by what is kept of the optional metadata.
+// `fields` is how many fields and faults were taken of it.
 fn walk_of<'a>(
     table: &'a TableMapEvent<'_>,
     types: &'a [u8],
@@ -213,8 +213,9 @@ fn walk_of<'a>(
     }
 }
 
-/// An iterator over the columns of a table map event, in order, up to the first column with a fault,
-/// which is the last item. There are no items where a field of the optional metadata is faulty.
+/// An iterator over the columns of a table map event, in order, up to the first column with a
+/// fault, which is the last item. There are no items where a field of the optional metadata is
+/// faulty.
 ///
 /// It counts its steps. Contracts see the fault of the optional metadata, the items still to come,
 /// and the steps.
@@ -241,7 +242,7 @@ impl<'a> Model for TableColumns<'a> {
 }
 
 impl<'a> TableColumns<'a> {
-    /// Returns the columns of a table.
+    /// Returns an iterator over the columns of a table. This takes no memory.
     pub fn new(table: &'a TableMapEvent<'_>) -> TableColumns<'a>
         ensures fault { result.fault ≡ field_fault table.now }
         ensures columns { result.columns ≡ table_columns table.now }
@@ -262,7 +263,8 @@ impl<'a> TableColumns<'a> {
         }
     }
 
-    /// Returns the fault of the first faulty field of the optional metadata, if there is one.
+    /// Returns the fault of the first faulty field of the optional metadata; `None` where no field
+    /// is faulty.
     pub fn fault(&self) -> Option<Fault>
         ensures { result ≡ self.now.fault }
     {

@@ -56,7 +56,7 @@ impl<'a> Model for OptionalMetaExtractor<'a> {
 }
 
 impl<'a> OptionalMetaExtractor<'a> {
-    /// Takes the last field of each kind. Fails with the first fault where some item is a fault.
+    /// Takes the last field of each kind. Fails with the first fault if some item is a fault.
     pub fn new(fields: OptionalMetadataIter<'a>) -> Result<OptionalMetaExtractor<'a>, Fault>
         ensures whole { IfOk result (λ _. first_fault (fields_in fields.entry) ≡ None) }
         ensures last { IfOk result (λ x. x ≡ kept (before_fault (fields_in fields.entry))) }
@@ -67,7 +67,7 @@ impl<'a> OptionalMetaExtractor<'a> {
     }
 
     /// Takes the last field of each kind from an iterator, which counts what is taken. Fails with
-    /// the first fault where some item is a fault.
+    /// the first fault if some item is a fault.
     pub fn take_from(
         fields: &mut OptionalMetadataIter<'a>,
     ) -> Result<OptionalMetaExtractor<'a>, Fault>
@@ -118,7 +118,7 @@ impl<'a> OptionalMetaExtractor<'a> {
         })
     }
 
-    // Returns what is kept where there are no fields.
+    // Returns what is kept if there are no fields.
     pub(super) fn none() -> Self
         ensures { result ≡ kept [] }
     {
@@ -134,8 +134,8 @@ impl<'a> OptionalMetaExtractor<'a> {
         }
     }
 
-    /// Returns the sign bits of the numeric columns, in order: set where a column is unsigned. There
-    /// are none without such a field.
+    /// Returns an iterator over the sign bits of the numeric columns, in order: set where a column
+    /// is unsigned. There are none without such a field.
     pub fn iter_signedness(&self) -> IterSignedness<'a>
         ensures { result ≡ list_or self.now.signs }
     {
@@ -145,7 +145,8 @@ impl<'a> OptionalMetaExtractor<'a> {
         }
     }
 
-    /// Returns the character sets of the character columns, in order.
+    /// Returns an iterator over the numbers of the character sets of the character columns, in
+    /// order, as `IterCharset` says.
     pub fn iter_charset(&self) -> IterCharset<'a>
         ensures start { IsStart self.now.default self.now.charsets result }
         ensures spends { Spends 0
@@ -155,7 +156,8 @@ impl<'a> OptionalMetaExtractor<'a> {
         group_of(&self.default, &self.charsets)
     }
 
-    /// Returns the character sets of the ENUM and SET columns, in order.
+    /// Returns an iterator over the numbers of the character sets of the ENUM and SET columns, in
+    /// order, as `IterCharset` says.
     pub fn iter_enum_and_set_charset(&self) -> IterCharset<'a>
         ensures start { IsStart self.now.enum_default self.now.enum_charsets result }
         ensures spends { Spends 0
@@ -165,8 +167,8 @@ impl<'a> OptionalMetaExtractor<'a> {
         group_of(&self.enum_default, &self.enum_charsets)
     }
 
-    /// Returns the indexes of the columns of the primary key: those of the field without prefixes,
-    /// then those of the field with prefixes.
+    /// Returns an iterator over the indexes of the columns of the primary key: those of the field
+    /// without prefixes, then those of the field with prefixes.
     pub fn iter_primary_key(&self) -> IterPrimaryKey<'a>
         ensures spends { Spends 0
             (length (list_or self.now.simple) + length (list_or self.now.prefixed))
@@ -178,7 +180,8 @@ impl<'a> OptionalMetaExtractor<'a> {
         IterPrimaryKey::new(list_or_empty(&self.simple), list_or_empty(&self.prefixed))
     }
 
-    /// Returns the names of the columns, in order. There are none without such a field.
+    /// Returns an iterator over the names of the columns, in order, up to the first fault. There
+    /// are none without such a field.
     pub fn iter_column_name(&self) -> IterColumnName<'a>
         ensures { result ≡ record { bytes = list_or self.now.names; taken = 0 } }
     {
@@ -186,7 +189,7 @@ impl<'a> OptionalMetaExtractor<'a> {
     }
 }
 
-// Returns the items of a list: none where there is no list.
+// Returns an iterator over the items of a list; over none if there is no list.
 fn list_or_empty<'a, K>(list: &Option<ListOf<'a, K>>) -> Items<'a, K>
     ensures { result ≡ record { bytes = list_or list.now; taken = 0 } }
 {

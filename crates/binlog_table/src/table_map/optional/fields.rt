@@ -82,8 +82,8 @@ impl<'a> ListKind<'a> for RawFields {
     }
 }
 
-// Reads one bit for each of so many columns, the highest of each byte first. The value must have no
-// other bytes.
+// Reads one bit for each of `count` columns, the highest of each byte first. Fails with
+// `UnexpectedEof` if the value has too few bytes, and with `BytesRemaining` if it has more.
 fn bits_for(value: &[u8], count: usize) -> Result<BitView<'_>, Fault>
     ensures { result ≡ bits_for count value.now }
 {
@@ -96,7 +96,7 @@ fn bits_for(value: &[u8], count: usize) -> Result<BitView<'_>, Fault>
     }
 }
 
-// The default character set that a field's value holds.
+// Reads the default character set that a field's value holds.
 fn default_charset(value: &[u8]) -> Result<DefaultCharset<'_>, Fault>
     ensures { result ≡ default_charset_in value.now }
 {
@@ -104,7 +104,7 @@ fn default_charset(value: &[u8]) -> Result<DefaultCharset<'_>, Fault>
     buf.parse(())
 }
 
-// Reads the value of a field of this kind, in a table with so many numeric columns, and so many
+// Reads the value of a field of this kind, in a table with `numeric` numeric columns and `columns`
 // columns in all.
 fn value_of<'a>(
     kind: OptionalMetadataFieldType,
@@ -157,8 +157,8 @@ fn value_of<'a>(
     }
 }
 
-// Reads a whole field, in a table with so many numeric columns, and so many columns in all. `None`
-// where its kind is unknown, whatever its value.
+// Reads a whole field, in a table with `numeric` numeric columns and `columns` columns in all.
+// `None` where its kind is unknown, whatever its value.
 #[tactic(auto, unfolding(crate::specs::Fields::field_of, crate::specs::Fields::is_known_kind))]
 fn field_of<'a>(
     raw: RawField<'a>,
@@ -175,8 +175,8 @@ fn field_of<'a>(
     Some(value_of(kind, raw.value, numeric, columns))
 }
 
-// Takes the next field of a known kind, or the fault in its place; whole fields of other kinds before
-// it are skipped. The table has so many numeric columns, and so many columns in all.
+// Takes the next field of a known kind, or the fault in its place; whole fields of other kinds
+// before it are skipped. The table has `numeric` numeric columns and `columns` columns in all.
 fn next_field<'a>(
     raw: &mut Items<'a, RawFields>,
     numeric: usize,
@@ -203,11 +203,12 @@ fn next_field<'a>(
 /// An iterator over the fields of optional metadata, in order.
 ///
 /// A whole field of a kind that isn't one of `OptionalMetadataFieldType` is skipped, whatever its
-/// value. Where a field of a known kind has a faulty value, its fault is an item, and others follow
-/// it: `UnexpectedEof` or `BadLenEnc` for what is read of the value, and `BytesRemaining` where bits
-/// have bytes after them. A field that is cut, or whose length can't be read, is the last item,
-/// whatever its kind: `UnexpectedEof` or `BadLenEnc`. Contracts see how many numeric columns and
-/// columns the table has, the bytes that are left, and how many items were taken.
+/// value. If the value of a field of a known kind is faulty, its fault is an item, and others
+/// follow it: `UnexpectedEof` or `BadLenEnc` if the value is cut or its number can't be read, and
+/// `BytesRemaining` if bits have bytes after them. A field that is cut, or whose length can't be
+/// read, is the fault `UnexpectedEof` or `BadLenEnc`, whatever its kind, and the last item.
+/// Contracts see how many numeric columns and columns the table has, the bytes that are left, and
+/// how many items were taken.
 #[derive(Debug, Drop)]
 pub struct OptionalMetadataIter<'a> {
     numeric: usize,
@@ -232,8 +233,8 @@ impl<'a> Model for OptionalMetadataIter<'a> {
 }
 
 impl<'a> OptionalMetadataIter<'a> {
-    /// Returns the fields that are in these bytes, for a table with so many numeric columns, and so
-    /// many columns in all.
+    /// Returns an iterator over the fields in these bytes, for a table with `numeric` numeric
+    /// columns and `columns` columns in all.
     pub fn new(numeric: usize, columns: usize, bytes: &'a [u8]) -> OptionalMetadataIter<'a>
         ensures { result ≡ record {
           numeric = numeric;

@@ -77,7 +77,7 @@ impl<'a, K> ListOf<'a, K> {
         self.bytes
     }
 
-    /// Returns the items, up to the first fault.
+    /// Returns an iterator over the items, up to the first fault.
     pub fn iter(&self) -> Items<'a, K>
         ensures { result ≡ record { bytes = self.now; taken = 0 } }
     {
@@ -89,7 +89,7 @@ impl<'a, K> ListOf<'a, K> {
     }
 }
 
-/// Two lists are equal where their bytes are.
+/// Two lists are equal if their bytes are.
 impl<'a, K> PartialEq for ListOf<'a, K> {
     ghost eq = { pointwise ⟦<u8 as PartialEq>⟧.eq };
 

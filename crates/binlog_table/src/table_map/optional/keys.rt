@@ -33,7 +33,8 @@ impl Model for PrimaryKeyWithPrefix {
 }
 
 impl PrimaryKeyWithPrefix {
-    /// Makes the column of this index, counted from 0, with a prefix of so many characters.
+    /// Makes the column of this index, counted from 0, with a prefix of `prefix_length` characters;
+    /// 0 is the whole column.
     pub fn new(column_index: u64, prefix_length: u64) -> Self
         ensures { result ≡ (column_index, prefix_length) }
     {
@@ -58,8 +59,8 @@ impl PrimaryKeyWithPrefix {
     }
 }
 
-/// `BadLenEnc` where one of the two isn't a length-encoded number, and `UnexpectedEof` where one isn't
-/// all there.
+/// Reading fails with `BadLenEnc` if one of the two isn't a length-encoded number, and with
+/// `UnexpectedEof` if one is cut.
 impl<'de> MyDeserialize<'de> for PrimaryKeyWithPrefix {
     ghost Seen = { ℕ × ℕ };
 
@@ -91,10 +92,10 @@ impl MySerialize for PrimaryKeyWithPrefix {
     }
 }
 
-/// An iterator over the indexes of the columns of a primary key: those of the list without prefixes,
-/// then those of the list with prefixes. A fault is the last item of its list; after a fault of the
-/// first list come the items of the second. Contracts see the items that are left, how many were
-/// taken of the two lists, and how many bytes of them are left.
+/// An iterator over the indexes of the columns of a primary key: those of the list without
+/// prefixes, then those of the list with prefixes. A fault is the last item of its list; after a
+/// fault of the first list come the items of the second. Contracts see the items that are left, how
+/// many were taken of the two lists, and how many bytes of them are left.
 #[derive(Drop)]
 pub struct IterPrimaryKey<'a> {
     head: Option<Result<u64, Fault>>,
@@ -121,7 +122,7 @@ impl<'a> Model for IterPrimaryKey<'a> {
         (items lenenc k.simple.bytes) (items (pair_with lenenc) k.prefixed.bytes) };
 }
 
-// Takes the first item of two lists, of the second one where the first is at its end.
+// Takes the first item of two lists; that of the second one if the first is at its end.
 fn first_of(simple: &mut IterIndexes<'_>, prefixed: &mut IterKeys<'_>) -> Option<Result<u64, Fault>>
     ensures keys { keys_left result (items lenenc simple.new.bytes) (items (pair_with lenenc) prefixed.new.bytes)
         ≡ key_items (items lenenc simple.old.bytes) (items (pair_with lenenc) prefixed.old.bytes) }
@@ -142,7 +143,7 @@ fn first_of(simple: &mut IterIndexes<'_>, prefixed: &mut IterKeys<'_>) -> Option
 }
 
 impl<'a> IterPrimaryKey<'a> {
-    /// Returns the items of these two lists.
+    /// Returns an iterator over the items of these two lists.
     pub(super) fn new(simple: IterIndexes<'a>, prefixed: IterKeys<'a>) -> Self
         ensures keys { result.keys ≡ key_items
             (items lenenc simple.entry.bytes) (items (pair_with lenenc) prefixed.entry.bytes) }
@@ -168,7 +169,7 @@ impl<'a> IterPrimaryKey<'a> {
         u128::from(self.simple.taken()) + u128::from(self.prefixed.taken())
     }
 
-    /// Returns the item that comes next, which isn't taken.
+    /// Returns the item that comes next, without taking it; `None` at the end.
     pub fn peek(&self) -> Option<&Result<u64, Fault>>
         ensures { option_map (λ x. x.now) result ≡ head_of self.now.keys }
     {
@@ -185,7 +186,7 @@ impl<'a> IterPrimaryKey<'a> {
         item
     }
 
-    /// Takes the item that comes next where it is this index or a fault. Else returns `None` and
+    /// Takes the item that comes next if it is this index or a fault. Otherwise returns `None` and
     /// takes nothing.
     pub fn next_if_is(&mut self, column: u64) -> Option<Result<u64, Fault>>
         ensures keys { (result, self.new.keys) ≡ next_if column self.old.keys }
@@ -199,7 +200,7 @@ impl<'a> IterPrimaryKey<'a> {
     }
 
     /// Returns whether a column is a key column. Columns are asked for in order, from 0 on. Fails
-    /// with a fault of the lists that comes before the column's index.
+    /// with a fault of the lists if it is the item that comes next, which is then taken.
     #[tactic(auto, using(crate::proofs::KeyByKey::key_passed))]
     pub fn is_key(&mut self, column: u64) -> Result<bool, Fault>
         ensures now { result ≡ key_from column self.old.keys column }

@@ -178,7 +178,7 @@ pub type ColumnNames<'a> = ListOf<'a, Names>;
 pub type IterNames<'a> = Items<'a, Names>;
 
 impl<'a> ListOf<'a, Names> {
-    /// Returns the names, up to the first fault.
+    /// Returns an iterator over the names, up to the first fault.
     pub fn iter_names(&self) -> IterNames<'a>
         ensures { result ≡ record { bytes = self.now; taken = 0 } }
     {
@@ -194,7 +194,7 @@ pub type ColumnCharsets<'a> = ListOf<'a, Charsets>;
 pub type IterCharsets<'a> = Items<'a, Charsets>;
 
 impl<'a> ListOf<'a, Charsets> {
-    /// Returns the character sets, up to the first fault.
+    /// Returns an iterator over the numbers of the character sets, up to the first fault.
     pub fn iter_charsets(&self) -> IterCharsets<'a>
         ensures { result ≡ record { bytes = self.now; taken = 0 } }
     {
@@ -215,7 +215,7 @@ pub type VectorDimensionalities<'a> = ListOf<'a, Dimensions>;
 pub type IterVectorDimensionalities<'a> = Items<'a, Dimensions>;
 
 impl<'a> ListOf<'a, Dimensions> {
-    /// Returns the numbers of dimensions, up to the first fault.
+    /// Returns an iterator over the numbers of dimensions, up to the first fault.
     pub fn iter_dimensionalities(&self) -> IterVectorDimensionalities<'a>
         ensures { result ≡ record { bytes = self.now; taken = 0 } }
     {
@@ -230,7 +230,7 @@ pub type SimplePrimaryKey<'a> = ListOf<'a, ColumnIndexes>;
 pub type IterIndexes<'a> = Items<'a, ColumnIndexes>;
 
 impl<'a> ListOf<'a, ColumnIndexes> {
-    /// Returns the indexes of the columns, up to the first fault.
+    /// Returns an iterator over the indexes of the columns, up to the first fault.
     pub fn iter_indexes(&self) -> IterIndexes<'a>
         ensures { result ≡ record { bytes = self.now; taken = 0 } }
     {
@@ -245,7 +245,7 @@ pub type PrimaryKeysWithPrefix<'a> = ListOf<'a, PrefixedKeys>;
 pub type IterKeys<'a> = Items<'a, PrefixedKeys>;
 
 impl<'a> ListOf<'a, PrefixedKeys> {
-    /// Returns the columns with their prefixes, up to the first fault.
+    /// Returns an iterator over the columns with their prefixes, up to the first fault.
     pub fn iter_keys(&self) -> IterKeys<'a>
         ensures { result ≡ record { bytes = self.now; taken = 0 } }
     {
@@ -258,8 +258,8 @@ impl<'a> ListOf<'a, PrefixedKeys> {
 pub type GeometryTypes<'a> = ListOf<'a, GeometryNumbers>;
 
 impl<'a> ListOf<'a, GeometryNumbers> {
-    /// Returns the types of the geometry columns. Where a number is no type's, the item is
-    /// `UnknownGeometryType`, and others follow it; any other fault is the last item.
+    /// Returns an iterator over the types of the geometry columns. If a number is no type's, the
+    /// item is `UnknownGeometryType`, and others follow it; any other fault is the last item.
     pub fn iter_geometry_types(&self) -> IterGeometryTypes<'a>
         ensures { result ≡ record { bytes = self.now; taken = 0 } }
     {

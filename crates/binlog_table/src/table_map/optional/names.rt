@@ -50,15 +50,15 @@ impl<'a> ColumnName<'a> {
     /// Returns the name as text, with `U+FFFD` in place of what isn't UTF-8.
     ///
     /// A name that is UTF-8 is borrowed, which takes no memory. Any other is copied, and the call
-    /// fails where memory is refused.
+    /// fails if memory is refused.
     pub fn name(&self, alloc: Global) -> Result<CowStr<'_>, AllocError>
         ensures { IfOk result (λ text. cow_str_bytes text ≡ utf8_lossy self.now) }
     {
         self.name.as_str(alloc)
     }
 
-    /// Returns the name with bytes that it owns. Borrowed bytes are copied, and the call fails
-    /// where memory is refused.
+    /// Returns the name with bytes that it owns. Borrowed bytes are copied, and the call fails if
+    /// memory is refused.
     pub fn into_owned(self, alloc: Global) -> Result<ColumnName<'static>, AllocError>
         ensures { IfOk result (λ owned. owned ≡ self.entry) }
     {
@@ -68,8 +68,8 @@ impl<'a> ColumnName<'a> {
     }
 }
 
-/// `BadLenEnc` where the length isn't valid, and `UnexpectedEof` where the length or the bytes aren't
-/// all there.
+/// Reading fails with `BadLenEnc` if the length isn't a length-encoded number, and with
+/// `UnexpectedEof` if the length or the bytes are cut.
 impl<'de> MyDeserialize<'de> for ColumnName<'de> {
     ghost use Rattle.std.specs.Prelude.{List, ℕ};
 

@@ -64,7 +64,7 @@ impl<'a> StrValue<'a> {
     /// Returns the value as text, with `U+FFFD` in place of what isn't UTF-8.
     ///
     /// A value that is UTF-8 is borrowed, which takes no memory. Any other is copied, and the call
-    /// fails where memory is refused.
+    /// fails if memory is refused.
     pub fn value(&self, alloc: Global) -> Result<CowStr<'_>, AllocError>
         ensures { IfOk result (λ text. cow_str_bytes text ≡ utf8_lossy self.now) }
     {
@@ -72,8 +72,8 @@ impl<'a> StrValue<'a> {
     }
 }
 
-/// `BadLenEnc` where the length isn't valid, and `UnexpectedEof` where the length or the bytes aren't
-/// all there.
+/// Reading fails with `BadLenEnc` if the length isn't a length-encoded number, and with
+/// `UnexpectedEof` if the length or the bytes are cut.
 impl<'de> MyDeserialize<'de> for StrValue<'de> {
     ghost Seen = { List ℕ };
 
@@ -135,7 +135,7 @@ impl<'a> StrValues<'a> {
     }
 }
 
-/// Two are equal where their values are, in order.
+/// Two lists are equal if their values are, in order.
 impl<'a> PartialEq for StrValues<'a> {
     ghost eq = { pointwise (pointwise ⟦<u8 as PartialEq>⟧.eq) };
 
@@ -169,9 +169,9 @@ fn read_values<'a>(
 }
 
 /// Values are read with the allocator that their list takes memory from. Memory is taken value by
-/// value, and never by the count. `BadLenEnc` where the count or a length isn't a length-encoded
-/// number, `UnexpectedEof` where they or the bytes of a value aren't all there, and `Memory` where
-/// memory is refused.
+/// value, and never by the count. Reading fails with `BadLenEnc` if the count or a length isn't a
+/// length-encoded number, with `UnexpectedEof` if they or the bytes of a value are cut, and with
+/// `Memory` if memory is refused.
 impl<'de> MyDeserialize<'de> for StrValues<'de> {
     ghost Seen = { List (List ℕ) };
 
@@ -226,8 +226,8 @@ pub type SetsStrValues<'a> = ListOf<'a, Variants>;
 pub type EnumsStrValues<'a> = ListOf<'a, Variants>;
 
 impl<'a> ListOf<'a, Variants> {
-    /// Returns the string values of one column after another, up to the first fault. Each item
-    /// takes memory for its values.
+    /// Returns an iterator over the string values of one column after another, up to the first
+    /// fault. Each item takes memory for its values.
     pub fn iter_values(&self, alloc: Global) -> IterStrValues<'a>
         ensures { result ≡ self.now }
     {
@@ -239,7 +239,7 @@ impl<'a> ListOf<'a, Variants> {
 }
 
 /// An iterator over the string values of one column after another, up to the first fault, which is
-/// its last item. Where memory is refused, this fault is `Memory`. Contracts see the bytes that are
+/// its last item. The fault is `Memory` if memory is refused. Contracts see the bytes that are
 /// left.
 #[derive(Drop)]
 pub struct IterStrValues<'a> {

@@ -88,7 +88,7 @@ impl<'a> RowsEvent<'a> {
         self.write_parts(buf)
     }
 
-    // Writes the extra data, where the type has it, and the parts after it.
+    // Writes the extra data, if the type is written with it, and the parts after it.
     #[tactic(auto, using(binlog_base::proofs::Appending::appending))]
     fn write_parts(&self, buf: &mut Vec<u8>) -> Result<(), AllocError>
         ensures { Appends result buf.old.items buf.new.items
@@ -121,7 +121,7 @@ impl<'a> RowsEvent<'a> {
     }
 
     /// Returns the same event, with bytes of its own. Borrowed bytes are copied, and the call fails
-    /// where memory is refused.
+    /// if memory is refused.
     pub fn into_owned(self, alloc: Global) -> Result<RowsEvent<'static>, AllocError>
         ensures { IfOk result (λ owned. owned ≡ self.entry) }
     {
@@ -137,7 +137,7 @@ impl<'a> RowsEvent<'a> {
         })
     }
 
-    /// Returns a copy of the event, with bytes of its own. The call fails where memory is refused.
+    /// Returns a copy of the event, with bytes of its own. The call fails if memory is refused.
     pub fn clone(&self, alloc: Global) -> Result<Self, AllocError>
         ensures { IfOk result (λ copy. copy ≡ self.now) }
     {
@@ -159,7 +159,8 @@ impl<'a> MySerialize for RowsEvent<'a> {
 
     /// Writes the event's body at the end of the buffer: the table id in six bytes, and extra data
     /// for `WRITE_ROWS_EVENT`, `UPDATE_ROWS_EVENT`, `DELETE_ROWS_EVENT` and
-    /// `PARTIAL_UPDATE_ROWS_EVENT` alone. If memory can't be allocated, a prefix of it is written.
+    /// `PARTIAL_UPDATE_ROWS_EVENT` alone. Fails if memory is refused; a prefix of the bytes may
+    /// then be in the buffer.
     #[tactic(auto, using(crate::specs::Lemmas::RowsEventWritten::written_rows_event_spelled))]
     fn serialize(&self, buf: &mut Vec<u8>) -> Result<(), AllocError>
         ensures appends { Appends result buf.old.items buf.new.items (written_rows_event self.now) }

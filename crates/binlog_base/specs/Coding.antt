@@ -25,6 +25,7 @@ pub record HasRoom (size w : ℕ) : Type 0 where
   pub some : 1 ≤ w
   pub most : w ≤ size
 
+-- an unsigned number: the number that the bits of its w bytes give
 abbrev pub plain_number : ℕ → ℕ → ℕ
 plain_number w n = n
 

@@ -16,11 +16,12 @@ pub record ColumnList : Type 0 where
 abbrev pub listed_column : ℕ → ℕ → List ℕ → Listed → ColumnView
 listed_column schema_end table_end text l = record { column_type = l.column_type; schema = cut 0 schema_end text; table = cut schema_end table_end text; org_table = cut schema_end table_end text; name = cut l.start l.end text; flags = l.flags; character_set = l.character_set }
 
--- the names of the columns stand in a text of this length
+-- the name of a column stands in a text of this length
 pub record IsInside (n : ℕ) (l : Listed) : Type 0 where
   pub order : l.start ≤ l.end
   pub inside : l.end ≤ n
 
+-- the names of all columns stand in a text of this length
 abbrev pub AreInside : ℕ → List Listed → Type 0
 AreInside n [] = ⊤
 AreInside n (l ∷ ls) = IsInside n l × AreInside n ls

@@ -8,6 +8,7 @@ use Rattle.binlog_base.specs.declared.below.columns.geometry.GeometryType.TheVar
 use Rattle.binlog_base.specs.declared.below.columns.column_type.ColumnType.{ColumnType}
 use Rattle.binlog_base.specs.declared.below.columns.column_type.ColumnType.TheVariants as column
 
+-- the column types by their numbers
 abbrev pub column_types : List (ℕ × ColumnType)
 column_types =
     (0, column.MYSQL_TYPE_DECIMAL)
@@ -46,6 +47,7 @@ column_types =
     ∷ (255, column.MYSQL_TYPE_GEOMETRY)
     ∷ []
 
+-- the geometry types by their numbers
 abbrev pub geometry_types : List (ℕ × GeometryType)
 geometry_types =
     (0, geometry.GEOM_GEOMETRY)
@@ -108,6 +110,7 @@ geometry_number geometry.GEOM_GEOMETRYCOLLECTION = 7
 
 -- ---- the groups of column types
 
+-- the types whose columns have a sign bit in MySQL's events
 abbrev pub is_numeric : ColumnType → Bool
 is_numeric column.MYSQL_TYPE_TINY = true
 is_numeric column.MYSQL_TYPE_SHORT = true
@@ -119,6 +122,7 @@ is_numeric column.MYSQL_TYPE_DOUBLE = true
 is_numeric column.MYSQL_TYPE_NEWDECIMAL = true
 is_numeric _ = false
 
+-- the types whose columns have a character set in the first list of MySQL's events
 abbrev pub is_character : ColumnType → Bool
 is_character column.MYSQL_TYPE_STRING = true
 is_character column.MYSQL_TYPE_VAR_STRING = true
@@ -126,6 +130,7 @@ is_character column.MYSQL_TYPE_VARCHAR = true
 is_character column.MYSQL_TYPE_BLOB = true
 is_character _ = false
 
+-- the types whose columns have a character set in the other list
 abbrev pub is_enum_or_set : ColumnType → Bool
 is_enum_or_set column.MYSQL_TYPE_ENUM = true
 is_enum_or_set column.MYSQL_TYPE_SET = true
@@ -133,8 +138,10 @@ is_enum_or_set _ = false
 
 -- ---- the type that a byte in an event means, or the fault of a byte that means none
 
+-- the column type of a number, or UnknownColumnType
 abbrev pub column_type_of : ℕ → Result ColumnType Fault
 column_type_of = from_table column_types fault.UnknownColumnType
 
+-- the geometry type of a number, or UnknownGeometryType
 abbrev pub geometry_type_of : ℕ → Result GeometryType Fault
 geometry_type_of = from_table geometry_types fault.UnknownGeometryType

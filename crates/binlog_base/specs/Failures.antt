@@ -33,12 +33,13 @@ abbrev pub is_unfailed : ℕ → ℕ → Bool
 is_unfailed old new = new == old && nat_lt old (2 ^ 64 - 1)
 
 -- The result of a source is that of a read: the read's count, or a failure where the read gave an
--- error. The result of a sink is likewise that of a write of some bytes; a write that took none of
--- them is a failure too.
+-- error.
 abbrev pub IsOfRead : {E : Type 0} → Result ℕ E → (Result ℕ Error → Type 0) → Type 0
 IsOfRead (Ok n) answered = answered (Ok n)
 IsOfRead (Err _) answered = (e : Error) × answered (Err e)
 
+-- The result of a sink is that of a write of some bytes: a write that took none of them is a
+-- failure too.
 abbrev pub IsOfWrite : {E : Type 0} → Result ℕ E → (Result ℕ Error → Type 0) → Type 0
 IsOfWrite (Ok n) answered = answered (Ok n)
 IsOfWrite (Err _) answered = answered (Ok 0) ⊎ ((e : Error) × answered (Err e))

@@ -45,8 +45,8 @@ kind_of fault.Reader = kind.Reader
 kind_of fault.Memory = kind.Memory
 kind_of _ = kind.InvalidData
 
--- whether bytes can have the fault: it isn't Reader or Memory, and it isn't that of one of the limits
--- on a JSON document
+-- whether bytes can have the fault: it isn't Reader or Memory, and it isn't that of one of the
+-- limits on a JSON document
 abbrev pub is_of_bytes : Fault → Bool
 is_of_bytes fault.Reader = false
 is_of_bytes fault.Memory = false
@@ -54,6 +54,7 @@ is_of_bytes fault.NestingTooDeep = false
 is_of_bytes fault.TooManyValues = false
 is_of_bytes _ = true
 
+-- bytes can have the fault
 abbrev pub IsOfBytes : Fault → Type 0
 IsOfBytes e = IsTrue (is_of_bytes e)
 

@@ -1,4 +1,5 @@
--- A format says which bytes spell which values, and which fault is given where no prefix of the bytes spells any.
+-- A format says which bytes spell which values, and which fault is given where no prefix of the
+-- bytes spells any.
 use Rattle.std.specs.Prelude.{◌≡◌, ◌≢◌, ℕ, ◌<◌, Bool, true, false, List, [], ◌++◌, length, take, drop, Result, Ok, Err, Option, Some, None, nat_lt, if◌then◌else◌, ◌⊎◌, ⊤}
 use Rattle.std.specs.Bool.{MatchBool}
 use Rattle.binlog_base.specs.declared.fault.Fault.{Fault}
@@ -19,11 +20,13 @@ pub record FormatOf (E A : Type 0) : Type 1 where
 abbrev pub Format : Type 0 → Type 1
 Format A = FormatOf Fault A
 
+-- the next step for a value; a fault stays
 infixl 10 ◌>>=◌
 abbrev pub ◌>>=◌ : {E A B : Type 0} → Result A E → (A → Result B E) → Result B E
 (Ok x) >>= f = f x
 (Err e) >>= f = Err e
 
+-- the same result, with its fault told as another
 abbrev pub fault_map : {D E A : Type 0} → (D → E) → Result A D → Result A E
 fault_map g (Ok a) = Ok a
 fault_map g (Err d) = Err (g d)
@@ -38,6 +41,7 @@ take_or short n = record {
   parse = λ x. if nat_lt (length x) n then Err (short (length x)) else Ok (take n x, drop n x);
 }
 
+-- n bytes, or UnexpectedEof where there are fewer
 abbrev pub take_bytes : ℕ → Format (List ℕ)
 take_bytes n = take_or (λ _. UnexpectedEof) n
 
@@ -146,9 +150,11 @@ pub record IsExactToEndOf {E A : Type 0} (OfBytes : E → Type 0) (f : FormatOf 
   pub refused_complete : (x : List ℕ) (e : E) → f.refuses x e → f.parse x ≡ Err e
   pub of_bytes : (x : List ℕ) (e : E) → f.refuses x e → OfBytes e
 
+-- the three parts agree, and the faults are those that bytes can have
 abbrev pub IsExact : {A : Type 0} → Format A → Type 0
 IsExact f = IsExactOf IsOfBytes f
 
+-- the same for a format that takes all bytes
 abbrev pub IsExactToEnd : {A : Type 0} → Format A → Type 0
 IsExactToEnd f = IsExactToEndOf IsOfBytes f
 
@@ -164,6 +170,7 @@ abbrev pub OrMemory : {X : Type 0} → Result X Fault → Type 0 → Type 0
 OrMemory (Ok _) answer = answer
 OrMemory (Err e) answer = e ≢ Memory → answer
 
+-- OrMemory, where the call takes memory; else as `answer` says
 abbrev pub OrMemoryIf : {X : Type 0} → Bool → Result X Fault → Type 0 → Type 0
 OrMemoryIf false result answer = answer
 OrMemoryIf true result answer = OrMemory result answer
@@ -174,6 +181,7 @@ abbrev pub ParsesAs : {E X Y : Type 0} → (X → Y) → FormatOf E Y → Result
 ParsesAs view f (Ok x) old new = f.parse old ≡ Ok (view x, new)
 ParsesAs view f (Err e) old new = f.parse old ≡ Err e
 
+-- ParsesAs for values that are seen as they are
 abbrev pub Parses : {E Y : Type 0} → FormatOf E Y → Result Y E → List ℕ → List ℕ → Type 0
 Parses f result old new = ParsesAs (λ y. y) f result old new
 
@@ -185,6 +193,8 @@ SpellsPrefix f y old new = (prefix : List ℕ) × (old ≡ prefix ++ new) × f.s
 abbrev pub SpellsAll : {E Y : Type 0} → FormatOf E Y → Y → List ℕ → List ℕ → Type 0
 SpellsAll f y old new = f.spells old y × (new ≡ [])
 
+-- the old bytes spell the value: a prefix of them, or all of them where the format takes them to
+-- the end
 abbrev pub Spells : {E Y : Type 0} → Bool → FormatOf E Y → Y → List ℕ → List ℕ → Type 0
 Spells false f y old new = SpellsPrefix f y old new
 Spells true f y old new = SpellsAll f y old new
@@ -195,6 +205,7 @@ abbrev pub ReadsAs : {E X Y : Type 0} → Bool → (X → Y) → FormatOf E Y �
 ReadsAs to_end view f (Ok x) old new = Spells to_end f (view x) old new
 ReadsAs to_end view f (Err e) old new = f.refuses old e
 
+-- ReadsAs for a format that takes all bytes, and values that are seen as they are
 abbrev pub ReadsAll : {E Y : Type 0} → FormatOf E Y → Result Y E → List ℕ → List ℕ → Type 0
 ReadsAll f result old new = ReadsAs true (λ y. y) f result old new
 

@@ -10,7 +10,8 @@ AreItems f x [] = x ≡ []
 AreItems f x (Ok a ∷ more) = (y z : List ℕ) × (x ≡ y ++ z) × f.spells y a × AreItems f z more
 AreItems f x (Err e ∷ more) = (0 < length x) × f.refuses x e × (more ≡ [])
 
--- the same as a plain program
+-- the items as a plain program: one item, and then those of the bytes after it; none follows a
+-- fault
 abbrev pub item_then : {A : Type 0} → (List ℕ → List (Result A Fault)) → Result (A × List ℕ) Fault → List (Result A Fault)
 item_then next (Ok r) = Ok r.0 ∷ next r.1
 item_then next (Err e) = Err e ∷ []
@@ -43,17 +44,18 @@ repeated {A} f = record {
 abbrev pub Eats : {A : Type 0} → Format A → Type 0
 Eats {A} f = (x : List ℕ) (a : A) (left : List ℕ) → f.parse x ≡ Ok (a, left) → length left < length x
 
--- so many of a format, one after the other
+-- n values of a format, one after the other
 abbrev pub times : {A : Type 0} → ℕ → Format A → Format (List A)
 times zero f = no_bytes []
 times (suc n) f = sequence (times n f) (λ xs. map_value f (λ x. xs ++ x ∷ []))
 
--- the items before the first fault, and that fault
+-- the items before the first fault
 abbrev pub before_fault : {A : Type 0} → List (Result A Fault) → List A
 before_fault [] = []
 before_fault (Ok x ∷ xs) = x ∷ before_fault xs
 before_fault (Err e ∷ xs) = []
 
+-- the first fault, if there is one
 abbrev pub first_fault : {A : Type 0} → List (Result A Fault) → Option Fault
 first_fault [] = None
 first_fault (Ok x ∷ xs) = first_fault xs

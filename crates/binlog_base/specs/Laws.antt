@@ -32,9 +32,10 @@ RefusesWholesForOneReason {A} f =
 abbrev pub ReadsBack : {A : Type 0} → Format A → List ℕ → A → Type 0
 ReadsBack f x a = (left : List ℕ) → f.parse (x ++ left) ≡ Ok (a, left)
 
--- no spelling of a number in bytes is shorter than the one that is written
+-- no spelling of a length-encoded number in bytes is shorter than the one that is written
 abbrev pub LenencIsShortest : Type 0
 LenencIsShortest = (x : List ℕ) (n : ℕ) → AreBytes x → lenenc.spells x n → length (lenenc_bytes n) ≤ length x
 
+-- no spelling of a VarLen number in bytes is shorter than the one that is written
 abbrev pub VarlenIsShortest : Type 0
 VarlenIsShortest = (x : List ℕ) (n : ℕ) → AreBytes x → varlen.spells x n → length (varlen_bytes n) ≤ length x

@@ -1,4 +1,5 @@
--- Numbers of a fixed width in either order of bytes, signed ones in two's complement; length-encoded numbers; VarLen.
+-- Numbers of a fixed width in either order of bytes, signed ones in two's complement;
+-- length-encoded numbers; VarLen.
 use Rattle.std.specs.Prelude.{ℕ, zero, suc, ℤ, ◌+◌, ◌-◌, ◌*◌, ◌/◌, ◌^◌, ◌%◌, ◌==◌, nat_lt, if◌then◌else◌, List, [], ◌∷◌, slice_index}
 use Rattle.byteorder.specs.Endian.{little_number, big_number, little_bytes}
 pub use Rattle.byteorder.specs.Endian.{twos_complement}
@@ -16,10 +17,11 @@ little_endian w = fixed little_number plain_number w
 abbrev pub big_endian : ℕ → Format ℕ
 big_endian w = fixed big_number plain_number w
 
--- signed numbers of w bytes in two's complement, the lowest first and then the highest first
+-- a signed number of w bytes in two's complement, the lowest first
 abbrev pub signed_little_endian : ℕ → Format ℤ
 signed_little_endian w = fixed little_number twos_complement w
 
+-- a signed number of w bytes in two's complement, the highest first
 abbrev pub signed_big_endian : ℕ → Format ℤ
 signed_big_endian w = fixed big_number twos_complement w
 
@@ -32,6 +34,7 @@ lenenc_after first =
     (choice (first == 253) (little_endian 3)
     (choice (first == 254) (little_endian 8) (refusal BadLenEnc))))
 
+-- a length-encoded number
 unfoldable pub lenenc : Format ℕ
 lenenc = sequence (little_endian 1) lenenc_after
 
@@ -58,8 +61,10 @@ unfoldable pub groups_bytes : ℕ → ℕ → List ℕ
 groups_bytes zero n = []
 groups_bytes (suc k) n = if nat_lt n 128 then n ∷ [] else (n % 128 + 128) ∷ groups_bytes k (n / 128)
 
+-- the shortest spelling of a VarLen number
 unfoldable pub varlen_bytes : ℕ → List ℕ
 varlen_bytes n = groups_bytes 5 n
 
+-- each number is below 256
 abbrev pub AreBytes : List ℕ → Type 0
 AreBytes x = (i : ℕ) → slice_index x i < 256

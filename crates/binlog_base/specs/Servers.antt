@@ -12,7 +12,7 @@ is_mariadb_numeric column.MYSQL_TYPE_DECIMAL = true
 is_mariadb_numeric column.MYSQL_TYPE_YEAR = true
 is_mariadb_numeric type = is_numeric type
 
--- and GEOMETRY among the character types
+-- MariaDB counts GEOMETRY among the character types
 abbrev pub is_mariadb_character : ColumnType → Bool
 is_mariadb_character column.MYSQL_TYPE_GEOMETRY = true
 is_mariadb_character type = is_character type
@@ -27,6 +27,6 @@ abbrev pub character_group : Server → ColumnType → Bool
 character_group server.MySql = is_character
 character_group server.MariaDb = is_mariadb_character
 
--- the types whose columns have a character set of the other list
+-- the types whose columns have a character set in the other list: ENUM and SET
 abbrev pub enum_or_set_group : Server → ColumnType → Bool
 enum_or_set_group s = is_enum_or_set

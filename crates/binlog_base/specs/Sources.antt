@@ -34,6 +34,7 @@ pub record Answers {Y : Type 0} (takes_memory : Bool) (f : Format Y) (result : R
   pub counts : CountsFailure result failures failures_after
   pub parses : OrMemoryIf takes_memory result (ParsesKnown f result (is_unfailed failures failures_after) old new)
 
+-- the answer of a call that takes no memory
 abbrev pub ReadsFrom : {Y : Type 0} → Format Y → Result Y Fault → Option (List ℕ) → Option (List ℕ) → ℕ → ℕ → Type 0
 ReadsFrom f result old new failures failures_after = Answers false f result old new failures failures_after
 

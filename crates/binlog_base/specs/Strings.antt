@@ -19,12 +19,14 @@ varlen_string = sequence varlen take_bytes
 unfoldable pub skip_bytes : ℕ → Format (Unit {0})
 skip_bytes n = map_value (take_bytes n) (λ _. tt)
 
--- the bytes that are written for a string that its kind can hold
+-- the bytes that are written for a string of at most 255 bytes, after its length in one byte
 unfoldable pub u8_string_bytes : List ℕ → List ℕ
 u8_string_bytes text = length text ∷ text
 
+-- the bytes that are written for a string, after its length-encoded length
 unfoldable pub lenenc_string_bytes : List ℕ → List ℕ
 lenenc_string_bytes text = lenenc_bytes (length text) ++ text
 
+-- the bytes that are written for a string of at most 2^32 - 1 bytes, after its VarLen length
 unfoldable pub varlen_string_bytes : List ℕ → List ℕ
 varlen_string_bytes text = varlen_bytes (length text) ++ text

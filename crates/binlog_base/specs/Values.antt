@@ -5,6 +5,7 @@ use Rattle.binlog_base.specs.declared.below.columns.column_type.ColumnType.{Colu
 use Rattle.binlog_base.specs.declared.below.columns.value.Value.{Value}
 use Rattle.binlog_base.specs.declared.below.columns.value.Value.TheVariants as value
 
+-- a value of a row; NULL is a value too
 pub data PlainValue : Type 0 where
   Null : PlainValue
   Bytes : (bytes : List ℕ) → PlainValue
@@ -15,6 +16,7 @@ pub data PlainValue : Type 0 where
   Date : (year : ℕ) (month : ℕ) (day : ℕ) (hour : ℕ) (minute : ℕ) (second : ℕ) (microseconds : ℕ) → PlainValue
   Time : (is_negative : Bool) (days : ℕ) (hours : ℕ) (minutes : ℕ) (seconds : ℕ) (microseconds : ℕ) → PlainValue
 
+-- the value, without its place in memory
 abbrev pub plain_of : Value → PlainValue
 plain_of value.NULL = Null
 plain_of (value.Bytes bytes) = Bytes bytes.items
@@ -47,6 +49,7 @@ pub record RowView : Type 0 where
   pub columns : List ColumnView
   pub values : List (Option PlainValue)
 
--- the value or cell at place i; None past the last place, or where there is no value
+-- the value or cell at index i, counted from 0; None past the last index, or where there is no
+-- value
 abbrev pub value_at : {V : Type 0} → List (Option V) → ℕ → Option V
 value_at values i = option_and_then (λ value. value) (slice_get values i)

@@ -3,6 +3,7 @@ use Rattle.std.specs.Prelude.{ℕ, List, [], ◌∷◌}
 use Rattle.binlog_consts.specs.declared.consts.event_type.EventType.{EventType}
 use Rattle.binlog_consts.specs.declared.consts.event_type.EventType.TheVariants as event
 
+-- the event types by their numbers
 abbrev pub event_types : List (ℕ × EventType)
 event_types =
     (0x00, event.UNKNOWN_EVENT)

@@ -1,6 +1,7 @@
 -- The group numbers of GTIDs.
 use Rattle.std.specs.Prelude.{ℕ, Bool, ◌-◌, ◌^◌, ◌==◌, ◌||◌, ◌&&◌, nat_le, nat_lt}
 
+-- the lowest number of a transaction that has a GTID
 abbrev pub min_gno : ℕ
 min_gno = 1
 

@@ -3,6 +3,7 @@ use Rattle.std.specs.Prelude.{ℕ, List, [], ◌∷◌}
 use Rattle.binlog_consts.specs.declared.consts.optional_metadata.OptionalMetadataFieldType.{OptionalMetadataFieldType}
 use Rattle.binlog_consts.specs.declared.consts.optional_metadata.OptionalMetadataFieldType.TheVariants as field
 
+-- the kinds of fields by their numbers; a whole field of any other number is skipped
 abbrev pub optional_metadata_field_types : List (ℕ × OptionalMetadataFieldType)
 optional_metadata_field_types =
     (1, field.SIGNEDNESS)

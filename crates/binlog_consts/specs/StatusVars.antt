@@ -3,6 +3,7 @@ use Rattle.std.specs.Prelude.{ℕ, List, [], ◌∷◌}
 use Rattle.binlog_consts.specs.declared.consts.status_var.StatusVarKey.{StatusVarKey}
 use Rattle.binlog_consts.specs.declared.consts.status_var.StatusVarKey.TheVariants as key
 
+-- the status variables by their keys
 abbrev pub status_var_keys : List (ℕ × StatusVarKey)
 status_var_keys =
     (0, key.Flags2)

@@ -3,7 +3,7 @@ use Rattle.std.specs.Prelude.{◌≡◌, ℕ, suc, ◌+◌, ◌-◌, ◌==◌, n
 use Rattle.binlog_base.specs.declared.fault.Fault.{Fault}
 use Rattle.binlog_table.specs.Charsets.{after, charsets, zero_without}
 
--- the character set of the column of place i, by the pairs and the list that are left after the
+-- the character set of column i of the group, by the pairs and the list that are left after the
 -- columns below low
 abbrev pub charset_from : ℕ → Option ℕ → List (Result (ℕ × ℕ) Fault) → List (Result ℕ Fault) → ℕ → Result (Option ℕ) Fault
 charset_from low default [] list i = after None default list (i - low)
@@ -13,6 +13,7 @@ charset_from low default (Ok p ∷ ps) list i =
     (if i == p.0 then Ok (Some p.1) else
     (if nat_lt i p.0 then Ok default else charset_from (suc p.0) default ps list i))
 
+-- the items of the columns of the group from column low on, and below column limit
 unfoldable pub charsets_left : ℕ → ℕ → Option ℕ → List (Result (ℕ × ℕ) Fault) → List (Result ℕ Fault) → List (Result ℕ Fault)
 charsets_left limit low default pairs list = charsets (charset_from low default pairs list) (limit - low) low
 
@@ -21,12 +22,13 @@ abbrev pub with_head : {A : Type 0} → Option A → List A → List A
 with_head None xs = xs
 with_head (Some x) xs = x ∷ xs
 
+-- where no pair was taken beforehand, none is left
 abbrev pub NoneLeft : {A B : Type 0} → Option A → List B → Type 0
 NoneLeft None xs = xs ≡ []
 NoneLeft (Some x) xs = Unit {0}
 
--- what is left of a group: the place of the next column, the default, the pairs and the list that
--- are left, how many items were taken of the two, and how many bytes of them are left
+-- what is left of a group: the index of the next column in the group, the default, the pairs and
+-- the list that are left, how many items were taken of the two, and how many bytes of them are left
 pub record CharsetsLeft : Type 0 where
   pub ordinal : ℕ
   pub default : Option ℕ
@@ -35,11 +37,11 @@ pub record CharsetsLeft : Type 0 where
   pub taken : ℕ
   pub room : ℕ
 
--- the character set of the column of place i
+-- the character set of column i of the group
 abbrev pub charset_of : CharsetsLeft → ℕ → Result (Option ℕ) Fault
 charset_of c i = charset_from c.ordinal c.default c.pairs c.list i
 
--- the same k columns after the next one, in a row
+-- the character set in a row of the column of the group that comes k columns after the next one
 abbrev pub row_charset : CharsetsLeft → ℕ → Result ℕ Fault
 row_charset c k = zero_without (charset_of c (c.ordinal + k))
 

@@ -57,6 +57,7 @@ abbrev pub chunk_of_type : Result ColumnType Fault → Format (List ℕ)
 chunk_of_type (Ok type) = type_chunk type
 chunk_of_type (Err e) = refusal e
 
+-- the chunk of a column with this type byte
 unfoldable pub chunk : ℕ → Format (List ℕ)
 chunk raw_type = chunk_of_type (column_type_of raw_type)
 
@@ -75,15 +76,17 @@ pub record HasChunk (types metadata : List ℕ) (i : ℕ) (last : List ℕ) : Ty
   pub count : length before ≡ i
   pub spelled : (chunks (take (suc i) types)).spells front (before ++ last ∷ [])
 
--- the chunk of column i as a function: the first column's chunk, or one in the metadata after it
+-- the chunk that was read, if it could be
 abbrev pub first_chunk : Result (List ℕ × List ℕ) Fault → Option (List ℕ)
 first_chunk (Ok r) = Some r.0
 first_chunk (Err e) = None
 
+-- what is found in the metadata after a chunk that could be read
 abbrev pub after_chunk : {A : Type 0} → Result (List ℕ × List ℕ) Fault → (List ℕ → Option A) → Option A
 after_chunk (Ok r) f = f r.1
 after_chunk (Err e) f = None
 
+-- the chunk of column i as a function: that of the first column, or one in the metadata after it
 abbrev pub chunk_at : List ℕ → List ℕ → ℕ → Option (List ℕ)
 chunk_at [] metadata i = None
 chunk_at (raw_type ∷ types) metadata zero = first_chunk ((chunk raw_type).parse metadata)
@@ -95,5 +98,6 @@ pub record ChunksLeft : Type 0 where
   pub types : List ℕ
   pub metadata : Option (List ℕ)
 
+-- the chunk of the column that comes i columns after the next one
 abbrev pub chunk_left : ChunksLeft → ℕ → Option (List ℕ)
 chunk_left left i = option_and_then (λ metadata. chunk_at left.types metadata i) left.metadata

@@ -43,6 +43,7 @@ real_type column.MYSQL_TYPE_DATE chunk = Ok column.MYSQL_TYPE_NEWDATE
 real_type column.MYSQL_TYPE_STRING chunk = string_type chunk
 real_type raw_type chunk = Ok raw_type
 
+-- the same from the result for the raw type, whose error is kept
 abbrev pub real_type_of : Result (Option ColumnType) UnknownColumnType → Option (List ℕ) → Result (Option ColumnType) BadColumnType
 real_type_of (Ok None) chunk = Ok None
 real_type_of (Ok (Some raw_type)) chunk = some_of (real_type raw_type chunk)

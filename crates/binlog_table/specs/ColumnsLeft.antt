@@ -16,36 +16,42 @@ use Rattle.binlog_table.specs.KeysLeft.{key_left}
 use Rattle.binlog_table.specs.CharsetsLeft.{row_charset}
 use Rattle.binlog_table.specs.TableColumns.{Column, Parts, column_by, columns_by, typed, named, charset_by}
 
+-- a column, without its place in memory
 abbrev pub seen_column : TableColumn → Column
 seen_column c = record { column_type = c.column_type; metadata = option_map (λ m. m.now) c.metadata; unsigned = c.unsigned; charset = c.charset; name = c.name; is_key = c.is_key; json_place = c.json_place }
 
--- a bit at the start, and those after it
+-- the sign bit of the next numeric column; false where none is left
 abbrev pub first_bit : List Bool → Bool
 first_bit [] = false
 first_bit (b ∷ bits) = b
 
+-- the sign bits after that one
 abbrev pub bits_after_first : List Bool → List Bool
 bits_after_first [] = []
 bits_after_first (b ∷ bits) = bits
 
--- the sign of the column j places after, by the raw types and the sign bits that are left
+-- the sign bits that are left after a column: a numeric column takes one
 abbrev pub bits_after : Bool → List Bool → List Bool
 bits_after true bits = bits_after_first bits
 bits_after false bits = bits
 
+-- whether a column is unsigned: a numeric column has the next sign bit
 abbrev pub bit_here : Bool → List Bool → Bool
 bit_here true bits = first_bit bits
 bit_here false bits = false
 
+-- whether the column that comes j columns after the next one is unsigned, by the type bytes and the
+-- sign bits that are left
 abbrev pub sign_left : Server → List ℕ → List Bool → ℕ → Bool
 sign_left server [] bits j = false
 sign_left server (raw ∷ types) bits zero = bit_here (is_numeric_number server raw) bits
 sign_left server (raw ∷ types) bits (suc j) = sign_left server types (bits_after (is_numeric_number server raw) bits) j
 
+-- the real type of the column that comes j columns after the next one
 abbrev pub type_left : Walk → ℕ → Result ColumnType Fault
 type_left w j = typed (real_type_of (raw_type_of (slice_get w.types.now j)) (chunk_left w.chunks j))
 
--- the parts of the columns that are left, each by how far the column is from the next one
+-- the parts of the columns that are left, each by how many columns after the next one it comes
 unfoldable pub parts_left : Walk → Parts
 parts_left w = record {
   type = type_left w;
@@ -67,20 +73,22 @@ pub record Follows (p q : Parts) : Type 0 where
   pub key : (j : ℕ) → q.key j ≡ p.key (suc j)
   pub json_place : (j : ℕ) → q.json_place j ≡ p.json_place (suc j)
 
--- the charset of a column of a type, by those of the next ordinals of the groups
+-- the character set of a column of a type, by those of the next columns of both groups; 0 for a
+-- type of neither
 abbrev pub charset_here : Server → ColumnType → Result ℕ Fault → Result ℕ Fault → Result ℕ Fault
 charset_here server type character enum = if character_group server type then character else (if enum_or_set_group server type then enum else Ok 0)
 
--- a group of which a column was asked, if it is in the group
+-- the character sets of a group before and after a column is read: if the column is in the group,
+-- one fewer is to come
 abbrev pub Advances : Bool → (ℕ → Result ℕ Fault) → (ℕ → Result ℕ Fault) → Type 0
 Advances true f g = (k : ℕ) → g k ≡ f (suc k)
 Advances false f g = (k : ℕ) → g k ≡ f k
 
--- the steps so far: one for each field, for each item of its lists, and for each column; and the most
--- that there can be without a further column, each item taking at least a byte
+-- the steps so far: one for each field, for each item of the lists, and for each column
 abbrev pub steps_of : Walk → ℕ
 steps_of w = w.fields + w.column + w.names.taken + w.keys.taken + w.characters.taken + w.enums.taken
 
+-- the most steps without a further column, because each item of the lists takes at least a byte
 abbrev pub most_of : Walk → ℕ
 most_of w = w.fields + w.column + (w.names.taken + length w.names.bytes) + (w.keys.taken + w.keys.room) + (w.characters.taken + w.characters.room) + (w.enums.taken + w.enums.room)
 
@@ -91,5 +99,6 @@ pub record HasRoom (w : Walk) : Type 0 where
   pub column : w.column + length w.types.now < 2 ^ 64
   pub json_place : w.json_place + length w.types.now < 2 ^ 64
 
+-- the columns that are left, up to the first with a fault
 unfoldable pub columns_left : Walk → List (Result Column Fault)
 columns_left w = columns_by (column_by (parts_left w)) (length w.types.now)

@@ -8,14 +8,17 @@ use Rattle.binlog_table.specs.Lists.{DefaultCharset, FieldsLeft, low_bits, pair_
 use Rattle.binlog_table.specs.Fields.{Kept, kept, fields, numeric_count}
 use Rattle.binlog_table.specs.CharsetsLeft.{CharsetsLeft}
 
+-- the bytes of a list, or the bits; none where the table has no such field
 abbrev pub list_or : {A : Type 0} → Option (List A) → List A
 list_or None = []
 list_or (Some x) = x
 
+-- the pairs of a column and a character set after a default character set; none without a default
 abbrev pub pairs_or : Option DefaultCharset → List (Result (ℕ × ℕ) Fault)
 pairs_or None = []
 pairs_or (Some d) = items (pair_with (low_bits 16)) d.pairs
 
+-- the bytes of these pairs
 abbrev pub pair_bytes : Option DefaultCharset → List ℕ
 pair_bytes None = []
 pair_bytes (Some d) = d.pairs
@@ -24,7 +27,7 @@ pair_bytes (Some d) = d.pairs
 abbrev pub kept_bytes : Kept → ℕ
 kept_bytes k = length (list_or k.names) + length (list_or k.simple) + length (list_or k.prefixed) + length (pair_bytes k.default) + length (list_or k.charsets) + length (pair_bytes k.enum_default) + length (list_or k.enum_charsets)
 
--- what is left of the charsets of a group when none was taken
+-- what is left of the character sets of a group when none was taken
 pub record IsStart (d : Option DefaultCharset) (ns : Option (List ℕ)) (c : CharsetsLeft) : Type 0 where
   pub ordinal : c.ordinal ≡ 0
   pub default : c.default ≡ option_map (λ f. f.default) d
@@ -33,9 +36,11 @@ pub record IsStart (d : Option DefaultCharset) (ns : Option (List ℕ)) (c : Cha
 
 -- ---- by the table map event alone
 
+-- the optional metadata of an event, of which nothing was taken
 abbrev pub fields_of : TableMap → FieldsLeft
 fields_of t = record { numeric = numeric_count t.server t.types; columns = t.columns_count; left = record { bytes = t.optional_metadata; taken = 0 } }
 
+-- the fields that describe the columns: the last one of each kind before the first faulty field
 abbrev pub kept_of : TableMap → Kept
 kept_of t = kept (before_fault (fields (fields_of t)))
 

@@ -19,13 +19,13 @@ use Rattle.binlog_table.specs.declared.table_map.optional.fields.OptionalMetadat
 use Rattle.binlog_table.specs.declared.table_map.optional.fields.OptionalMetadataField.TheVariants as field
 use Rattle.binlog_table.specs.Lists.{DefaultCharset, default_charset, RawField, raw_field, FieldsLeft}
 
--- a value all of whose bytes were read
+-- the value, if all bytes were read; BytesRemaining if some are left
 abbrev pub whole : {A : Type 0} → Result (A × List ℕ) Fault → Result A Fault
 whole (Ok (a, [])) = Ok a
 whole (Ok (a, b ∷ left)) = Err BytesRemaining
 whole (Err e) = Err e
 
--- one bit for each of so many columns, and nothing after them
+-- one bit for each of `count` columns, and nothing after them
 abbrev pub bits_for : ℕ → List ℕ → Result (List Bool) Fault
 bits_for count value = whole ((bit_list MostSignificantFirst count).parse value)
 
@@ -33,7 +33,7 @@ bits_for count value = whole ((bit_list MostSignificantFirst count).parse value)
 abbrev pub default_charset_in : List ℕ → Result DefaultCharset Fault
 default_charset_in value = default_charset.parse value >>= λ r. Ok r.0
 
--- the field of a kind with this value, for a table with so many numeric columns, and so many
+-- the field of a kind with this value, for a table with `numeric` numeric columns and `columns`
 -- columns in all
 abbrev pub value_of : ℕ → ℕ → OptionalMetadataFieldType → List ℕ → Result OptionalMetadataField Fault
 value_of numeric columns kind.SIGNEDNESS value = bits_for numeric value >>= λ bits. Ok (field.Signedness bits)
@@ -50,6 +50,8 @@ value_of numeric columns kind.ENUM_AND_SET_COLUMN_CHARSET value = Ok (field.Enum
 value_of numeric columns kind.COLUMN_VISIBILITY value = bits_for columns value >>= λ bits. Ok (field.ColumnVisibility bits)
 value_of numeric columns kind.VECTOR_DIMENSIONALITY value = Ok (field.Dimensionality value)
 
+-- the field that the type byte and the value make, for a table with `numeric` numeric columns and
+-- `columns` columns in all; UnknownOptionalField for a kind that isn't known
 unfoldable pub field_of : ℕ → ℕ → RawField → Result OptionalMetadataField Fault
 field_of numeric columns raw = from_table optional_metadata_field_types UnknownOptionalField raw.kind >>= λ k. value_of numeric columns k raw.value
 
@@ -74,15 +76,17 @@ AreFields f found = (raw : List (Result RawField Fault)) × AreItems raw_field f
 
 -- ---- the fields that are kept
 
+-- the first, or the other where there is none
 abbrev pub or_else : {A : Type 0} → Option A → Option A → Option A
 or_else (Some x) other = Some x
 or_else None other = other
 
--- the last one of a kind
+-- what the last field of a kind holds
 abbrev pub last_of : {A : Type 0} → (OptionalMetadataField → Option A) → List OptionalMetadataField → Option A
 last_of of_kind [] = None
 last_of of_kind (f ∷ fs) = or_else (last_of of_kind fs) (of_kind f)
 
+-- what a field holds, if it is of this kind; and so for the other kinds below
 abbrev pub signs_in : OptionalMetadataField → Option (List Bool)
 signs_in (field.Signedness bits) = Some bits
 signs_in _ = None
@@ -115,7 +119,7 @@ abbrev pub enum_charsets_in : OptionalMetadataField → Option (List ℕ)
 enum_charsets_in (field.EnumAndSetColumnCharset x) = Some x
 enum_charsets_in _ = None
 
--- the last field of each kind
+-- what the last field of each kind holds
 pub record Kept : Type 0 where
   pub signs : Option (List Bool)
   pub default : Option DefaultCharset
@@ -126,18 +130,21 @@ pub record Kept : Type 0 where
   pub enum_default : Option DefaultCharset
   pub enum_charsets : Option (List ℕ)
 
+-- what is kept of these fields
 abbrev pub kept : List OptionalMetadataField → Kept
 kept fs = record { signs = last_of signs_in fs; default = last_of default_in fs; charsets = last_of charsets_in fs; names = last_of names_in fs; simple = last_of simple_in fs; prefixed = last_of prefixed_in fs; enum_default = last_of enum_default_in fs; enum_charsets = last_of enum_charsets_in fs }
 
 -- ---- the columns with a sign bit
 
+-- whether a type is known, and in the group
 abbrev pub in_group : (ColumnType → Bool) → Result ColumnType Fault → Bool
 in_group group (Ok type) = group type
 in_group group (Err e) = false
 
--- whether a raw type is known, and numeric to the server
+-- whether a type byte is the number of a type that is numeric to the server
 unfoldable pub is_numeric_number : Server → ℕ → Bool
 is_numeric_number server raw = in_group (numeric_group server) (column_type_of raw)
 
+-- how many columns with these type bytes have a sign bit
 abbrev pub numeric_count : Server → List ℕ → ℕ
 numeric_count server types = count_by (is_numeric_number server) types

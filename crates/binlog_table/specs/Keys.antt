@@ -3,7 +3,8 @@ use Rattle.std.specs.Prelude.{◌≡◌, ℕ, suc, ◌≤◌, ◌==◌, ◌&&◌
 use Rattle.binlog_base.specs.declared.fault.Fault.{Fault}
 use Rattle.binlog_base.specs.Items.{before_fault, first_fault, result_map}
 
--- the items of a key: those of the list without prefixes, then the columns of the list with prefixes
+-- the items of a key: those of the list without prefixes, then the columns of the list with
+-- prefixes
 abbrev pub key_items : List (Result ℕ Fault) → List (Result (ℕ × ℕ) Fault) → List (Result ℕ Fault)
 key_items simple prefixed = simple ++ map (λ r. result_map (λ k. k.0) r) prefixed
 
@@ -12,6 +13,7 @@ abbrev pub increasing_from : ℕ → List ℕ → List ℕ
 increasing_from low [] = []
 increasing_from low (n ∷ ns) = if nat_lt n low then [] else n ∷ increasing_from (suc n) ns
 
+-- the longest strictly increasing prefix
 abbrev pub increasing_prefix : List ℕ → List ℕ
 increasing_prefix ns = increasing_from 0 ns
 
@@ -24,6 +26,7 @@ abbrev pub contains : ℕ → List ℕ → Bool
 contains i [] = false
 contains i (n ∷ ns) = i == n || contains i ns
 
+-- the value, or the fault where there is one
 abbrev pub unless : {A : Type 0} → Option Fault → A → Result A Fault
 unless None x = Ok x
 unless (Some e) x = Err e

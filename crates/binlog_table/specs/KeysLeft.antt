@@ -24,6 +24,7 @@ abbrev pub IsHeadFirst : Option (Result ℕ Fault) → List (Result ℕ Fault) �
 IsHeadFirst None simple prefixed = (simple ≡ []) × (prefixed ≡ [])
 IsHeadFirst (Some x) simple prefixed = Unit {0}
 
+-- the first item, if there is one
 abbrev pub head_of : {A : Type 0} → List A → Option A
 head_of [] = None
 head_of (x ∷ xs) = Some x
@@ -40,6 +41,6 @@ key_from low [] i = Ok false
 key_from low (Err e ∷ xs) i = if i == low then Err e else Ok false
 key_from low (Ok n ∷ xs) i = if nat_lt n low then Ok false else (if i == n then Ok true else key_from (suc n) xs i)
 
--- the same for the column j places after
+-- the same for the column that comes j columns after this one
 abbrev pub key_left : ℕ → List (Result ℕ Fault) → ℕ → Result Bool Fault
 key_left column keys j = key_from column keys (column + j)

@@ -18,6 +18,7 @@ pub record Spends (old_taken old_room new_taken new_room : ℕ) : Type 0 where
   pub more : old_taken ≤ new_taken
   pub bounded : new_taken + new_room ≤ old_taken + old_room
 
+-- 1 for an item, 0 for none
 abbrev pub count_of : {A : Type 0} → Option A → ℕ
 count_of None = 0
 count_of (Some x) = 1
@@ -43,7 +44,7 @@ pub record RawField : Type 0 where
 unfoldable pub raw_field : Format RawField
 raw_field = sequence (little_endian 1) (λ kind. map_value lenenc_string (λ value. record { kind = kind; value = value }))
 
--- the fields that are left, for a table with so many numeric columns, and so many columns in all
+-- the fields that are left, for a table with `numeric` numeric columns and `columns` columns in all
 pub record FieldsLeft : Type 0 where
   pub numeric : ℕ
   pub columns : ℕ

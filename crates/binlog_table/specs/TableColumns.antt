@@ -30,7 +30,7 @@ pub record Column : Type 0 where
   pub is_key : Bool
   pub json_place : ℕ
 
--- the parts of the columns, each by the number of the column
+-- the parts of the columns, each by the index of the column
 pub record Parts : Type 0 where
   pub type : ℕ → Result ColumnType Fault
   pub chunk : ℕ → Option (List ℕ)
@@ -40,7 +40,7 @@ pub record Parts : Type 0 where
   pub key : ℕ → Result Bool Fault
   pub json_place : ℕ → ℕ
 
--- column i, or its first fault: of its type, its charset, its name, its key
+-- column i, or its first fault: of its type, its character set, its name, its key
 abbrev pub column_by : Parts → ℕ → Result Column Fault
 column_by p i =
     p.type i >>= λ type. p.charset i >>= λ charset. p.name i >>= λ name. p.key i >>= λ is_key.
@@ -54,28 +54,31 @@ pub record ToCome : Type 0 where
   pub steps : ℕ
   pub most : ℕ
 
--- the first n columns, in order, up to the first fault
+-- a column, and those after it; none follows a fault
 abbrev pub column_then : Result Column Fault → List (Result Column Fault) → List (Result Column Fault)
 column_then (Ok c) more = Ok c ∷ more
 column_then (Err e) more = Err e ∷ []
 
+-- the first n columns, in order, up to the first with a fault
 abbrev pub columns_by : (ℕ → Result Column Fault) → ℕ → List (Result Column Fault)
 columns_by f zero = []
 columns_by f (suc n) = column_then (f 0) (columns_by (λ i. f (suc i)) n)
 
 -- ---- one part after another
 
+-- the real type, or the fault of the column: NoColumnType past the table
 abbrev pub typed : Result (Option ColumnType) BadColumnType → Result ColumnType Fault
 typed (Ok (Some type)) = Ok type
 typed (Ok None) = Err NoColumnType
 typed (Err e) = Err (fault_of e)
 
--- the i-th name, if there are so many
+-- the name of column i, or its fault; None after the end of the list
 abbrev pub named : List (Result (List ℕ) Fault) → ℕ → Result (Option (List ℕ)) Fault
 named [] i = Ok None
 named (x ∷ xs) zero = result_map Some x
 named (x ∷ xs) (suc i) = named xs i
 
+-- whether column i is numeric to the server, by its type byte
 abbrev pub is_numeric_at : Server → List ℕ → ℕ → Bool
 is_numeric_at server [] i = false
 is_numeric_at server (raw ∷ types) zero = is_numeric_number server raw
@@ -85,39 +88,46 @@ is_numeric_at server (raw ∷ types) (suc i) = is_numeric_at server types i
 abbrev pub sign_in : Server → List ℕ → List Bool → ℕ → Bool
 sign_in server types bits i = is_numeric_at server types i && slice_index_or bits (numeric_count server (take i types)) false
 
--- the place of column i in a group of types: how many columns before it are in the group
+-- one more, if the column is in the group
 abbrev pub one_more : Bool → ℕ → ℕ
 one_more true n = suc n
 one_more false n = n
 
+-- the index of column i in a group of types: how many columns before it are in the group
 abbrev pub ordinal_of : (ColumnType → Bool) → (ℕ → Result ColumnType Fault) → ℕ → ℕ
 ordinal_of group type zero = 0
 ordinal_of group type (suc i) = one_more (in_group group (type 0)) (ordinal_of group (λ k. type (suc k)) i)
 
--- the charset of column i, by those of the places of two groups of the server; a column of neither
--- has 0
+-- the character set of column i, by those of the columns of the server's two groups; 0 for a column
+-- of neither
 abbrev pub charset_by : Server → (ℕ → Result ℕ Fault) → (ℕ → Result ℕ Fault) → (ℕ → Result ColumnType Fault) → ℕ → Result ℕ Fault
 charset_by server characters enums type i =
     if in_group (character_group server) (type i) then characters (ordinal_of (character_group server) type i) else
     (if in_group (enum_or_set_group server) (type i) then enums (ordinal_of (enum_or_set_group server) type i) else Ok 0)
 
+-- the character set in a row of column k of a group, by the two fields of the group
 abbrev pub charset_of_group : Option DefaultCharset → Option (List ℕ) → ℕ → Result ℕ Fault
 charset_of_group d list k = zero_without (charset_in (option_map (λ d. d.default) d) (pairs_or d) (items (low_bits 16) (list_or list)) k)
 
 -- ---- by the table map event alone
 
+-- the real type of column i
 abbrev pub type_at : TableMap → ℕ → Result ColumnType Fault
 type_at t i = typed (column_type_at t.types t.metadata i)
 
+-- whether the numbers of column i are unsigned
 abbrev pub sign_at : TableMap → ℕ → Bool
 sign_at t i = sign_in t.server t.types (list_or (kept_of t).signs) i
 
+-- the character set of column i
 abbrev pub charset_at : TableMap → ℕ → Result ℕ Fault
 charset_at t i = charset_by t.server (charset_of_group (kept_of t).default (kept_of t).charsets) (charset_of_group (kept_of t).enum_default (kept_of t).enum_charsets) (type_at t) i
 
+-- the name of column i, if it has one
 abbrev pub name_at : TableMap → ℕ → Result (Option (List ℕ)) Fault
 name_at t i = named (items lenenc_string (list_or (kept_of t).names)) i
 
+-- whether column i is a key column
 abbrev pub key_at : TableMap → ℕ → Result Bool Fault
 key_at t i =
     key_in (key_items (items lenenc (list_or (kept_of t).simple)) (items (pair_with lenenc) (list_or (kept_of t).prefixed))) i
@@ -125,13 +135,15 @@ key_at t i =
 abbrev pub parts_of : TableMap → Parts
 parts_of t = record { type = type_at t; chunk = chunk_at t.types t.metadata; sign = sign_at t; charset = charset_at t; name = name_at t; key = key_at t; json_place = λ i. json_count (take i t.types) }
 
+-- column i, or its first fault
 unfoldable pub column_at : TableMap → ℕ → Result Column Fault
 column_at t i = column_by (parts_of t) i
 
--- the columns up to the first fault; none where a field of the optional metadata is faulty
+-- none where there is a fault
 abbrev pub unless_faulty : {A : Type 0} → Option Fault → List A → List A
 unless_faulty None xs = xs
 unless_faulty (Some e) xs = []
 
+-- the columns up to the first with a fault; none where a field of the optional metadata is faulty
 abbrev pub table_columns : TableMap → List (Result Column Fault)
 table_columns t = unless_faulty (field_fault t) (columns_by (column_at t) (length t.types))

@@ -34,9 +34,9 @@ of_server server t = record t { server = server }
 abbrev pub without_id : TableMap → TableMap
 without_id t = record t { table_id = 0; flags = 0 }
 
--- The parts of a server's event, one after the other: table id, flags, database, any byte, table, any
--- byte, the count of the columns, a type byte for each, the columns' metadata, a null bit for each,
--- and the optional metadata to the end.
+-- The parts of a server's event, one after the other: table id, flags, database, any byte, table,
+-- any byte, the count of the columns, a type byte for each, the columns' metadata, a null bit for
+-- each, and the optional metadata to the end.
 unfoldable pub table_map_of : Server → ℕ → Format TableMap
 table_map_of server post_header_len =
     sequence (table_id post_header_len) (λ id.

@@ -6,9 +6,8 @@ use Rattle.binlog_base.specs.Strings.{u8_string_bytes, lenenc_string_bytes}
 use Rattle.binlog_base.specs.Bits.{bitmap_len}
 use Rattle.binlog_table.specs.TableMap.{TableMap}
 
--- Which parts an event can have: a type byte for each column and a null bit for each, in as many
--- bytes as they take, names
--- whose length is one byte, and numbers of their widths.
+-- Which parts an event can have: a type byte and a null bit for each column, names whose length
+-- fits in one byte, and numbers of their widths.
 pub record IsTableMap (t : TableMap) : Type 0 where
   pub table_id : t.table_id < 256 ^ 6
   pub flags : t.flags < 256 ^ 2

@@ -8,11 +8,12 @@ abbrev pub low_digits : ℕ → ℕ → ℕ → List ℕ
 low_digits base zero n = []
 low_digits base (suc count) n = low_digits base count (n / base) ++ (n % base) ∷ []
 
--- how many digits groups of these sizes have, and how many bytes they take
+-- how many digits groups of these sizes have
 abbrev pub digits_in : List ℕ → ℕ
 digits_in [] = 0
 digits_in (size ∷ sizes) = size + digits_in sizes
 
+-- how many bytes groups of these sizes take
 abbrev pub bytes_in : List ℕ → ℕ
 bytes_in [] = 0
 bytes_in (size ∷ sizes) = group_width size + bytes_in sizes

@@ -29,15 +29,16 @@ EqualWherePackedAlike = (a b : DecimalView) → (slice_cmp nat_cmp (packed_bytes
 abbrev pub value_of : DecimalView → ℕ
 value_of d = number_from_digits 10 (d.integer ++ d.fraction)
 
--- the order of two numbers by their signs (true is a minus) and absolute values; negative zero is just
--- below zero
+-- the order of two numbers by their signs (true is a minus) and absolute values; negative zero is
+-- just below zero
 abbrev pub signed_order : Bool → ℕ → Bool → ℕ → Ordering
 signed_order false m false n = nat_cmp m n
 signed_order true m true n = nat_cmp n m
 signed_order true m false n = Less
 signed_order false m true n = Greater
 
--- decimals with the same counts of digits before the point and after it are ordered as their numbers
+-- decimals with the same counts of digits before the point and after it are ordered as their
+-- numbers
 abbrev pub OrderedAsNumbers : Type 0
 OrderedAsNumbers = (a b : DecimalView) → IsDecimal a → IsDecimal b → length a.integer ≡ length b.integer → length a.fraction ≡ length b.fraction
     → slice_cmp nat_cmp (packed_bytes a) (packed_bytes b) ≡ signed_order a.negative (value_of a) b.negative (value_of b)

@@ -11,13 +11,15 @@ use Rattle.binlog_values.specs.DecimalMasks.{masked_bytes}
 abbrev pub group_left : Group → List ℕ
 group_left g = drop g.start g.bytes
 
--- the bytes of the groups that are left, without the sign encoding and with it
+-- the bytes of the groups that are left, without the sign encoding
 abbrev pub plain_left : Groups → List ℕ
 plain_left s = grouped_bytes (integer_groups (length s.integer.now)) s.integer.now ++ grouped_bytes (fraction_groups (length s.fraction.now)) s.fraction.now
 
+-- the bytes of the groups that are left, with the sign encoding
 abbrev pub groups_left : Groups → List ℕ
 groups_left s = masked_bytes s.negative s.first (plain_left s)
 
+-- the digits that are left are from 0 to 9
 abbrev pub AreDigits : Groups → Type 0
 AreDigits s = AllBelowBase 10 s.integer.now × AllBelowBase 10 s.fraction.now
 

@@ -8,12 +8,15 @@ use Rattle.binlog_values.specs.declared.decimal.parse.ParseDecimalError.TheVaria
 
 -- ---- the texts that are read, as bytes
 
+-- a character from `0` to `9`
 abbrev pub is_digit : ℕ → Bool
 is_digit c = nat_le 48 c && nat_le c 57
 
+-- the character `0`
 abbrev pub is_zero : ℕ → Bool
 is_zero c = c == 48
 
+-- the character `.`
 abbrev pub is_point : ℕ → Bool
 is_point c = c == 46
 
@@ -61,19 +64,23 @@ decimal_of_text text = signed_decimal (without_leading_zeros text)
 abbrev pub shown_digits : List ℕ → List ℕ
 shown_digits digits = drop (min (length (take_while (λ d. d == 0) digits)) ((length digits - 1) % 9)) digits
 
+-- the digits before the point as text; `0` where there are none
 abbrev pub integer_text : List ℕ → List ℕ
 integer_text [] = 48 ∷ []
 integer_text (d ∷ ds) = flat_map decimal (shown_digits (d ∷ ds))
 
+-- a point and the digits after it as text; nothing where there are none
 abbrev pub fraction_digits_text : List ℕ → List ℕ
 fraction_digits_text [] = []
 fraction_digits_text (d ∷ ds) = 46 ∷ flat_map decimal (d ∷ ds)
 
+-- the text of a decimal: a minus if it is negative, the digits before the point, and the point with
+-- those after it
 unfoldable pub decimal_text : DecimalView → List ℕ
 decimal_text d = sign_text d.negative ++ (integer_text d.integer ++ fraction_digits_text d.fraction)
 
 -- The result is the decimal of the text; or the text has none, with the error Invalid; or memory
--- could not be allocated.
+-- was refused.
 abbrev pub ReadsText : Result DecimalView ParseDecimalError → Option DecimalView → Type 0
 ReadsText (Ok d) value = value ≡ Some d
 ReadsText (Err e) value = e ≢ Memory → (e ≡ Invalid) × (value ≡ None)

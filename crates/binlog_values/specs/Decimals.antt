@@ -20,12 +20,13 @@ IsDecimal d = AllBelowBase 10 d.integer × AllBelowBase 10 d.fraction × (0 < le
 abbrev pub group_width : ℕ → ℕ
 group_width digits = min ((digits + 1) / 2) 4
 
--- The sizes of the groups that n digits are cut into: groups of nine, and one short group of the
--- remaining digits, which is first before the point and last after it. A short group may have no
--- digits, and then takes no bytes.
+-- The sizes of the groups that n digits before the point are cut into: one short group of the
+-- remaining digits, and then groups of nine. A short group may have no digits, and then takes no
+-- bytes.
 abbrev pub integer_groups : ℕ → List ℕ
 integer_groups n = (n % 9) ∷ replicate (n / 9) 9
 
+-- the sizes of the groups of n digits after the point, where the short group is the last
 abbrev pub fraction_groups : ℕ → List ℕ
 fraction_groups n = replicate (n / 9) 9 ++ (n % 9) ∷ []
 
@@ -42,6 +43,7 @@ grouped_bytes (size ∷ sizes) digits = group_bytes (take size digits) ++ groupe
 abbrev pub digits_size : ℕ → ℕ
 digits_size n = 4 * (n / 9) + group_width (n % 9)
 
+-- how many bytes a decimal with that many digits before and after the point takes
 abbrev pub packed_size : ℕ → ℕ → ℕ
 packed_size integer fraction = digits_size integer + digits_size fraction
 
@@ -81,11 +83,12 @@ without_zero_groups [] digits = digits
 without_zero_groups (size ∷ sizes) digits =
     if list_all (λ d. d == 0) (take size digits) then without_zero_groups sizes (drop size digits) else digits
 
--- A decimal without the groups at its start that are all zeros; positive zero of one digit if no
--- digit is left.
+-- positive zero of one digit where no digit is left
 abbrev pub or_zero : DecimalView → DecimalView
 or_zero d = if length d.integer + length d.fraction == 0 then zero_decimal else d
 
+-- a decimal without the groups at its start that are all zeros; positive zero of one digit where no
+-- digit is left
 unfoldable pub trimmed_decimal : DecimalView → DecimalView
 trimmed_decimal d = or_zero (record d { integer = without_zero_groups (integer_groups (length d.integer)) d.integer })
 

@@ -10,6 +10,7 @@ use Rattle.binlog_values.specs.declared.jsondiff.JsonDiffOperation.{JsonDiffOper
 use Rattle.binlog_values.specs.declared.jsondiff.JsonDiffOperation.TheVariants as operation
 use Rattle.binlog_values.specs.JsonbValues.{JsonbValue, json}
 
+-- the operations by their numbers
 abbrev pub diff_operations : List (ℕ × JsonDiffOperation)
 diff_operations = (0, operation.REPLACE) ∷ (1, operation.INSERT) ∷ (2, operation.REMOVE) ∷ []
 
@@ -23,6 +24,7 @@ pub record Diff : Type 0 where
   pub path : List ℕ
   pub value : Option JsonbValue
 
+-- whether a diff of the operation has a value
 abbrev pub has_value : JsonDiffOperation → Bool
 has_value operation.REMOVE = false
 has_value _ = true

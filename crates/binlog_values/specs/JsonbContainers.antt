@@ -7,16 +7,19 @@ use Rattle.std.specs.Prelude.{⊤}
 use Rattle.binlog_values.specs.JsonbValues.{Frame, JsonbValue, scalar, nested}
 use Rattle.binlog_values.specs.JsonbViews.{view_of}
 
+-- the container, whatever its kind and format
 abbrev pub frame : Container → Frame
 frame (container.SmallArray c) = c
 frame (container.LargeArray c) = c
 frame (container.SmallObject c) = c
 frame (container.LargeObject c) = c
 
+-- the value isn't a container
 abbrev pub IsScalar : JsonbValue → Type 0
 IsScalar (scalar s) = ⊤
 IsScalar (nested c) = ⊥
 
+-- the value of an entry, without its place in memory
 abbrev pub node_view : Node → JsonbValue
 node_view (node.Container c) = nested (frame c)
 node_view (node.Scalar v) = view_of v

@@ -18,7 +18,7 @@ mutual
     no_entries : Entries
     entry : (key : Result (List ℕ) Fault) (value : Document) (later : Entries) → Entries
 
--- n entries from place i on
+-- n entries from index i on
 abbrev pub entries : (ℕ → Result (List ℕ) Fault) → (ℕ → Document) → ℕ → ℕ → Entries
 entries key value zero i = no_entries
 entries key value (suc n) i = entry (key i) (value i) (entries key value n (suc i))
@@ -29,7 +29,7 @@ layer child (Err f) = faulty f
 layer child (Ok (scalar s)) = single s
 layer child (Ok (nested c)) = opened c (entries (entry_key c) (λ i. child (element_at c i)) c.count 0)
 
--- so many levels
+-- the first n levels
 unfoldable pub unfold_to : ℕ → Result JsonbValue Fault → Document
 unfold_to zero r = faulty UnexpectedEof
 unfold_to (suc n) r = layer (unfold_to n) r
@@ -40,15 +40,16 @@ size_of (Err f) = 0
 size_of (Ok (scalar s)) = 0
 size_of (Ok (nested c)) = suc (length c.bytes)
 
--- The document of what is read. It is one level, with the documents of its entries below it: the law
--- `documents_unfold` says so.
+-- The document of what is read. It is one level, with the documents of its entries below it: the
+-- law `documents_unfold` says so.
 unfoldable pub document_of : Result JsonbValue Fault → Document
 document_of r = unfold_to (suc (size_of r)) r
 
--- the entries of a container from place i on, n of them, and all of them
+-- the entries of a container from index i on, n of them
 abbrev pub entries_from : Frame → ℕ → ℕ → Entries
 entries_from c i n = entries (entry_key c) (λ j. document_of (element_at c j)) n i
 
+-- all entries of a container
 abbrev pub entries_of : Frame → Entries
 entries_of c = entries_from c 0 c.count
 
@@ -78,14 +79,15 @@ abbrev mutual
 
 -- ---- the positions
 
--- a position: its path (the places that lead to it from the root), its key and its value
+-- a position: its path (the indexes of the entries that lead to it from the root), its key and its
+-- value
 pub record Position : Type 0 where
   pub path : List ℕ
   pub key : Result (List ℕ) Fault
   pub value : Document
 
 -- the positions inside a document, in document order: each before those inside it, and entries by
--- their places
+-- their indexes
 abbrev mutual
   pub inside : List ℕ → Document → List Position
   inside path (faulty f) = []
@@ -96,17 +98,17 @@ abbrev mutual
   inside_from path i no_entries = []
   inside_from path i (entry k d es) = record { path = path ++ i ∷ []; key = k; value = d } ∷ inside (path ++ i ∷ []) d ++ inside_from path (suc i) es
 
--- all positions, the root first: a position's number is its place in this list
+-- all positions, the root first: a position's number is its index in this list
 abbrev pub positions : Document → List Position
 positions d = record { path = []; key = Ok []; value = d } ∷ inside [] d
 
 -- ---- the first fault
 
--- at most so many containers are nested
+-- how many containers may be nested
 abbrev pub max_depth : ℕ
 max_depth = 100
 
--- at most so many values are beside the root: one for three bytes of the root container
+-- how many values may be beside the root: one for three bytes of the root container
 abbrev pub limit_of : JsonbValue → ℕ
 limit_of (scalar s) = 0
 limit_of (nested c) = length c.bytes / 3
@@ -122,16 +124,18 @@ found limit n (Ok k) (faulty f) = Err f
 found limit n (Ok k) (single s) = in_limit limit n (Ok k)
 found limit n (Ok k) (opened c es) = in_limit limit n (Ok k)
 
+-- the fault of a result, if it is one
 abbrev pub fault_of : {A E : Type 0} → Result A E → Option E
 fault_of (Ok x) = None
 fault_of (Err f) = Some f
 
+-- the first, or the second where there is no first
 abbrev pub option_or : {A : Type 0} → Option A → Option A → Option A
 option_or None y = y
 option_or (Some x) y = Some x
 
--- the fault of a value with so many containers around it: that of a container's nesting, or that of a
--- scalar in the tree
+-- the fault of a value with `level` containers around it: that of a container's nesting, or that of
+-- a scalar in the tree
 abbrev pub fault_inside : ℕ → Document → Option Fault
 fault_inside level (faulty f) = Some f
 fault_inside level (single s) = fault_of (tree_scalar s)

@@ -13,12 +13,14 @@ use Rattle.binlog_values.specs.JsonbValues.{JsonbValue}
 use Rattle.binlog_values.specs.JsonbValues as jsonb
 use Rattle.binlog_values.specs.JsonbTrees.{tree_scalar, TreeScalar, null, boolean, int, uint, double, decimal, date_time, text, opaque, Tree, merged, Data, plain, array, object, Items, no_items, item, Members, no_members, member}
 
+-- the number as a scalar of a tree
 abbrev pub number_view : JsonNumber → TreeScalar
 number_view (number.Decimal d) = decimal d
 number_view (number.Double bits) = double bits
 number_view (number.Int n) = int n
 number_view (number.Uint n) = uint n
 
+-- the scalar of a tree, without its place in memory
 abbrev pub scalar_view : JsonScalar → TreeScalar
 scalar_view scalar.Null = null
 scalar_view (scalar.Boolean b) = boolean b
@@ -32,14 +34,17 @@ abbrev pub GivesScalar : Result JsonScalar Fault → Result TreeScalar Fault →
 GivesScalar (Ok s) r = r ≡ Ok (scalar_view s)
 GivesScalar (Err f) r = f ≢ Memory → r ≡ Err f
 
+-- the answer is what the value is in a tree; the value is a scalar
 abbrev pub IsScalarOf : Result JsonScalar Fault → JsonbValue → Type 0
 IsScalarOf answer (jsonb.scalar s) = GivesScalar answer (tree_scalar s)
 IsScalarOf answer (jsonb.nested c) = ⊥
 
+-- the items of an array, each already seen as its data
 abbrev pub items_of : List Data → Items
 items_of [] = no_items
 items_of (d ∷ ds) = item d (items_of ds)
 
+-- the members of an object, each already seen as its data
 abbrev pub members_of : List (String Global × Data) → Members
 members_of [] = no_members
 members_of (m ∷ ms) = member (string_bytes m.0) m.1 (members_of ms)
@@ -53,12 +58,15 @@ abbrev pub dom_step : JsonDom-F Data Data → Data
 dom_step (JsonDom-F.Container c) = c
 dom_step (JsonDom-F.Scalar s) = plain (scalar_view s)
 
+-- the tree of the code, without its place in memory
 abbrev pub dom_view : JsonDom → Data
 dom_view = fold-JsonDom Data Data container_step dom_step
 
+-- the items of an array of the code
 abbrev pub items_view : List JsonDom → Items
 items_view ds = items_of (map dom_view ds)
 
+-- the members of an object of the code
 abbrev pub members_view : List (String Global × JsonDom) → Members
 members_view ms = members_of (map (λ m. (m.0, dom_view m.1)) ms)
 

@@ -4,12 +4,12 @@ use Rattle.binlog_base.specs.declared.fault.Fault.{Fault}
 use Rattle.binlog_base.specs.Format.{◌>>=◌}
 use Rattle.binlog_values.specs.JsonbValues.{Frame, JsonbValue, element_at, key_at}
 
--- n of them, from place i on; those after a faulty one follow it
+-- the results for n indexes from i on; those after a faulty one follow it
 abbrev pub places : {A : Type 0} → (ℕ → Result A Fault) → ℕ → ℕ → List (Result A Fault)
 places f zero i = []
 places f (suc n) i = f i ∷ places f n (suc i)
 
--- all from place i on
+-- the results for all indexes of a container from i on
 abbrev pub from : {A : Type 0} → (Frame → ℕ → Result A Fault) → Frame → ℕ → List (Result A Fault)
 from f c i = places (f c) (c.count - i) i
 

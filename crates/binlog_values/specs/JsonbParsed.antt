@@ -10,6 +10,7 @@ use Rattle.binlog_values.specs.JsonbHeaders.{headers, AreDisjoint}
 use Rattle.binlog_values.specs.JsonbContainers.{IsScalar}
 use Rattle.binlog_values.specs.JsonbDoms.{IsTree, IsGiven}
 
+-- the value with all that is inside it
 abbrev pub document : JsonbValue → Document
 document value = document_of (Ok value)
 
@@ -25,7 +26,7 @@ IsWithinLimits value = (depth (document value) ≤ max_depth) × (weight (docume
 abbrev pub HasFault : Fault → Position → Type 0
 HasFault f p = (p.key ≡ Err f) ⊎ (fault_inside 0 p.value ≡ Some f)
 
--- one of the positions is so
+-- one of the positions has the property
 abbrev pub SomeOf : (Position → Type 0) → List Position → Type 0
 SomeOf P [] = ⊥
 SomeOf P (p ∷ ps) = P p ⊎ SomeOf P ps
@@ -37,14 +38,16 @@ is_simple (scalar (Text bytes)) = false
 is_simple (scalar (Opaque type bytes)) = false
 is_simple (scalar _) = true
 
--- tree, limits, count: a tree that is given is the one that the value denotes, within both limits, and
--- the count is that of its values.
--- given: a tree that the value denotes is given, if it is within both limits and memory isn't refused.
--- disjoint: where no two headers of containers share a byte, the limit on values needn't be asked for.
--- fault: a fault is that of the first position in document order that has one, and the count is this
--- position's number.
--- nesting, values, other: so the fault of a limit comes only where the limit isn't met, and any other
--- fault only where a position has it.
+-- tree, limits, count: a tree that is given is the one that the value denotes, within both limits,
+-- and the count is that of its values.
+-- given: a tree that the value denotes is given, if it is within both limits and memory isn't
+-- refused.
+-- disjoint: where no two headers of containers share a byte, the limit on values needn't be asked
+-- for.
+-- fault: a fault is that of the first position in document order that has one, and the count is
+-- this position's number.
+-- nesting, values, other: so the fault of a limit comes only where the limit isn't met, and any
+-- other fault only where a position has it.
 -- bound, unread: no more positions are read than the limit on values and one more, and none for a
 -- value that is no container.
 -- simple: a literal or a number takes no memory.

@@ -18,6 +18,7 @@ pub record Wait : Type 0 where
   pub key : List ℕ
   pub front : Branches
 
+-- the tree of a container whose entries were read, or the fault
 abbrev pub finish : Frame → Numbered Branches → Numbered Tree
 finish c r = r >>- λ bs. Ok (node c.is_array bs.0, bs.1)
 
@@ -25,15 +26,17 @@ finish c r = r >>- λ bs. Ok (node c.is_array bs.0, bs.1)
 abbrev pub open_rest : ℕ → ℕ → ℕ → Frame → ℕ → Branches → Numbered Tree
 open_rest limit levels n c pos front = finish c (with_front front (visits limit levels n (entries_from c pos (c.count - pos))))
 
--- the value of the entry is there
+-- the entries of a waiting container, once the value that it waits for is read
 abbrev pub accept : ℕ → ℕ → Wait → Numbered Tree → Numbered Branches
 accept limit levels w r = r >>- λ t. with_front (append w.front (branch w.key t.0 no_branches)) (visits limit levels t.1 (entries_from w.of (w.pos + 1) (w.of.count - (w.pos + 1))))
 
--- the outermost container first; r is what the innermost waits for
+-- the tree of the outermost container, which is first in the list, once what the innermost one
+-- waits for is read as r
 abbrev pub resume : ℕ → ℕ → List Wait → Numbered Tree → Numbered Tree
 resume limit levels [] r = r
 resume limit levels (w ∷ ws) r = finish w.of (accept limit levels w (resume limit (levels - 1) ws r))
 
+-- what was collected of a container are these entries
 abbrev pub IsCollected : Collected → Frame → Branches → Type 0
 IsCollected (Items v) c front = (c.is_array ≡ true) × (items_view v.items ≡ merged_items front)
 IsCollected (Members m) c front = (c.is_array ≡ false) × (members_view m.entries ≡ merged_into no_members front)
@@ -44,11 +47,13 @@ pub record IsOpen (o : Open) (c : Frame) (pos : ℕ) (front : Branches) : Type 0
   pub place : o.pos ≡ pos
   pub collected : IsCollected o.collected c front
 
+-- the waiting container of the code is this one
 pub record IsWait (x : Waiting) (w : Wait) : Type 0 where
   pub open_at : IsOpen x.outer w.of w.pos w.front
   pub key : x.key.now ≡ w.key
   pub room : w.pos < w.of.count
 
+-- the waiting containers of the code are these
 abbrev pub AreWaits : List Waiting → List Wait → Type 0
 AreWaits [] [] = ⊤
 AreWaits [] (w ∷ ws) = ⊥

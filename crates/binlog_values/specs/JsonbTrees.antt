@@ -1,5 +1,5 @@
--- The tree of values that a binary JSON value denotes: first with the entries of its objects in their
--- order, and then with each key once.
+-- The tree of values that a binary JSON value denotes: first with the entries of its objects in
+-- their order, and then with each key once.
 use Rattle.std.specs.Prelude.{◌≡◌, ℕ, suc, ◌<◌, nat_lt, ℤ, Bool, true, false, List, [], length, Result, Ok, Err, if◌then◌else◌}
 use Rattle.std.specs.Cmp.Lexicographic.{slice_cmp}
 use Rattle.std.specs.Ordering.{nat_cmp, match_ordering}
@@ -35,11 +35,12 @@ pub data TreeScalar : Type 0 where
 abbrev pub packed_number : List ℕ → Result ℤ Fault
 packed_number bytes = if nat_lt (length bytes) 8 then Err OpaqueTooShort else Ok (twos_complement 8 (little_number 8 bytes))
 
+-- a date or time by its packed number, or the fault
 abbrev pub packed_time : (ℤ → MysqlTime) → List ℕ → Result TreeScalar Fault
 packed_time time bytes = packed_number bytes >>= λ z. Ok (date_time (time z))
 
--- An opaque value: a decimal by its precision and scale, without the groups of zeros at its start; a
--- date or a time; others stay opaque.
+-- An opaque value: a decimal by its precision and scale, without the groups of zeros at its start;
+-- a date or a time; others stay opaque.
 unfoldable pub opaque_scalar : ColumnType → List ℕ → Result TreeScalar Fault
 opaque_scalar column.MYSQL_TYPE_NEWDECIMAL bytes = (counted_decimal false).parse bytes >>= λ d. Ok (decimal d.0)
 opaque_scalar column.MYSQL_TYPE_DATE bytes = packed_time date_of bytes
@@ -89,13 +90,14 @@ abbrev mutual
   Denotes (leaf p) r = (s : Scalar) × (r ≡ Ok (scalar s)) × (tree_scalar s ≡ Ok p)
   Denotes (node is_array entries) r = (c : Frame) × (r ≡ Ok (nested c)) × (c.is_array ≡ is_array) × DenoteFrom entries c 0
 
-  -- the entries of a container from place i on
+  -- the entries of a container from index i on
   pub DenoteFrom : Branches → Frame → ℕ → Type 0
   DenoteFrom no_branches c i = c.count ≡ i
   DenoteFrom (branch key value later) c i = (i < c.count) × (entry_key c i ≡ Ok key) × Denotes value (element_at c i) × DenoteFrom later c (suc i)
 
 -- ---- each key once
 
+-- what `merged` makes of a tree: objects have each key once, in the order of the keys
 mutual
   pub data Data : Type 0 where
     plain : TreeScalar → Data

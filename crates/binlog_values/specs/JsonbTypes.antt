@@ -8,6 +8,7 @@ use Rattle.binlog_values.specs.declared.jsonb.types.JsonbType.TheVariants as typ
 use Rattle.binlog_values.specs.declared.jsonb.types.LiteralType.{LiteralType}
 use Rattle.binlog_values.specs.declared.jsonb.types.LiteralType.TheVariants as literal
 
+-- the types by their numbers
 abbrev pub jsonb_types : List (ℕ × JsonbType)
 jsonb_types =
     (0, type.JSONB_TYPE_SMALL_OBJECT)
@@ -26,6 +27,7 @@ jsonb_types =
     ∷ (15, type.JSONB_TYPE_OPAQUE)
     ∷ []
 
+-- the literals by their numbers
 abbrev pub literal_types : List (ℕ × LiteralType)
 literal_types =
     (0, literal.JSONB_NULL_LITERAL)
@@ -33,10 +35,11 @@ literal_types =
     ∷ (2, literal.JSONB_FALSE_LITERAL)
     ∷ []
 
--- the type and the literal of a number, or the number's fault
+-- the type of a number, or UnknownJsonbType
 abbrev pub jsonb_type_of : ℕ → Result JsonbType Fault
 jsonb_type_of n = from_table jsonb_types UnknownJsonbType n
 
+-- the literal of a number, or UnknownLiteralType
 abbrev pub literal_type_of : ℕ → Result LiteralType Fault
 literal_type_of n = from_table literal_types UnknownLiteralType n
 

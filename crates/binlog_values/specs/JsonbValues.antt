@@ -24,6 +24,7 @@ pub record Frame : Type 0 where
   pub count : ℕ
   pub bytes : List ℕ
 
+-- the container that these bytes are
 abbrev pub frame : Bool → Bool → List ℕ → Frame
 frame is_array is_large bytes = record { is_array = is_array; is_large = is_large; count = number_at (offset_size is_large) 0 bytes; bytes = bytes }
 
@@ -35,9 +36,10 @@ size_in is_large bytes = number_at (offset_size is_large) (offset_size is_large)
 abbrev pub size_is_bad : Bool → Bool → List ℕ → Bool
 size_is_bad is_array is_large bytes = nat_lt (size_in is_large bytes) (header_len is_array is_large (number_at (offset_size is_large) 0 bytes)) || nat_lt (length bytes) (size_in is_large bytes)
 
--- A container: a count, its size, the key entries of an object and the value entries, and the values;
--- the size counts all of its bytes. UnexpectedEof where there are too few bytes for the count and the
--- size, and SizeOverflow where the size is below the header's or above the bytes that are there.
+-- A container: a count, its size, the key entries of an object and the value entries, and the
+-- values; the size counts all of its bytes. UnexpectedEof where there are too few bytes for the
+-- count and the size, and SizeOverflow where the size is below the header's or above the bytes that
+-- are there.
 unfoldable pub container : Bool → Bool → Format Frame
 container is_array is_large = record {
   spells = λ x c. (c ≡ frame is_array is_large x) × (size_in is_large x ≡ length x) × (header_len is_array is_large c.count ≤ length x);
@@ -52,6 +54,7 @@ container is_array is_large = record {
 
 -- ---- scalars and values
 
+-- a value that isn't a container
 pub data Scalar : Type 0 where
   Null : Scalar
   Boolean : (value : Bool) → Scalar
@@ -70,11 +73,13 @@ pub data JsonbValue : Type 0 where
   scalar : (value : Scalar) → JsonbValue
   nested : (container : Frame) → JsonbValue
 
+-- the scalar that a literal is
 abbrev pub scalar_of : LiteralType → Scalar
 scalar_of literal.JSONB_NULL_LITERAL = Null
 scalar_of literal.JSONB_TRUE_LITERAL = Boolean true
 scalar_of literal.JSONB_FALSE_LITERAL = Boolean false
 
+-- a scalar, by the format of what it holds
 abbrev pub a_scalar : {A : Type 0} → Format A → (A → Scalar) → Format JsonbValue
 a_scalar f g = map_value f (λ a. scalar (g a))
 
@@ -151,7 +156,7 @@ empty_or {A} a f = record {
   parse = λ x. if nat_lt 0 (length x) then f.parse x else Ok (a, x);
 }
 
--- a value of binary JSON by itself: no bytes are NULL
+-- a value of binary JSON by itself: no bytes are the literal null
 unfoldable pub json : Format JsonbValue
 json = empty_or (scalar Null) typed_value
 
@@ -162,9 +167,9 @@ pub record Typed : Type 0 where
   pub type : JsonbType
   pub bytes : List ℕ
 
--- The bytes of an entry's value: the entry's own, for an inlined type; else those from its offset to
--- the container's end. The offset is at or after the end of the entry, and at most the container's
--- length.
+-- The bytes of an entry's value: the entry's own, for an inlined type; else those from its offset
+-- to the container's end. The offset is at or after the end of the entry, and at most the
+-- container's length.
 abbrev pub bytes_of : Frame → ℕ → JsonbType → Result Typed Fault
 bytes_of c at type =
     let width = offset_size c.is_large in
@@ -173,6 +178,7 @@ bytes_of c at type =
     (if nat_lt offset (at + 1 + width) || nat_lt (length c.bytes) offset then Err (Jsonb InvalidValueOffsetPointer) else
     Ok (record { type = type; bytes = drop offset c.bytes }))
 
+-- the type of element i and the bytes of its value; or the fault of the type or of the offset
 unfoldable pub typed_at : Frame → ℕ → Result Typed Fault
 typed_at c i =
     let at = value_entry c.is_array c.is_large c.count i in
@@ -186,8 +192,8 @@ element c i = sequence (check (typed_at c i)) (λ t. within t.bytes (value t.typ
 abbrev pub element_at : Frame → ℕ → Result JsonbValue Fault
 element_at c i = (element c i).parse [] >>= λ r. Ok r.0
 
--- The key of entry i of an object. Its offset is at least the header's length, and offset and length
--- together are at most the container's length.
+-- The key of entry i of an object. Its offset is at least the header's length, and offset and
+-- length together are at most the container's length.
 unfoldable pub key_at : Frame → ℕ → Result (List ℕ) Fault
 key_at c i =
     let at = key_entry c.is_large i in

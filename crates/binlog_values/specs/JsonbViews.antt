@@ -3,6 +3,7 @@ use Rattle.binlog_values.specs.declared.jsonb.value.Value.{Value}
 use Rattle.binlog_values.specs.declared.jsonb.value.Value.TheVariants as jsonb
 use Rattle.binlog_values.specs.JsonbValues.{JsonbValue, scalar, nested, Null, Boolean, I16, U16, I32, U32, I64, U64, F64, Text, Opaque}
 
+-- the value, without its place in memory
 abbrev pub view_of : Value → JsonbValue
 view_of jsonb.Null = scalar Null
 view_of (jsonb.Bool b) = scalar (Boolean b)

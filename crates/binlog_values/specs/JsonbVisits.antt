@@ -11,16 +11,18 @@ use Rattle.binlog_values.specs.JsonbDocuments.{Document, faulty, single, opened,
 abbrev pub Numbered : Type 0 → Type 0
 Numbered A = Result (A × ℕ) (Fault × ℕ)
 
+-- a result at the position of number n
 abbrev pub numbered : {A : Type 0} → ℕ → Result A Fault → Numbered A
 numbered n (Ok x) = Ok (x, n)
 numbered n (Err f) = Err (f, n)
 
+-- the next step for a value; a fault stays
 infixl 10 ◌>>-◌
 abbrev pub ◌>>-◌ : {A B E : Type 0} → Result A E → (A → Result B E) → Result B E
 (Ok x) >>- f = f x
 (Err e) >>- f = Err e
 
--- the tree of a document, with at most so many levels of containers; n positions were read before
+-- the tree of a document, with at most `levels` levels of containers; n positions were read before
 abbrev mutual
   pub visit : ℕ → ℕ → ℕ → Document → Numbered Tree
   visit limit levels n (faulty f) = Err (f, n)
@@ -40,6 +42,7 @@ abbrev pub append : Branches → Branches → Branches
 append no_branches cs = cs
 append (branch k t bs) cs = branch k t (append bs cs)
 
+-- the entries that were read before, and then those that are read now
 abbrev pub with_front : Branches → Numbered Branches → Numbered Branches
 with_front front r = r >>- λ bs. Ok (append front bs.0, bs.1)
 

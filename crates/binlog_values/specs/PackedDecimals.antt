@@ -17,6 +17,7 @@ candidate_decimal integer fraction bytes = record {
   fraction = drop integer (ungrouped_digits (integer_groups integer ++ fraction_groups fraction) (unmasked_bytes bytes));
 }
 
+-- the decimal whose packed form the bytes are; DecimalGroup where they are that of none
 unfoldable pub decimal_in_bytes : ℕ → ℕ → List ℕ → Result DecimalView Fault
 decimal_in_bytes integer fraction bytes =
     if pointwise nat_eq (packed_bytes (candidate_decimal integer fraction bytes)) bytes then Ok (candidate_decimal integer fraction bytes) else Err DecimalGroup

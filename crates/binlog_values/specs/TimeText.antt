@@ -41,13 +41,15 @@ fraction_text decimals u = fraction_digits_text (take (min decimals 6) (six_digi
 abbrev pub zone_text : ℤ → List ℕ
 zone_text z = 43 ∷ (signed_hours_text (int_div z (pos 3600)) ++ (58 ∷ two_digits (unsigned_abs z / 60 % 60)))
 
+-- a date and a time of day, with a blank between them
 abbrev pub datetime_text : ℕ → MysqlTime → List ℕ
 datetime_text decimals t = date_text t.year t.month t.day ++ (32 ∷ (two_digits t.hour ++ (minutes_text t.minute t.second ++ fraction_text decimals t.second_part)))
 
+-- a time with its sign, and with all of its hours
 abbrev pub time_text : ℕ → MysqlTime → List ℕ
 time_text decimals t = sign_text t.neg ++ (hours_text t.hour ++ (minutes_text t.minute t.second ++ fraction_text decimals t.second_part))
 
--- the text of a date or time, by its kind
+-- the text of a date or time of a kind
 abbrev pub text_by : MysqlTimestampType → ℕ → MysqlTime → List ℕ
 text_by kind.MYSQL_TIMESTAMP_NONE decimals t = []
 text_by kind.MYSQL_TIMESTAMP_ERROR decimals t = []
@@ -56,5 +58,6 @@ text_by kind.MYSQL_TIMESTAMP_DATETIME decimals t = datetime_text decimals t
 text_by kind.MYSQL_TIMESTAMP_TIME decimals t = time_text decimals t
 text_by kind.MYSQL_TIMESTAMP_DATETIME_TZ decimals t = datetime_text decimals t ++ zone_text t.time_zone_displacement
 
+-- the text of a date or time, with `decimals` digits of the fraction
 abbrev pub text_of : ℕ → MysqlTime → List ℕ
 text_of decimals t = text_by t.time_type decimals t

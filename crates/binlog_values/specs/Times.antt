@@ -35,8 +35,10 @@ dated time_type z = let d = datetime_fields z in record {
   time_zone_displacement = pos 0;
 }
 
+-- the date and time of a packed DATETIME number
 abbrev pub datetime_of : ℤ → MysqlTime
 datetime_of = dated MYSQL_TIMESTAMP_DATETIME
 
+-- the date of a packed DATETIME number
 abbrev pub date_of : ℤ → MysqlTime
 date_of = dated MYSQL_TIMESTAMP_DATE

@@ -31,12 +31,14 @@ use Rattle.mysql_binlog_rows.specs.declared.value.BinlogValue.TheVariants as bin
 use Rattle.mysql_binlog_rows.specs.declared.value.BinlogValueToValueError.{BinlogValueToValueError}
 use Rattle.mysql_binlog_rows.specs.declared.value.BinlogValueToValueError.TheVariants as not_plain
 
--- the value of a cell, whatever its place in memory: a plain value, a JSON document, or diffs of one
+-- the value of a cell, whatever its place in memory: a plain value, a JSON document, or diffs of
+-- one
 pub data Cell : Type 0 where
   PlainCell : (value : PlainValue) → Cell
   JsonCell : (value : JsonbValue) → Cell
   DiffsCell : (diffs : List Diff) → Cell
 
+-- the value, without its place in memory
 abbrev pub cell_of : BinlogValue → Cell
 cell_of (binlog.Value value) = PlainCell (plain_of value)
 cell_of (binlog.Jsonb value) = JsonCell (view_of value)
@@ -48,6 +50,7 @@ to_plain (PlainCell value) = Ok value
 to_plain (JsonCell value) = Err not_plain.ToJson
 to_plain (DiffsCell diffs) = Err not_plain.JsonDiff
 
+-- the result for a plain value, without its place in memory
 abbrev pub plain_result : Result Value BinlogValueToValueError → Result PlainValue BinlogValueToValueError
 plain_result (Ok value) = Ok (plain_of value)
 plain_result (Err e) = Err e
@@ -65,10 +68,11 @@ integer w unsigned = choice unsigned (map_value (little_endian w) int_value) (ma
 unfoldable pub long_integer : Bool → Format PlainValue
 long_integer unsigned = choice unsigned (map_value (little_endian 8) UInt) (map_value (signed_little_endian 8) Int)
 
--- FLOAT and DOUBLE: the bits of the number, in little-endian order
+-- FLOAT: the 32 bits of the number, in little-endian order
 unfoldable pub float_bits : Format PlainValue
 float_bits = map_value (little_endian 4) Float
 
+-- DOUBLE: the 64 bits of the number, in little-endian order
 unfoldable pub double_bits : Format PlainValue
 double_bits = map_value (little_endian 8) Double
 
@@ -78,37 +82,40 @@ double_bits = map_value (little_endian 8) Double
 unfoldable pub timestamp_cell : Format PlainValue
 timestamp_cell = map_value (little_endian 4) int_value
 
--- TIME: the decimal digits HHMMSS, as a little-endian number of three bytes; each 24 hours are a
--- day
+-- the time whose decimal digits HHMMSS form the number; each 24 hours are a day
 abbrev pub time_of_digits : Bool → ℕ → PlainValue
 time_of_digits is_negative n = Time is_negative (n / 10000 / 24) (n / 10000 % 24) (n / 100 % 100) (n % 100) 0
 
+-- TIME: the decimal digits HHMMSS, as a little-endian number of three bytes, read without a sign
 unfoldable pub time_cell : Format PlainValue
 time_cell = map_value (little_endian 3) (time_of_digits false)
 
--- DATETIME: the decimal digits YYYYMMDDHHMMSS, as a little-endian number of eight bytes; YearRange
--- if the year is above 65535
+-- the date and time in this year whose decimal digits MMDDHHMMSS are the last ten of the number
 abbrev pub date_of_digits : ℕ → ℕ → PlainValue
 date_of_digits year n = Date year (n / 100000000 % 100) (n / 1000000 % 100) (n / 10000 % 100) (n / 100 % 100) (n % 100) 0
 
+-- the date and time whose decimal digits YYYYMMDDHHMMSS form the number; YearRange if the year is
+-- above 65535
 abbrev pub date_of_number : ℕ → Format PlainValue
 date_of_number n = choice (nat_lt (n / 10000000000) 65536) (no_bytes (date_of_digits (n / 10000000000) n)) (refusal YearRange)
 
+-- DATETIME: the decimal digits YYYYMMDDHHMMSS, as a little-endian number of eight bytes
 unfoldable pub datetime_cell : Format PlainValue
 datetime_cell = sequence (little_endian 8) date_of_number
 
--- YEAR: the years since 1900 in one byte; the value is the year as text
+-- the year as text, by the years since 1900
 abbrev pub year_text : ℕ → PlainValue
 year_text n = Bytes (decimal (1900 + n))
 
+-- YEAR: the years since 1900 in one byte
 unfoldable pub year_cell : Format PlainValue
 year_cell = map_value (little_endian 1) year_text
 
--- NEWDATE: a little-endian number of three bytes: five bits for the day, four for the month, and
--- the year
+-- the date in the bits of a number: five bits for the day, four for the month, and the year
 abbrev pub date_of_bits : ℕ → PlainValue
 date_of_bits n = Date (n / 512) (n / 32 % 16) (n % 32) 0 0 0 0
 
+-- NEWDATE: the bits of a date, as a little-endian number of three bytes
 unfoldable pub date_cell : Format PlainValue
 date_cell = map_value (little_endian 3) date_of_bits
 
@@ -126,10 +133,11 @@ timestamp_text t = if int_eq t.1 (pos 0) then signed_decimal t.0 else signed_dec
 unfoldable pub timestamp2_cell : ℕ → Format PlainValue
 timestamp2_cell decimals = map_value (timestamp2 decimals) (λ t. Bytes (timestamp_text t))
 
--- DATETIME2 and TIME2: the packed DATETIME and TIME formats
+-- DATETIME2: a packed DATETIME
 unfoldable pub datetime2_cell : ℕ → Format PlainValue
 datetime2_cell decimals = map_value (datetime2 decimals) datetime_value
 
+-- TIME2: a packed TIME
 unfoldable pub time2_cell : ℕ → Format PlainValue
 time2_cell decimals = map_value (time2 decimals) time_value
 
@@ -149,6 +157,7 @@ fixed_bytes n = map_value (take_bytes n) Bytes
 unfoldable pub text : ℕ → Format (List ℕ)
 text w = sequence (little_endian w) take_bytes
 
+-- VARCHAR, VAR_STRING, STRING, the BLOB types, GEOMETRY, VECTOR: such bytes as a value
 unfoldable pub text_cell : ℕ → Format PlainValue
 text_cell w = map_value (text w) Bytes
 
@@ -202,28 +211,31 @@ plain_by (form.Fixed n) = fixed_bytes n
 plain_by (form.Text w) = text_cell (bytes_in w)
 plain_by (form.Variant w) = variant_cell (bytes_in w)
 
--- the first byte of the metadata, and the first two; MissingMetadata if it is too short
+-- the first byte of the metadata; MissingMetadata where there is none
 abbrev pub first_byte : List ℕ → Result ℕ Fault
 first_byte [] = Err MissingMetadata
 first_byte (m0 ∷ more) = Ok m0
 
+-- the first two bytes of the metadata; MissingMetadata where there are fewer
 abbrev pub first_two : List ℕ → Result (ℕ × ℕ) Fault
 first_two [] = Err MissingMetadata
 first_two (m0 ∷ []) = Err MissingMetadata
 first_two (m0 ∷ m1 ∷ more) = Ok (m0, m1)
 
--- BLOB types, GEOMETRY, VECTOR: the length has one to four bytes, as the metadata says; else
--- UnknownBlob
+-- in how many bytes the length of a BLOB may be
 abbrev pub blob_widths : List (ℕ × Width)
 blob_widths = (1, width.One) ∷ (2, width.Two) ∷ (3, width.Three) ∷ (4, width.Four) ∷ []
 
+-- BLOB types, GEOMETRY, VECTOR: the length has one to four bytes, as the metadata says; else
+-- UnknownBlob
 abbrev pub blob_form : ℕ → Result PlainForm Fault
 blob_form m0 = from_table blob_widths (λ n. UnknownBlob) m0 >>= λ w. Ok (form.Text w)
 
--- ENUM: the number has one or two bytes, as the metadata says; else UnknownEnum
+-- in how many bytes the number of an ENUM value may be
 abbrev pub variant_widths : List (ℕ × Width)
 variant_widths = (1, width.One) ∷ (2, width.Two) ∷ []
 
+-- ENUM: the number has one or two bytes, as the metadata says; else UnknownEnum
 abbrev pub variant_form : ℕ → Result PlainForm Fault
 variant_form m1 = from_table variant_widths (λ n. UnknownEnum) m1 >>= λ w. Ok (form.Variant w)
 
@@ -269,21 +281,24 @@ abbrev pub element_form : ColumnType → List ℕ → Bool → Result Form Fault
 element_form column.MYSQL_TYPE_JSON metadata unsigned = Ok way.Json
 element_form type metadata unsigned = plain_form type metadata unsigned >>= λ f. Ok (way.Plain f)
 
--- TYPED_ARRAY: read as a cell of the type that the first byte of the metadata names, with all of
--- the metadata; Unhandled if that type is an array or unknown
+-- how the cells of an array of a type are read; Unhandled if that type is an array or unknown
 abbrev pub typed_form : Result ColumnType Fault → List ℕ → Bool → Result Form Fault
 typed_form (Ok type) metadata unsigned = element_form type metadata unsigned
 typed_form (Err e) metadata unsigned = Err Unhandled
 
+-- TYPED_ARRAY: as a cell of the type that the first byte of the metadata names, with all of the
+-- metadata
 abbrev pub array_form : List ℕ → Bool → Result Form Fault
 array_form metadata unsigned = first_byte metadata >>= λ m0. typed_form (column_type_of m0) metadata unsigned
 
+-- how the cells of a column are read, by its type, its metadata and whether its numbers are
+-- unsigned; or the fault that comes for every cell
 abbrev pub form_of : ColumnType → List ℕ → Bool → Result Form Fault
 form_of column.MYSQL_TYPE_TYPED_ARRAY metadata unsigned = array_form metadata unsigned
 form_of type metadata unsigned = element_form type metadata unsigned
 
--- JSON: a length of four bytes, and in as many bytes a value of binary JSON; diffs up to the end, if
--- the cell is partial
+-- JSON: a length of four bytes, and in as many bytes a value of binary JSON; diffs up to the end,
+-- if the cell is partial
 unfoldable pub json_cell : Bool → Format Cell
 json_cell partial =
     sequence (little_endian 4) (λ n.

@@ -26,9 +26,11 @@ input_of server table table_post_header_len rows ctx = record { server = server;
 abbrev pub input : List ℕ → ℕ → List ℕ → RowsEventCtx → Input
 input table table_post_header_len rows ctx = input_of MySql table table_post_header_len rows ctx
 
+-- the bytes of the table map event spell this event of the server
 abbrev pub IsTable : Input → TableMap → Type 0
 IsTable i t = (table_map_of i.server i.table_post_header_len).spells i.table t
 
+-- the bytes of the rows event spell this event
 abbrev pub IsEvent : Input → RowsEvent → Type 0
 IsEvent i e = (rows_event i.ctx).spells i.rows e
 
@@ -55,7 +57,8 @@ IsRefused i e =
     (table_map_of i.server i.table_post_header_len).refuses i.table e
     ⊎ ((t : TableMap) × IsTable i t × (rows_event i.ctx).refuses i.rows e)
 
--- The result of decoding the input; `view` takes the pairs and the fault out of a successful result.
+-- The result of decoding the input; `view` takes the pairs and the fault out of a successful
+-- result.
 -- covers: both events are read, and the rows data is the pairs and then a rest with the fault.
 -- unique: the rows data can't be read as any other pairs and fault.
 -- complete: if the rows data is exactly a list of pairs, that list is the result, without a fault.

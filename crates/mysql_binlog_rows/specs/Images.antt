@@ -20,10 +20,11 @@ use Rattle.mysql_binlog_rows.specs.Cells.{Cell, PlainCell, cell}
 
 -- ---- the columns of a row
 
--- the name of a column that the table map event doesn't name: `@` and its number
+-- the name of a column that the table map event doesn't name: `@` and its index
 abbrev pub default_name : ℕ → List ℕ
 default_name i = codes "@" ++ decimal i
 
+-- the bit, if the flag is set
 abbrev pub flag : ℕ → Bool → ℕ
 flag bit true = bit
 flag bit false = 0
@@ -60,7 +61,7 @@ is_partial partials c = is_json c.column_type && slice_index_or partials c.json_
 unfoldable pub nullable_cell : Bool → List Bool → Column → Format Cell
 nullable_cell is_null partials c = choice is_null (no_bytes (PlainCell Null)) (cell c.column_type (unwrap_or c.metadata []) c.unsigned (is_partial partials c))
 
--- The columns of the event from number i on, with a bit for each that says whether it is in the
+-- The columns of the event from index i on, with a bit for each that says whether it is in the
 -- image. Each has a type, a character set, a name and a key flag without a fault; and then its cell
 -- if it is in the image. `nulls` has one bit for each cell still to come.
 unfoldable pub cells : TableMap → List Bool → ℕ → List Bool → List Bool → Format (List (ColumnView × Cell))
@@ -72,11 +73,12 @@ cells t partials i (present ∷ others) nulls =
     (cells t partials (suc i) others nulls))
 
 -- The options of an image: a length-encoded number; and if its lowest bit is set, which is
--- PARTIAL_JSON_UPDATES, one partial bit for each of so many JSON columns.
+-- PARTIAL_JSON_UPDATES, one partial bit for each of `json_columns` JSON columns.
 unfoldable pub partial_bits : ℕ → Format (List Bool)
 partial_bits json_columns =
     sequence lenenc (λ options. choice (options % 2 == 1) (bit_list LeastSignificantFirst json_columns) (no_bytes []))
 
+-- the partial bits of an image; none where it has no options
 abbrev pub options_of : TableMap → Bool → Format (List Bool)
 options_of t has_options = choice has_options (partial_bits (json_count t.types)) (no_bytes [])
 
@@ -91,9 +93,11 @@ image t has_options present =
 
 -- ---- pairs
 
+-- the row before a change and the row after it
 abbrev pub Pair : Type 0
 Pair = Option BinlogRow × Option BinlogRow
 
+-- the image, if the event has it
 abbrev pub maybe_image : TableMap → Bool → Option (List Bool) → Format (Option BinlogRow)
 maybe_image t has_options None = no_bytes None
 maybe_image t has_options (Some present) = map_value (image t has_options present) Some

@@ -28,5 +28,6 @@ abbrev pub KeptServes : Option Planned → TableMap → RowsEvent → Type 0
 KeptServes None t e = ⊥
 KeptServes (Some p) t e = Serves p t e
 
+-- the plans that were made
 abbrev pub plans_kept : Planned → Plans
 plans_kept p = plans_by p.table p.has_options (image_columns p.num_columns p.before) (image_columns p.num_columns p.after)

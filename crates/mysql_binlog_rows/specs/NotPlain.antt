@@ -6,12 +6,12 @@ use Rattle.mysql_binlog_rows.specs.declared.row.binlog_row.BinlogRowToRowError.{
 use Rattle.mysql_binlog_rows.specs.declared.row.binlog_row.BinlogRowToRowError.TheVariants as error
 use Rattle.mysql_binlog_rows.specs.Cells.{Cell, PlainCell, to_plain}
 
--- there is a value at this place, and it is not plain
+-- there is a value at index i, and it is not plain
 abbrev pub IsNotPlain : ℕ → Option Cell → BinlogRowToRowError → Type 0
 IsNotPlain i value (error.NotPlain offset why) = (offset ≡ i) × (v : Cell) × (value ≡ Some v) × (to_plain v ≡ Err why)
 IsNotPlain i value error.Memory = ⊥
 
--- memory was refused; or the values before this place are plain, or were taken, and the value at it
+-- memory was refused; or the values before this index are plain, or were taken, and the value at it
 -- is not plain
 abbrev pub IsRefused : List (Option Cell) → BinlogRowToRowError → Type 0
 IsRefused values error.Memory = ⊤

@@ -21,8 +21,8 @@ use Rattle.mysql_binlog_rows.specs.Images.{BinlogRow, Pair, default_name, row_fl
 
 -- ---- what is kept
 
--- how the cells of a column are read, or their fault; and, for a JSON column, how many columns before
--- it have the raw type JSON
+-- how the cells of a column are read, or their fault; and, for a JSON column, how many columns
+-- before it have the raw type JSON
 pub record Slot : Type 0 where
   pub form : Result Form Fault
   pub json_place : Option ℕ
@@ -39,41 +39,49 @@ pub record Planned : Type 0 where
 abbrev pub column_in : ColumnList → ℕ → Column → ColumnView
 column_in l i c = record { column_type = c.column_type; schema = l.schema; table = l.table; org_table = l.table; name = unwrap_or c.name (default_name i); flags = column_flags_of (row_flags c.unsigned c.is_key); character_set = c.charset }
 
+-- for a JSON column, how many columns before it have the raw type JSON
 abbrev pub json_place_of : Column → Option ℕ
 json_place_of c = if is_json c.column_type then Some c.json_place else None
 
+-- what a plan keeps of a column in the image
 abbrev pub slot_of : Column → Slot
 slot_of c = record { form = form_of c.column_type (unwrap_or c.metadata []) c.unsigned; json_place = json_place_of c }
 
+-- what is kept of a column, before what is kept of others, if the column is in the image
 abbrev pub when_present : {A : Type 0} → Bool → A → List A → List A
 when_present true x more = x ∷ more
 when_present false x more = more
 
+-- no columns, and then this fault or none
 abbrev pub nothing_then : Option Fault → Planned
 nothing_then fault = record { slots = []; columns = []; walked = 0; fault = fault }
 
+-- a column of index i, and the columns after it
 abbrev pub column_then : TableMap → ℕ → Column → Bool → Planned → Planned
 column_then t i c present others = record { slots = when_present present (slot_of c) others.slots; columns = when_present present (row_column t i c) others.columns; walked = suc others.walked; fault = others.fault }
 
+-- the same, or the fault of the column, after which no column is read
 abbrev pub planned_then : TableMap → ℕ → Result Column Fault → Bool → Planned → Planned
 planned_then t i (Ok c) present others = column_then t i c present others
 planned_then t i (Err e) present others = nothing_then (Some e)
 
--- the first column of a walk, NoColumnType after its last one; and the walk after it
+-- the first column of a walk; NoColumnType after its last one
 abbrev pub first_column : List (Result Column Fault) → Result Column Fault
 first_column [] = Err NoColumnType
 first_column (c ∷ walk) = c
 
+-- the walk after its first column
 abbrev pub after_first : List (Result Column Fault) → List (Result Column Fault)
 after_first [] = []
 after_first (c ∷ walk) = walk
 
--- the columns from number i on, by a walk over the table's columns, with a bit for each column of
+-- the columns from index i on, by a walk over the table's columns, with a bit for each column of
 -- the event that says whether it is in the image
 abbrev pub planned_from : TableMap → ℕ → List (Result Column Fault) → List Bool → Planned
 planned_from t i walk [] = nothing_then None
 planned_from t i walk (present ∷ others) = planned_then t i (first_column walk) present (planned_from t (suc i) (after_first walk) others)
 
+-- no columns but the fault, where a field of the optional metadata is faulty
 abbrev pub unless_refused : Option Fault → Planned → Planned
 unless_refused None planned = planned
 unless_refused (Some e) planned = nothing_then (Some e)
@@ -85,6 +93,7 @@ pub record Plan : Type 0 where
   pub json_columns : ℕ
   pub planned : Planned
 
+-- the plan of images that have the columns with a set bit
 abbrev pub plan_of : TableMap → List Bool → Plan
 plan_of t present = record { count = count_set present; json_columns = json_count t.types; planned = unless_refused (field_fault t) (planned_from t 0 (table_columns t) present) }
 
@@ -112,9 +121,11 @@ abbrev pub walked_apart : Bool → Option Plan → ℕ
 walked_apart true p = 0
 walked_apart false p = walked_in p
 
+-- the plans of both images, each by a bit for each column of the event
 abbrev pub plans_by : TableMap → Bool → Option (List Bool) → Option (List Bool) → Plans
 plans_by t options before after = record { before = option_map (plan_of t) before; after = option_map (plan_of t) after; has_options = options; walked = walked_in (option_map (plan_of t) before) + walked_apart (same_columns before after) (option_map (plan_of t) after) }
 
+-- the plans for the images of an event
 abbrev pub plans_of : TableMap → RowsEvent → Plans
 plans_of t e = plans_by t (has_options e.event_type) (image_columns e.num_columns e.before) (image_columns e.num_columns e.after)
 
@@ -129,29 +140,36 @@ abbrev pub ends : Option Fault → Format (List (Option Cell))
 ends None = no_bytes []
 ends (Some e) = refusal e
 
+-- whether the cells of a column are partial, by the partial bits
 abbrev pub is_partial_slot : List Bool → Slot → Bool
 is_partial_slot partials s = unwrap_or (option_map (λ k. slice_index_or partials k false) s.json_place) false
 
+-- NULL, which takes no bytes; or a cell, read as the plan says; or the fault of the column's cells
 unfoldable pub slot_cell : Bool → List Bool → Slot → Format Cell
 slot_cell is_null partials s = choice is_null (no_bytes (PlainCell Null)) (sequence (check s.form) (cell_by (is_partial_slot partials s)))
 
+-- the cells of the columns in the image, and then the fault of a column, if one has a fault
 unfoldable pub slot_cells : List Bool → List Slot → Option Fault → List Bool → Format (List (Option Cell))
 slot_cells partials [] end nulls = ends end
 slot_cells partials (s ∷ slots) end nulls =
     sequence (slot_cell (slice_index_or nulls 0 false) partials s) (λ v. map_value (slot_cells partials slots end (drop 1 nulls)) (λ vs. Some v ∷ vs))
 
+-- the partial bits of an image; none where it has no options
 abbrev pub planned_options : Bool → Plan → Format (List Bool)
 planned_options options p = choice options (partial_bits p.json_columns) (no_bytes [])
 
+-- an image, read by a plan: the options, the null bits, and the cells
 unfoldable pub planned_image : Bool → Plan → Format BinlogRow
 planned_image options p =
     sequence (planned_options options p) (λ partials.
     sequence (bit_list LeastSignificantFirst p.count) (λ nulls.
     map_value (slot_cells partials p.planned.slots p.planned.fault nulls) (λ values. record { columns = p.planned.columns; values = values })))
 
+-- the image, if the event has it
 abbrev pub planned_maybe : Bool → Option Plan → Format (Option BinlogRow)
 planned_maybe options None = no_bytes None
 planned_maybe options (Some p) = map_value (planned_image options p) Some
 
+-- a pair of images, read by the plans
 unfoldable pub planned_pair : Plans → Format Pair
 planned_pair p = sequence (planned_maybe false p.before) (λ before. map_value (planned_maybe p.has_options p.after) (λ after. (before, after)))

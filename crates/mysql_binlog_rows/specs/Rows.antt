@@ -40,6 +40,7 @@ pub record Events : Type 0 where
   pub table : TableMap
   pub event : RowsEvent
 
+-- the plans for their images
 abbrev pub plans_of_events : Events → Plans
 plans_of_events e = plans_of e.table e.event
 
@@ -53,6 +54,7 @@ columns_in (Some present) = length present
 abbrev pub most_steps : TableMap → RowsEvent → ℕ
 most_steps t e = 2 * (e.num_columns + length t.optional_metadata)
 
+-- how many steps are made for these two events at most
 abbrev pub most_of_events : Events → ℕ
 most_of_events e = most_steps e.table e.event
 
@@ -65,9 +67,9 @@ pub record IsDescribed (t : TableMap) (n : ℕ) : Type 0 where
 abbrev pub Reads : TableMap → RowsEvent → Plans → Type 0
 Reads t e plans = (x : List ℕ) → (planned_pair plans).parse x ≡ (pair t e).parse x
 
--- This is an iterator over the pairs of these two events. It makes at most two steps for each column
--- of the event and for each byte of the optional metadata, and at least one for each column if no
--- column has a fault.
+-- This is an iterator over the pairs of these two events. It makes at most two steps for each
+-- column of the event and for each byte of the optional metadata, and at least one for each column
+-- if no column has a fault.
 pub record IsOf (t : TableMap) (e : RowsEvent) (r : Rows) : Type 0 where
   pub reads : Reads t e r.plans
   pub most : r.most_steps ≤ most_steps t e
@@ -97,8 +99,8 @@ Shrinks old None new = (old ≡ []) × (new ≡ [])
 Shrinks old (Some (Ok p)) new = length new < length old
 Shrinks old (Some (Err e)) new = (0 < length old) × (new ≡ [])
 
--- Once the plans are made, they and their steps stay as they are. They are made when there are bytes
--- left, if there is memory for them.
+-- Once the plans are made, they and their steps stay as they are. They are made when there are
+-- bytes left, if there is memory for them.
 pub record PlansOnce (s : Rows) (r : Option (Result Pair Fault)) (t : Rows) : Type 0 where
   pub plans : t.plans ≡ s.plans
   pub once : s.is_planned ≡ true → (t.is_planned ≡ true) × (t.steps ≡ s.steps)
@@ -106,6 +108,9 @@ pub record PlansOnce (s : Rows) (r : Option (Result Pair Fault)) (t : Rows) : Ty
   pub made : s.left ≢ [] → r ≢ Some (Err Memory) → t.is_planned ≡ true
   pub most : t.most_steps ≤ s.most_steps
 
+-- What a call of `next` does: r is its result, and s and t are the states before and after it. For
+-- all events whose pairs the plans read, the item is the pair at the start of the bytes, or the
+-- fault there; none where no bytes are left.
 pub record NextGives (s : Rows) (r : Option (Result Pair Fault)) (t : Rows) : Type 0 where
   pub plans : PlansOnce s r t
   pub shrinks : Shrinks s.left r t.left

@@ -10,8 +10,7 @@ use Rattle.mysql_binlog_rows.specs.declared.rows_event.event.RowsEventCtx.{RowsE
 use Rattle.binlog_consts.specs.declared.consts.event_type.EventType.TheVariants as event
 use Rattle.binlog_table.specs.TableMap.{table_id}
 
--- which images an event of a type has: both for updates, only the one before the change for
--- deletes, and only the one after the change for all others
+-- whether the events of a type have images before the change: updates and deletes have
 abbrev pub has_before : EventType → Bool
 has_before event.UPDATE_ROWS_EVENT = true
 has_before event.UPDATE_ROWS_EVENT_V1 = true
@@ -20,6 +19,7 @@ has_before event.DELETE_ROWS_EVENT = true
 has_before event.DELETE_ROWS_EVENT_V1 = true
 has_before _ = false
 
+-- whether the events of a type have images after the change: all but deletes have
 abbrev pub has_after : EventType → Bool
 has_after event.DELETE_ROWS_EVENT = false
 has_after event.DELETE_ROWS_EVENT_V1 = false
@@ -62,6 +62,7 @@ rows_event ctx =
 abbrev pub image_columns : ℕ → Option (List ℕ) → Option (List Bool)
 image_columns count bitmap = option_map (bits_of LeastSignificantFirst count) bitmap
 
+-- how many bytes the bitmap of an image has; 0 where the event doesn't have the image
 abbrev pub bitmap_length : Option (List ℕ) → ℕ
 bitmap_length None = 0
 bitmap_length (Some bytes) = length bytes

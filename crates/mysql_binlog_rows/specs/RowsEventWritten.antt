@@ -15,9 +15,8 @@ pub record IsBitmap (is_there : Bool) (count : ℕ) (bits : Option (List ℕ)) :
   pub there : is_some bits ≡ is_there
   pub len : ForSome bits (λ b. length b ≡ bitmap_len count)
 
--- Which parts an event can have: numbers of their widths, extra data whose length with its own two
--- bytes is one of two, and
--- a bit for each column in each image that the event's type has.
+-- Which parts an event can have: numbers of their widths, extra data whose length fits in two bytes
+-- with these two, and a bit for each column in each image that the event's type has.
 pub record IsRowsEvent (e : RowsEvent) : Type 0 where
   pub table_id : e.table_id < 256 ^ 6
   pub flags : e.flags < 256 ^ 2
@@ -39,6 +38,7 @@ writes_extra_data _ = false
 unfoldable pub extra_data_bytes : Bool → List ℕ → List ℕ
 extra_data_bytes is_written extra = if is_written then little_bytes 2 (length extra + 2) ++ extra else []
 
+-- the bitmap of an image; no bytes where the event doesn't have the image
 abbrev pub bitmap_bytes : Option (List ℕ) → List ℕ
 bitmap_bytes None = []
 bitmap_bytes (Some bits) = bits

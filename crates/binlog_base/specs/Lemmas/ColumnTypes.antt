@@ -1,5 +1,5 @@
--- A number that no column type or geometry type has is refused with a fault that bytes can have; the
--- number of a type gives the type back.
+-- A number that no column type or geometry type has is refused with a fault that bytes can have;
+-- the number of a type gives the type back.
 use Rattle.std.specs.Prelude.{◌≡◌, ℕ, Ok, Err}
 use Rattle.std.proofs.Common.{rules, refl, sym, subst}
 use Rattle.binlog_base.specs.declared.fault.Fault.{Fault}

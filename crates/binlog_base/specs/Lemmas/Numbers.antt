@@ -1,4 +1,5 @@
--- The formats of numbers are exact; what is written of a number is a spelling of it, and none is shorter.
+-- The formats of numbers are exact; what is written of a number is a spelling of it, and none is
+-- shorter.
 use Rattle.std.proofs.Common.{ℕ, zero, suc, ◌^◌, refl}
 use Rattle.std.specs.Prelude.{nat_lt, ◌==◌}
 use Rattle.byteorder.specs.Endian.{little_number, big_number, twos_complement}

@@ -35,7 +35,7 @@ are_glyphs [] h = refl
 are_glyphs (d ∷ ds) h = rw (le-leb 48 (48 + d) (omega arith), le-leb (48 + d) 57 (omega (arith, h.0)), are_glyphs ds h.1) refl
 
 -- two equality tests have the same result if each equality implies the other
-alike : (a b c d : ℕ) → (a ≡ b → c ≡ d) → (c ≡ d → a ≡ b) → (a == b) ≡ (c == d)
+pub alike : (a b c d : ℕ) → (a ≡ b → c ≡ d) → (c ≡ d → a ≡ b) → (a == b) ≡ (c == d)
 alike a b c d f g = same_from_decides (a == b) (c == d) (Decides-like (a == b) f g (Decides-eqb a b)) (Decides-eqb c d)
 
 -- the test for equality is false if the numbers aren't the same

@@ -139,14 +139,26 @@ pub text_short : (precision scale : ℕ) (x : List ℕ) → scale ≤ precision 
 text_short precision scale x within some few =
     ap (λ (r : Result (DecimalView × List ℕ) Fault). r >>= texted) ((decimal_of_width precision scale false within some).short x few)
 
-pub text_refused : (precision scale n m : ℕ) (x y more : List ℕ) (e : Fault) → (packed_decimal n m false).parse y ≡ Err e → n ≡ precision → m ≡ scale → y ≡ x → scale ≤ precision → 0 < precision → length x ≡ packed_size (precision - scale) scale → (text precision scale).parse (x ++ more) ≡ Err e
-text_refused precision scale n m x y more e h count after is within some long =
-    let same : (packed_decimal precision scale false).parse x ≡ Err e = sym (ap₂ (λ (j k : ℕ). (packed_decimal j k false).parse y) count after ∙ ap (packed_decimal precision scale false).parse is) ∙ h in
-    ap (λ (r : Result (DecimalView × List ℕ) Fault). r >>= texted) ((decimal_of_width precision scale false within some).whole x more long)
-    ∙ ap (λ (r : Result (DecimalView × List ℕ) Fault). (r >>= leaves more) >>= texted) same
+still_refused : (r : Result (DecimalView × List ℕ) Fault) (more : List ℕ) (e : Fault) → (r >>= texted) ≡ Err e → ((r >>= leaves more) >>= texted) ≡ Err e
+still_refused (Ok p) more e h = absurd cc
+still_refused (Err f) more e h = h
 
-pub text_read : (precision scale n m : ℕ) (x y more : List ℕ) (d : DecimalView) → (packed_decimal n m false).parse y ≡ Ok (d, []) → n ≡ precision → m ≡ scale → y ≡ x → scale ≤ precision → 0 < precision → length x ≡ packed_size (precision - scale) scale → (text precision scale).parse (x ++ more) ≡ Ok (decimal_text d, more)
-text_read precision scale n m x y more d h count after is within some long =
-    let same : (packed_decimal precision scale false).parse x ≡ Ok (d, []) = sym (ap₂ (λ (j k : ℕ). (packed_decimal j k false).parse y) count after ∙ ap (packed_decimal precision scale false).parse is) ∙ h in
+abbrev text_in : Result (List ℕ × List ℕ) Fault → List ℕ
+text_in (Ok p) = p.0
+text_in (Err e) = []
+
+with_rest : (r : Result (DecimalView × List ℕ) Fault) (t y more : List ℕ) → (r >>= texted) ≡ Ok (t, y) → ((r >>= leaves more) >>= texted) ≡ Ok (t, more)
+with_rest (Ok p) t y more h = ap (λ (l : List ℕ). Ok (l, more)) (ap text_in h)
+with_rest (Err f) t y more h = absurd cc
+
+pub text_refused : (precision scale n m : ℕ) (x y more : List ℕ) (e : Fault) → (text n m).parse y ≡ Err e → n ≡ precision → m ≡ scale → y ≡ x → scale ≤ precision → 0 < precision → length x ≡ packed_size (precision - scale) scale → (text precision scale).parse (x ++ more) ≡ Err e
+text_refused precision scale n m x y more e h count after is within some long =
+    let same : (text precision scale).parse x ≡ Err e = sym (ap₂ (λ (j k : ℕ). (text j k).parse y) count after ∙ ap (text precision scale).parse is) ∙ h in
     ap (λ (r : Result (DecimalView × List ℕ) Fault). r >>= texted) ((decimal_of_width precision scale false within some).whole x more long)
-    ∙ ap (λ (r : Result (DecimalView × List ℕ) Fault). (r >>= leaves more) >>= texted) same
+    ∙ still_refused ((packed_decimal precision scale false).parse x) more e same
+
+pub text_read : (precision scale n m : ℕ) (x y more t : List ℕ) → (text n m).parse y ≡ Ok (t, []) → n ≡ precision → m ≡ scale → y ≡ x → scale ≤ precision → 0 < precision → length x ≡ packed_size (precision - scale) scale → (text precision scale).parse (x ++ more) ≡ Ok (t, more)
+text_read precision scale n m x y more t h count after is within some long =
+    let same : (text precision scale).parse x ≡ Ok (t, []) = sym (ap₂ (λ (j k : ℕ). (text j k).parse y) count after ∙ ap (text precision scale).parse is) ∙ h in
+    ap (λ (r : Result (DecimalView × List ℕ) Fault). r >>= texted) ((decimal_of_width precision scale false within some).whole x more long)
+    ∙ with_rest ((packed_decimal precision scale false).parse x) t [] more same

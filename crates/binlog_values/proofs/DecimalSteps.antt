@@ -110,15 +110,15 @@ mapped-all f xs ys i all is = placed-all f xs xs ys i all refl is
 abbrev all_zeros : List ℕ → Bool
 all_zeros ds = list_all (λ d. d == 0) ds
 
-zeros_stop : (size : ℕ) (sizes ds : List ℕ) → all_zeros (take size ds) ≡ false → without_zero_groups (size ∷ sizes) ds ≡ ds
+pub zeros_stop : (size : ℕ) (sizes ds : List ℕ) → all_zeros (take size ds) ≡ false → without_zero_groups (size ∷ sizes) ds ≡ ds
 unfolding without_zero_groups
 zeros_stop size sizes ds h = rw h refl
 
-zeros_more : (size : ℕ) (sizes ds : List ℕ) → all_zeros (take size ds) ≡ true → without_zero_groups (size ∷ sizes) ds ≡ without_zero_groups sizes (drop size ds)
+pub zeros_more : (size : ℕ) (sizes ds : List ℕ) → all_zeros (take size ds) ≡ true → without_zero_groups (size ∷ sizes) ds ≡ without_zero_groups sizes (drop size ds)
 unfolding without_zero_groups
 zeros_more size sizes ds h = rw h refl
 
-zeros_end : (ds : List ℕ) → without_zero_groups [] ds ≡ ds
+pub zeros_end : (ds : List ℕ) → without_zero_groups [] ds ≡ ds
 unfolding without_zero_groups
 zeros_end ds = refl
 

@@ -6,6 +6,7 @@ pub mod DecimalBytes
 pub mod DecimalTexts
 pub mod DecimalPrinting
 pub mod DecimalPutting
+pub mod DecimalShown
 pub mod DecimalRanges
 pub mod DecimalSources
 pub mod DecimalGrammar

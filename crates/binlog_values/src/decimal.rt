@@ -11,6 +11,7 @@ mod pack;
 mod parse;
 mod read;
 mod show;
+mod text;
 mod unpack;
 
 use group::digits_size;

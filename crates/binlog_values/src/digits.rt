@@ -27,47 +27,12 @@ pub(crate) fn all_zeros(digits: &[u8], zero: u8) -> bool
 }
 
 // Replaces each digit by its ASCII character.
-fn make_characters(digits: &mut [u8])
+pub(crate) fn make_characters(digits: &mut [u8])
     requires { AllBelowBase 10 digits.old }
     ensures { digits.new ≡ map (λ digit. 48 + digit) digits.old }
 {
     for digit in digits.iter_mut() {
         *digit += b'0';
-    }
-}
-
-// Writes digits as ASCII characters. There is room for exactly as many.
-pub(crate) fn put_characters(room: &mut [u8], digits: &[u8])
-    requires room { length room.old ≡ length digits.now }
-    requires below { AllBelowBase 10 digits.now }
-    ensures { room.new ≡ flat_map decimal digits.now }
-{
-    for i in 0..digits.len() {
-        room[i] = b'0' + digits[i];
-    }
-}
-
-// Returns how many bytes a decimal point and the digits after it take; 0 where there are no digits.
-pub(crate) fn fraction_len(digits: &[u8]) -> usize
-    requires { AllBelowBase 10 digits.now }
-    ensures { result ≡ length (fraction_digits_text digits.now) }
-{
-    match digits.len() {
-        0 => 0,
-        count => 1 + count,
-    }
-}
-
-// Writes a decimal point and the digits after it; nothing if there are no digits. There is room for
-// exactly that.
-pub(crate) fn put_fraction(room: &mut [u8], digits: &[u8])
-    requires room { length room.old ≡ length (fraction_digits_text digits.now) }
-    requires below { AllBelowBase 10 digits.now }
-    ensures { room.new ≡ fraction_digits_text digits.now }
-{
-    if let Some((point, characters)) = room.split_first_mut() {
-        *point = b'.';
-        put_characters(characters, digits);
     }
 }
 

@@ -14,6 +14,7 @@ ghost use Rattle.binlog_values.specs.DecimalText.{decimal_text};
 
 use super::group::digits_size;
 use super::lent::Lent;
+use super::text::{MAX_TEXT, put_text};
 use super::unpack::unpack;
 use super::{DIG_PER_DEC, Decimal};
 use crate::digits::all_zeros;
@@ -70,36 +71,12 @@ impl OfWidth for Count {
     }
 }
 
-// The most digits that a precision of one byte counts, and a bound of their bytes in packed form.
-const MAX_DIGITS: usize = 255;
-
+// A bound of the bytes that a decimal takes in packed form, where its precision has one byte.
 const MAX_SIZE: usize = 128;
 
 impl Decimal {
-    // Reads a decimal from all of these packed bytes, and overwrites them. It borrows the digits.
-    #[tactic(auto, unfolding(crate::specs::PackedDecimals::packed_decimal))]
-    fn lend<'a>(
-        bytes: &mut [u8],
-        precision: usize,
-        scale: usize,
-        keep_prec: bool,
-        digits: &'a mut [u8],
-    ) -> Result<Lent<'a>, Fault>
-        requires scale { scale ≤ precision }
-        requires some { 0 < precision }
-        requires size { length bytes.old ≡ packed_size (precision - scale) scale }
-        requires room { length digits.old ≡ precision }
-        ensures { Parses (packed_decimal precision scale keep_prec) result bytes.old [] }
-    {
-        let decimal = unpack(bytes, precision - scale, digits)?;
-        if keep_prec {
-            Ok(decimal)
-        } else {
-            Ok(decimal.trimmed())
-        }
-    }
-
     // Reads a decimal from all of these packed bytes, and overwrites them.
+    #[tactic(auto, unfolding(crate::specs::PackedDecimals::packed_decimal))]
     fn of_bytes(
         alloc: Global,
         bytes: &mut [u8],
@@ -113,7 +90,18 @@ impl Decimal {
         ensures { OrMemory result (Parses (packed_decimal precision scale keep_prec) result bytes.old []) }
     {
         let mut digits = vec![in alloc; 0u8; precision]?;
-        Ok(Decimal::lend(bytes, precision, scale, keep_prec, &mut digits)?.to_decimal(alloc)?)
+        let (integer, fraction) = digits.split_at_mut(precision - scale);
+        let negative = unpack(bytes, integer, fraction)?;
+        let decimal = Lent {
+            negative,
+            integer,
+            fraction,
+        };
+        if keep_prec {
+            Ok(decimal.to_decimal(alloc)?)
+        } else {
+            Ok(decimal.trimmed().to_decimal(alloc)?)
+        }
     }
 
     /// Reads a decimal of `precision` digits, `scale` of them after the point, in MySQL's packed
@@ -201,10 +189,10 @@ impl Decimal {
         let (digits, scale) = (usize::from(precision), usize::from(scale));
         let size = digits_size(digits - scale) + digits_size(scale);
         let mut bytes = [0; MAX_SIZE];
+        let mut room = [0; MAX_TEXT];
         let packed = &mut bytes[..size];
         packed.copy_from_slice(buf.eat(size)?);
-        let mut room = [0; MAX_DIGITS];
-        let decimal = Decimal::lend(packed, digits, scale, false, &mut room[..digits])?;
-        Ok(decimal.to_text(alloc)?)
+        let text = put_text(packed, digits - scale, scale, &mut room)?;
+        Ok(Vec::from_slice(alloc, text)?)
     }
 }

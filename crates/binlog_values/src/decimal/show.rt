@@ -1,17 +1,13 @@
 //! Writes decimals as text.
 
-ghost use Rattle.std.specs.Prelude.{◌≡◌, length, Some, IfOk};
-ghost use Rattle.std.specs.List.{flat_map};
-ghost use Rattle.std.specs.Fmt.{WritesOnOk, decimal};
+ghost use Rattle.std.specs.Prelude.{◌≡◌, Some};
+ghost use Rattle.std.specs.Fmt.{WritesOnOk};
 ghost use Rattle.std.specs.Int.Digits.{AllBelowBase};
 ghost use Rattle.binlog_values.specs.DecimalText.{decimal_text, integer_text, shown_digits};
 
 use super::lent::Lent;
 use super::{DIG_PER_DEC, Decimal};
-use crate::digits::{
-    fraction_len, leading_zeros, put_characters, put_fraction, write_digits, write_fraction,
-};
-use std::alloc::{AllocError, Global};
+use crate::digits::{leading_zeros, write_digits, write_fraction};
 use std::fmt;
 
 // Returns the digits without the leading zeros of their first group. The last digit of that group
@@ -32,49 +28,6 @@ fn write_integer<W: fmt::Write>(f: &mut fmt::Formatter<W>, digits: &[u8]) -> fmt
         f.write_str("0")
     } else {
         write_digits(f, shown_digits(digits))
-    }
-}
-
-impl<'a> Lent<'a> {
-    // Returns the digits before the point that the text has; one 0 where there are none.
-    fn shown_integer(&self) -> &[u8]
-        ensures text { flat_map decimal result.now ≡ integer_text self.now.integer }
-        ensures below { AllBelowBase 10 result.now }
-    {
-        if self.integer.is_empty() {
-            &[0]
-        } else {
-            shown_digits(self.integer)
-        }
-    }
-
-    // Writes the text with these digits before the point. There is room for exactly that text.
-    #[tactic(auto, unfolding(crate::specs::DecimalText::decimal_text))]
-    fn put_text(&self, integer: &[u8], room: &mut [u8])
-        requires text { flat_map decimal integer.now ≡ integer_text self.now.integer }
-        requires below { AllBelowBase 10 integer.now }
-        requires room { length room.old ≡ length (decimal_text self.now) }
-        ensures { room.new ≡ decimal_text self.now }
-    {
-        let (sign, digits) = room.split_at_mut(usize::from(self.negative));
-        sign.fill(b'-');
-        let (before, after) = digits.split_at_mut(integer.len());
-        put_characters(before, integer);
-        put_fraction(after, self.fraction);
-    }
-
-    // Returns the text as bytes.
-    pub fn to_text(&self, alloc: Global) -> Result<Vec<u8>, AllocError>
-        ensures { IfOk result (λ text. text.items ≡ decimal_text self.now) }
-    {
-        let integer = self.shown_integer();
-        let before = usize::from(self.negative) + integer.len();
-        let Some(len) = before.checked_add(fraction_len(self.fraction)) else {
-            return Err(AllocError);
-        };
-        let mut text = vec![in alloc; b'0'; len]?;
-        self.put_text(integer, &mut text);
-        Ok(text)
     }
 }
 

@@ -1,14 +1,14 @@
 //! Reads the groups of digits of MySQL's packed DECIMAL format.
 
-ghost use Rattle.std.specs.Prelude.{◌≡◌, ◌≤◌, ◌<◌, ◌-◌, ◌*◌, ◌/◌, [], ◌∷◌, length, replicate};
+ghost use Rattle.std.specs.Prelude.{◌≡◌, ◌≤◌, ◌<◌, ◌+◌, ◌*◌, ◌/◌, [], ◌∷◌, length, replicate, IfOk};
+ghost use Rattle.std.specs.Int.Digits.{AllBelowBase};
 ghost use Rattle.binlog_values.specs.Decimals.{group_width, digits_size, packed_size, integer_groups, fraction_groups};
 ghost use Rattle.binlog_values.specs.DecimalReads.{Unpacks};
 ghost use Rattle.binlog_values.specs.PackedDecimals.{packed_digits};
-ghost use Rattle.binlog_base.specs.Format.{Parses};
+ghost use Rattle.binlog_base.specs.Format.{ParsesAs};
 
 use super::DIG_PER_DEC;
 use super::group::{digits_size, group_width, number_of_bytes, power_of_10, put_digits};
-use super::lent::Lent;
 use super::mask::{is_negative, unmask};
 use binlog_base::fault::Fault;
 
@@ -63,27 +63,22 @@ fn unpack_fraction(bytes: &[u8], digits: &mut [u8]) -> Result<(), Fault>
     unpack_group(group, back)
 }
 
-// Reads a decimal of `integer` digits before the point from all of the packed bytes, and overwrites
-// them. The decimal borrows the digits, and has as many as there is room for.
-pub(super) fn unpack<'a>(
-    bytes: &mut [u8],
-    integer: usize,
-    digits: &'a mut [u8],
-) -> Result<Lent<'a>, Fault>
-    requires some { 0 < length digits.old }
-    requires integer { integer ≤ length digits.old }
-    requires size { length bytes.old ≡ packed_size integer (length digits.old - integer) }
-    ensures { Parses (packed_digits integer (length digits.old - integer)) result bytes.old [] }
+// Reads the digits of a decimal from all of the packed bytes, and overwrites these. There is room for
+// exactly the digits before the point and those after it. Returns whether the decimal is negative.
+pub(super) fn unpack(bytes: &mut [u8], before: &mut [u8], after: &mut [u8]) -> Result<bool, Fault>
+    requires some { 0 < length before.old + length after.old }
+    requires size { length bytes.old ≡ packed_size (length before.old) (length after.old) }
+    ensures decimal { ParsesAs (λ negative. record {
+      negative = negative;
+      integer = before.new;
+      fraction = after.new;
+    }) (packed_digits (length before.old) (length after.old)) result bytes.old [] }
+    ensures below { IfOk result (λ _. AllBelowBase 10 before.new × AllBelowBase 10 after.new) }
 {
     let negative = is_negative(bytes);
     unmask(negative, bytes);
-    let (front, back) = bytes.split_at(digits_size(integer));
-    let (before, after) = digits.split_at_mut(integer);
+    let (front, back) = bytes.split_at(digits_size(before.len()));
     unpack_integer(front, before)?;
     unpack_fraction(back, after)?;
-    Ok(Lent {
-        negative,
-        integer: before,
-        fraction: after,
-    })
+    Ok(negative)
 }

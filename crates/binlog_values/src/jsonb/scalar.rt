@@ -15,8 +15,8 @@ use crate::time::MysqlTime;
 use binlog_base::below::{ColumnType, ParseBuf};
 use binlog_base::fault::Fault;
 use byteorder::{ByteOrder, LittleEndian};
+use simdutf8::basic::from_utf8;
 use std::alloc::Global;
-use std::str;
 
 // Returns the packed number in the first eight bytes.
 fn packed_number(bytes: &[u8]) -> Result<i64, Fault>
@@ -61,7 +61,7 @@ fn opaque_scalar(alloc: Global, field_type: ColumnType, bytes: &[u8]) -> Result<
 fn string_scalar(alloc: Global, bytes: &[u8]) -> Result<JsonScalar, Fault>
     ensures { GivesScalar result (text_scalar bytes.now) }
 {
-    match str::from_utf8(bytes) {
+    match from_utf8(bytes) {
         Ok(text) => Ok(JsonScalar::String(String::from_str(alloc, text)?)),
         Err(_) => Err(Fault::InvalidUtf8),
     }

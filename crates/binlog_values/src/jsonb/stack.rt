@@ -18,9 +18,10 @@ use super::parse::position_in_limit;
 use super::scalar::scalar_of;
 use super::value::Value;
 use binlog_base::fault::Fault;
+use simdutf8::basic::from_utf8;
 use std::alloc::Global;
 use std::collections::BTreeMap;
-use std::{mem, str};
+use std::mem;
 
 // How many containers may wait while an inner one is read, so that at most 100 are nested.
 const MAX_WAITING: usize = 99;
@@ -31,7 +32,7 @@ fn key_text(alloc: Global, key: &[u8]) -> Result<String, Fault>
     ensures text { IfOk result (λ text. string_bytes text ≡ utf8_lossy key.now) }
     ensures memory { IfErr result (λ f. f ≡ Memory) }
 {
-    match str::from_utf8(key) {
+    match from_utf8(key) {
         Ok(text) => Ok(String::from_str(alloc, text)?),
         Err(_) => Ok(String::from_utf8_lossy(alloc, key)?),
     }

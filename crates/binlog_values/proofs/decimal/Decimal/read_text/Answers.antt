@@ -22,14 +22,14 @@ returns-in_err-eat c =
     let short = (exact_take_bytes _).refused_sound x e c.in_err-eat.ensures in
     rw (p.1, p.2, short.1) (λ other. text_short c.args.precision c.args.scale x (omega (arith, c.if-scale-precision.false)) (omega (arith, c.if-precision-eq0.false)) (omega (arith, short.0, c.digits_size.ensures.size, c.digits_size-2.ensures.size)))
 
-pub returns-in_err-decimal : goal.returns-in_err-decimal
-returns-in_err-decimal c =
-    let p = err_from_is_err_and c.from_residual-in_err-decimal.result c.from_residual-in_err-decimal.ensures.1 in
+pub returns-in_err-text : goal.returns-in_err-text
+returns-in_err-text c =
+    let p = err_from_is_err_and c.from_residual-in_err-text.result c.from_residual-in_err-text.ensures.1 in
     let x = c.args.buf.now.0.now in
-    let e = c.in_err-decimal.field-0.0 in
+    let e = c.in_err-text.field-0.0 in
     let taken = (exact_take_bytes _).sound x c.in_ok-eat.field-0.now c.eat.new.self.0.now c.in_ok-eat.ensures in
     rw (p.1, p.2) (λ other. ap (map_value (packed_decimal c.args.precision c.args.scale false) decimal_text).parse taken.1
-    ∙ text_refused c.args.precision c.args.scale _ _ taken.0 _ c.eat.new.self.0.now e c.in_err-decimal.ensures (omega arith) (omega arith) (c.copy_from_slice.ensures.after ∙ taken.2.0)
+    ∙ text_refused c.args.precision c.args.scale _ _ taken.0 _ c.eat.new.self.0.now e c.in_err-text.ensures (omega (arith, c.if-scale-precision.false)) (omega (arith)) (c.copy_from_slice.ensures.after ∙ taken.2.0)
     (omega (arith, c.if-scale-precision.false)) (omega (arith, c.if-precision-eq0.false)) (omega (arith, taken.2.1, c.digits_size.ensures.size, c.digits_size-2.ensures.size)))
 
 pub returns : goal.returns
@@ -37,6 +37,6 @@ returns c =
     let x = c.args.buf.now.0.now in
     let taken = (exact_take_bytes _).sound x c.in_ok-eat.field-0.now c.eat.new.self.0.now c.in_ok-eat.ensures in
     ap (map_value (packed_decimal c.args.precision c.args.scale false) decimal_text).parse taken.1
-    ∙ text_read c.args.precision c.args.scale _ _ taken.0 _ c.eat.new.self.0.now c.in_ok-decimal.decimal c.in_ok-decimal.ensures (omega arith) (omega arith) (c.copy_from_slice.ensures.after ∙ taken.2.0)
+    ∙ text_read c.args.precision c.args.scale _ _ taken.0 _ c.eat.new.self.0.now c.in_ok-text.text.now c.in_ok-text.ensures (omega (arith, c.if-scale-precision.false)) (omega arith) (c.copy_from_slice.ensures.after ∙ taken.2.0)
     (omega (arith, c.if-scale-precision.false)) (omega (arith, c.if-precision-eq0.false)) (omega (arith, taken.2.1, c.digits_size.ensures.size, c.digits_size-2.ensures.size))
-    ∙ ap (λ (l : List ℕ). Ok (l, c.eat.new.self.0.now)) (sym c.in_ok-to_text.ensures)
+    ∙ ap (λ (l : List ℕ). Ok (l, c.eat.new.self.0.now)) (sym c.in_ok-from_slice.ensures.items)

@@ -4,4 +4,4 @@ use Rattle.binlog_values.proofs.jsonb.stack.key_text.Goals as goal
 
 pub returns-in_ok-from_str-in-Ok-clause-text : goal.returns-in_ok-from_str-in-Ok-clause-text
 returns-in_ok-from_str-in-Ok-clause-text c =
-    c.in_ok-from_str-in-Ok.ensures.ok ∙ c.in-Ok.ensures.cases.0 ∙ sym (utf8_lossy-IsUtf8 c.args.key.now c.in-Ok.ensures.cases.1)
+    c.in_ok-from_str-in-Ok.ensures.ok ∙ c.in-Ok.ensures.0 ∙ sym (utf8_lossy-IsUtf8 c.args.key.now c.in-Ok.ensures.1)

@@ -1,0 +1,68 @@
+//! Reads packed decimals straight into their text.
+
+ghost use Rattle.std.specs.Prelude.{◌≡◌, ◌≤◌, ◌<◌, ◌+◌, ◌++◌, false, [], length, drop, replicate, slice_index};
+ghost use Rattle.std.specs.Int.Digits.{AllBelowBase};
+ghost use Rattle.binlog_base.specs.Format.{ParsesAs, map_value};
+ghost use Rattle.binlog_values.specs.Decimals.{packed_size, trimmed_decimal};
+ghost use Rattle.binlog_values.specs.PackedDecimals.{packed_decimal};
+ghost use Rattle.binlog_values.specs.DecimalText.{decimal_text, fraction_digits_text};
+
+use super::unpack::unpack;
+use crate::digits::{leading_zeros, make_characters};
+use binlog_base::fault::Fault;
+
+// The most bytes that the text of a decimal takes, where its precision has one byte: a minus, a zero,
+// the point and the digits.
+pub(super) const MAX_TEXT: usize = 258;
+
+// Makes characters of a zero and the digits before the point, which begin at index 1 of `before`, and
+// puts a minus before those that are shown, if there is one. Returns where the text begins.
+fn put_integer(negative: bool, before: &mut [u8], fraction: &[u8]) -> usize
+    requires digits { AllBelowBase 10 (drop 2 before.old) × AllBelowBase 10 fraction.now }
+    requires zero { (2 ≤ length before.old) × (slice_index before.old 1 ≡ 0) }
+    ensures within { result ≤ length before.old }
+    ensures text { drop result before.new ++ fraction_digits_text fraction.now
+        ≡ decimal_text (trimmed_decimal (record {
+          negative = negative;
+          integer = drop 2 before.old;
+          fraction = fraction.now;
+        })) }
+{
+    let digits = &mut before[1..];
+    let zeros = leading_zeros(digits, 0);
+    let is_zero = zeros == digits.len() && fraction.is_empty();
+    let hidden = zeros.min(digits.len() - 1);
+    make_characters(digits);
+    if negative && !is_zero {
+        before[hidden] = b'-';
+        hidden
+    } else {
+        hidden + 1
+    }
+}
+
+// Reads a decimal from all of these packed bytes, which are overwritten, and returns its text, which
+// is put into the room.
+#[tactic(auto, unfolding(crate::specs::PackedDecimals::packed_decimal))]
+pub(super) fn put_text<'a>(
+    packed: &mut [u8],
+    integer: usize,
+    fraction: usize,
+    room: &'a mut [u8; MAX_TEXT],
+) -> Result<&'a [u8], Fault>
+    requires digits { (0 < integer + fraction) × (integer + fraction ≤ 255) }
+    requires size { length packed.old ≡ packed_size integer fraction }
+    requires zeros { room.old ≡ replicate 258 0 }
+    ensures { ParsesAs (λ text. text.now)
+        (map_value (packed_decimal (integer + fraction) fraction false) decimal_text)
+        result packed.old [] }
+{
+    let (before, rest) = room.split_at_mut(2 + integer);
+    let (point, rest) = rest.split_at_mut(usize::from(fraction > 0));
+    let after = &mut rest[..fraction];
+    let negative = unpack(packed, &mut before[2..], after)?;
+    let start = put_integer(negative, before, after);
+    point.fill(b'.');
+    make_characters(after);
+    Ok(&room[start..2 + integer + usize::from(fraction > 0) + fraction])
+}

@@ -4,30 +4,49 @@
 # usage: scripts/instructions.sh [COLUMNS [full]]
 #        scripts/instructions.sh FEW MANY MORE
 #        scripts/instructions.sh one [full]
+#        scripts/instructions.sh kept
 #        scripts/instructions.sh trees
 #
 # COLUMNS are the letters of scripts/make_rows.py; without them the table has ten columns. With `full` it has optional metadata. FEW, MANY and
 # MORE are files of the program's six words, one a line, of the same table with 30, 330 and 630 rows. The instructions of a row are the
-# difference of two runs, divided by 300: of the whole program, and of the call of `decode_pairs` alone. Of `N`, one NEWDECIMAL(12,2) column,
-# those of the call of `read_decimal`, the cell alone, are counted too. What a further column of a row costs is the difference of two tables,
-# such as `N` and `NN`. With `one` it counts the call of `decode_pairs` on an insert and on an update of one row of the ten columns. Build the
-# program with `rt run` in crates/rows. With `trees` it counts the call of
-# `jsonb::Value::parse` in tests, which make a tree of 10,000 numbers and two of 10,000 keys and values; run `rt test` there first.
+# difference of two runs, divided by 300: of the whole program, and of the call of `decode_pairs` alone. Of `N`, `T` and `Y`, which are one
+# column of NEWDECIMAL(12,2), TIMESTAMP2(6) and YEAR, those of the call that reads the cell are counted too. What a further column of a row
+# costs is the difference of two tables, such as `N` and `NN`. With `one` it counts the call of `decode_pairs` on an insert and on an update of
+# one row of the ten columns. Build the program with `rt run` in crates/rows.
+#
+# With `kept` and `trees` it counts in tests; run `rt test` in crates/rows first. `kept` reads the events of `one` a second time, by the plan
+# that is kept. `trees` calls `jsonb::Value::parse` for a tree of 10,000 numbers and two of 10,000 keys and values.
 set -eu
 here=$(cd "$(dirname "$0")/.." && pwd)
-if [ "${1:-}" = trees ]; then
-    tests=$here/crates/rows/out/rows_tests
+tests=$here/crates/rows/out/rows_tests
+# The instructions of the calls of a function in a test.
+instructions_in_test() {
+    valgrind --tool=callgrind --callgrind-out-file=/dev/null --collect-atstart=no "--toggle-collect=$1" "$tests" "$2" 2>&1 |
+        sed -n 's/^==[0-9]*== Collected : //p'
+}
+case "${1:-}" in
+kept | trees)
     if [ ! -x "$tests" ]; then
         echo "$tests is not built: run 'rt test' in crates/rows first" >&2
         exit 2
     fi
-    for test in ten_thousand_numbers ten_thousand_keys_by_ten ten_thousand_keys_by_a_thousand; do
-        count=$(valgrind --tool=callgrind --callgrind-out-file=/dev/null --collect-atstart=no '--toggle-collect=*jsonb::value::Value::parse' \
-            "$tests" "tests::trees::$test" 2>&1 | sed -n 's/^==[0-9]*== Collected : //p')
-        echo "$test: $((count / 10000)) instructions each"
+    ;;
+esac
+case "${1:-}" in
+kept)
+    for test in insert update; do
+        echo "$test of one row: $(instructions_in_test '*read_again*' "tests::kept::${test}_read_twice")"
+        echo "the same with full metadata: $(instructions_in_test '*read_again*' "tests::kept::named_${test}_read_twice")"
     done
     exit
-fi
+    ;;
+trees)
+    for test in ten_thousand_numbers ten_thousand_keys_by_ten ten_thousand_keys_by_a_thousand; do
+        echo "$test: $(($(instructions_in_test '*jsonb::value::Value::parse' "tests::trees::$test") / 10000)) instructions each"
+    done
+    exit
+    ;;
+esac
 program=$here/crates/rows/out/rows
 if [ ! -x "$program" ]; then
     echo "$program is not built: run 'rt run' in crates/rows first" >&2
@@ -71,11 +90,17 @@ mapfile -t words <"$folder/330"
 writes=$(valgrind --tool=none --trace-syscalls=yes "$program" "${words[@]}" 2>&1 >/dev/null | grep -c 'sys_write')
 echo "instructions a row: $(((many_all - few_all) / 300)), of which decoding: $(((many - few) / 300))"
 echo "decoding, a row of the rows 331 to 630: $(((more - many) / 300))"
-if [ "${1:-}" = N ]; then
-    cell=(--collect-atstart=no '--toggle-collect=*read_decimal*')
-    few=$(instructions "$folder/30" "${cell[@]}")
-    many=$(instructions "$folder/330" "${cell[@]}")
-    [ "$many" -gt "$few" ] || { echo "read_decimal is no function of its own in the program" >&2; exit 2; }
-    echo "a NEWDECIMAL(12,2) cell: $(((many - few) / 300))"
+case "${1:-}" in
+N) cell=read_decimal ;;
+T) cell=read_timestamp2 ;;
+Y) cell=read_year ;;
+*) cell= ;;
+esac
+if [ -n "$cell" ]; then
+    call=(--collect-atstart=no "--toggle-collect=*$cell*")
+    few=$(instructions "$folder/30" "${call[@]}")
+    many=$(instructions "$folder/330" "${call[@]}")
+    [ "$many" -gt "$few" ] || { echo "$cell is no function of its own in the program" >&2; exit 2; }
+    echo "a call of $cell: $(((many - few) / 300))"
 fi
 echo "calls of write for 330 rows: $writes, for $(wc -c <"$folder/out") bytes"

@@ -1,15 +1,12 @@
 -- The text of a decimal of no digits.
-use Rattle.std.proofs.Common.{◌≡◌, ℕ, ◌+◌, ◌<◌, ◌≤◌, Bool, true, false, List, [], ◌∷◌, ◌++◌, length, Ok, refl, sym, ap, ◌∙◌, arith}
-use Rattle.std.specs.Fmt.{decimal, sign_text}
-use Rattle.std.specs.Int.{from_bool}
-use Rattle.std.specs.Int.Digits.{AllBelowBase}
+use Rattle.std.proofs.Common.{◌≡◌, ℕ, ◌+◌, ◌≤◌, false, List, [], ◌∷◌, ◌++◌, Ok, ap, arith}
+use Rattle.std.specs.Fmt.{decimal}
 use Rattle.std.specs.List.{flat_map}
-use Rattle.std.proofs.lemmas.List.{length-append, length-map}
 use Rattle.std.proofs.lemmas.Bool.{le-ltb}
 use Rattle.binlog_base.specs.Format.{map_value}
-use Rattle.binlog_values.specs.Decimals.{DecimalView, zero_decimal}
+use Rattle.binlog_values.specs.Decimals.{zero_decimal}
 use Rattle.binlog_values.specs.PackedDecimals.{packed_decimal}
-use Rattle.binlog_values.specs.DecimalText.{integer_text, fraction_digits_text, decimal_text}
+use Rattle.binlog_values.specs.DecimalText.{decimal_text}
 use Rattle.binlog_values.proofs.DigitCharacters.{glyphs}
 
 pub zero_digit : flat_map decimal (0 ∷ []) ≡ 48 ∷ []

@@ -121,13 +121,13 @@ date_cell = map_value (little_endian 3) date_of_bits
 
 -- ---- times with fractional seconds, of that many decimals
 
--- a number as at least six characters, including the minus, padded with zeros after the minus
-abbrev pub six_places : ℤ → List ℕ
-six_places z = let sign = sign_text (is_negative z) in let digits = decimal (unsigned_abs z) in sign ++ (replicate (6 - length digits - length sign) 48 ++ digits)
+-- a number as at least so many characters, including the minus, padded with zeros after the minus
+abbrev pub places_text : ℕ → ℤ → List ℕ
+places_text places z = let sign = sign_text (is_negative z) in let digits = decimal (unsigned_abs z) in sign ++ (replicate (places - length digits - length sign) 48 ++ digits)
 
 -- the seconds, then a point and the microseconds if these aren't 0
 abbrev pub timestamp_text : ℤ × ℤ → List ℕ
-timestamp_text t = if int_eq t.1 (pos 0) then signed_decimal t.0 else signed_decimal t.0 ++ (codes "." ++ six_places t.1)
+timestamp_text t = if int_eq t.1 (pos 0) then signed_decimal t.0 else signed_decimal t.0 ++ (codes "." ++ places_text 6 t.1)
 
 -- TIMESTAMP2: the value is the seconds since 1970 as text, with the fraction
 unfoldable pub timestamp2_cell : ℕ → Format PlainValue

@@ -317,7 +317,7 @@ fn read_cells(
     let mut place = 0;
     for slot in slots {
         let value = read_nullable_cell(alloc, slot, partials, is_set(nulls, place), buf)?;
-        values.push(Some(value))?;
+        values.push_reserved(Some(value));
         place += 1;
     }
     match end {

@@ -1,11 +1,11 @@
 //! Reads the cells of dates and times.
 
-ghost use Rattle.std.specs.Prelude.{◌≡◌, ◌≤◌, ◌<◌, ◌-◌, ◌*◌, ◌/◌, ◌%◌, ◌^◌, ◌++◌, true, false, IfOk, replicate};
+ghost use Rattle.std.specs.Prelude.{◌≡◌, ◌≤◌, ◌<◌, ◌+◌, ◌*◌, ◌/◌, ◌%◌, ◌^◌, ◌++◌, true, false, IfOk, take, drop, replicate};
 ghost use Rattle.std.specs.Option.{option_map};
 ghost use Rattle.binlog_base.specs.Format.{ParsesAs, OrMemory};
 ghost use Rattle.binlog_base.specs.Values.{plain_of, Bytes};
 ghost use Rattle.mysql_binlog_rows.specs.OldTimes.{digits_of_time, signed_old_time};
-ghost use Rattle.mysql_binlog_rows.specs.Cells.{timestamp_cell, time_of_digits, time_cell, date_of_digits, datetime_cell, year_text, year_cell, date_of_bits, date_cell, six_places, timestamp_text, timestamp2_cell, datetime2_cell, time2_cell};
+ghost use Rattle.mysql_binlog_rows.specs.Cells.{timestamp_cell, time_of_digits, time_cell, date_of_digits, datetime_cell, year_text, year_cell, date_of_bits, date_cell, places_text, timestamp_text, timestamp2_cell, datetime2_cell, time2_cell};
 
 use binlog_base::below::{ColumnType, IntRepr, LeU24, LeU32, LeU64, ParseBuf, U8, Value};
 use binlog_base::fault::Fault;
@@ -13,7 +13,7 @@ use binlog_base::misc::{
     datetime_from_packed, my_datetime_packed_from_binary, my_time_packed_from_binary,
     my_timestamp_from_binary, time_from_packed,
 };
-use itoa::Buffer;
+use itoa::write_digits;
 use std::alloc::{AllocError, Global};
 
 // Reads a TIMESTAMP of the format before fractional seconds: the seconds since 1970, as a
@@ -124,12 +124,14 @@ pub(super) fn read_datetime(buf: &mut ParseBuf<'_>) -> Result<Value, Fault>
 fn year_of(alloc: Global, years: u8) -> Result<Value, AllocError>
     ensures { IfOk result (λ value. plain_of value ≡ year_text years) }
 {
-    let mut digits = Buffer::new();
-    let text = digits.format(1900 + u16::from(years));
-    Ok(Value::Bytes(Vec::from_slice(alloc, text.as_bytes())?))
+    let mut digits = [b'0'; 4];
+    write_digits(1900 + u64::from(years), &mut digits, 4);
+    Ok(Value::Bytes(Vec::from_slice(alloc, &digits)?))
 }
 
-// Reads a YEAR: one byte, the years since 1900.
+// Reads a YEAR: one byte, the years since 1900. Not inlined, so that a profiler can count the
+// instructions of a cell.
+#[inline(never)]
 #[tactic(auto, unfolding(crate::specs::Cells::year_cell))]
 pub(super) fn read_year(alloc: Global, buf: &mut ParseBuf<'_>) -> Result<Value, Fault>
     ensures { OrMemory result (ParsesAs plain_of year_cell result buf.old.0.now buf.new.0.now) }
@@ -158,45 +160,48 @@ pub(super) fn read_date(buf: &mut ParseBuf<'_>) -> Result<Value, Fault>
     Ok(date_of_bits(number))
 }
 
-// Adds a number as at least six characters, including the minus, padded with zeros after the minus.
-fn add_six_places(text: &mut Vec<u8>, number: i32) -> Result<(), AllocError>
-    ensures { IfOk result (λ _. text.new.items ≡ text.old.items ++ six_places number) }
-{
-    let mut digits = Buffer::new();
-    let digits = digits.format(number.unsigned_abs());
-    if number < 0 {
-        text.extend_from_slice(b"-")?;
-        text.extend_from_slice(zeros(5, digits.len()))?;
-    } else {
-        text.extend_from_slice(zeros(6, digits.len()))?;
-    }
-    text.extend_from_slice(digits.as_bytes())
-}
+// The room for the text of a TIMESTAMP2: two numbers of 32 bits with their signs, and a point.
+const MAX_TIMESTAMP: usize = 24;
 
-// Returns as many zeros as a text of `len` bytes needs to have `places`.
-fn zeros(places: usize, len: usize) -> &'static [u8]
-    requires { places ≤ 6 }
-    ensures { result.now ≡ replicate (places - len) 48 }
+// Writes a number at the end of the zeros that end at `end`, as at least `places` characters,
+// including the minus, padded with zeros after the minus. Returns where it begins.
+fn put_places(number: i32, places: usize, room: &mut [u8; MAX_TIMESTAMP], end: usize) -> usize
+    requires places { places ≤ 6 }
+    requires room { (11 ≤ end) × (end ≤ 24) }
+    requires zeros { take end room.old ≡ replicate end 48 }
+    ensures within { result ≤ end }
+    ensures short { end ≤ result + 11 }
+    ensures text { drop result room.new ≡ places_text places number ++ drop end room.old }
+    ensures zeros { take result room.new ≡ replicate result 48 }
 {
-    &b"000000"[..places.saturating_sub(len)]
+    let digits = write_digits(u64::from(number.unsigned_abs()), room, end);
+    let padded = places.saturating_sub(usize::from(number < 0));
+    let start = digits.min(end - padded);
+    if number < 0 {
+        room[start - 1] = b'-';
+        start - 1
+    } else {
+        start
+    }
 }
 
 // Returns the seconds since 1970 as text, then a point and the microseconds if these aren't 0.
 fn timestamp_of(alloc: Global, seconds: i32, microseconds: i32) -> Result<Value, AllocError>
     ensures { IfOk result (λ value. plain_of value ≡ Bytes (timestamp_text (seconds, microseconds))) }
 {
-    let mut digits = Buffer::new();
-    let mut text = Vec::with_capacity(alloc, 18)?;
-    text.extend_from_slice(digits.format(seconds).as_bytes())?;
-    if microseconds == 0 {
-        return Ok(Value::Bytes(text));
+    let mut room = [b'0'; MAX_TIMESTAMP];
+    let mut end = MAX_TIMESTAMP;
+    if microseconds != 0 {
+        end = put_places(microseconds, 6, &mut room, end) - 1;
+        room[end] = b'.';
     }
-    text.extend_from_slice(b".")?;
-    add_six_places(&mut text, microseconds)?;
-    Ok(Value::Bytes(text))
+    let start = put_places(seconds, 0, &mut room, end);
+    Ok(Value::Bytes(Vec::from_slice(alloc, &room[start..])?))
 }
 
-// Reads a TIMESTAMP with `decimals` digits of fractional seconds, as text.
+// Reads a TIMESTAMP with `decimals` digits of fractional seconds, as text. Not inlined, so that a
+// profiler can count the instructions of a cell.
+#[inline(never)]
 #[tactic(auto, unfolding(crate::specs::Cells::timestamp2_cell))]
 pub(super) fn read_timestamp2(
     alloc: Global,

@@ -24,6 +24,35 @@ const SIGNED: &[u8] = b"\x01\0\0\0\0\0\x01\0\x01d\0\x01t\0\x02\x03\x0f\x02\x0a\0
 /// An inserted row of the first column alone.
 const FIRST_COLUMN: &[u8] = b"\x01\0\0\0\0\0\x01\0\x02\0\x02\x01\0\xff\xff\xff\xff";
 
+/// A table of ten columns: LONGLONG, LONG, two VARCHAR, DATETIME2, NEWDECIMAL(12,2), TINY, DOUBLE,
+/// BLOB and ENUM. It has no optional metadata.
+const TEN_COLUMNS: &[u8] = b"\
+    \0\0\0\0\0\0\x01\0\x01d\0\x01t\0\x0a\x08\x03\x0f\x0f\x12\xf6\x01\x05\xfc\xfe\x0bP\0P\0\0\
+    \x0c\x02\x08\x02\xf7\x01\xff\x03";
+
+/// The same table with signs, character sets, names and a key.
+const TEN_NAMED_COLUMNS: &[u8] = b"\
+    \0\0\0\0\0\0\x01\0\x01d\0\x01t\0\x0a\x08\x03\x0f\x0f\x12\xf6\x01\x05\xfc\xfe\x0bP\0P\0\0\
+    \x0c\x02\x08\x02\xf7\x01\xff\x03\x01\x01\x80\x02\x05\xfc\xff\0\x02?\x04Z\x08column_0\x08\
+    column_1\x08column_2\x08column_3\x08column_4\x08column_5\x08column_6\x08column_7\x08colu\
+    mn_8\x08column_9\x08\x01\0";
+
+/// An inserted row of the ten columns.
+const TEN_INSERTED: &[u8] = b"\
+    \0\0\0\0\0\0\x01\0\x02\0\x0a\xff\x03L\0\x99\xe1\xfa\xa5\xb3\x86h\x82\xb4v\xa2\xcb\xf4\
+    \x87\x1fF@\x82\x22\xfa\xff\xc3Wj\xc4\x064\xa9\xd9d\x9f-\0\xbc\xc5zaIA\xa3A?$8\x8a\x1d\
+    \xb5\x94\xd4\xb9:\xff\xc8\x14q\x9a,\xe8\x0a_ET\xd1\xf8\x85;Q\xadg\xee\x0d\x92,\xd8k\xce?\
+    f\x02";
+
+/// The same row before and after an update.
+const TEN_UPDATED: &[u8] = b"\
+    \0\0\0\0\0\0\x01\0\x02\0\x0a\xff\x03\xff\x03L\0\x99\xe1\xfa\xa5\xb3\x86h\x82\xb4v\xa2\
+    \xcb\xf4\x87\x1fF@\x82\x22\xfa\xff\xc3Wj\xc4\x064\xa9\xd9d\x9f-\0\xbc\xc5zaIA\xa3A?$8\
+    \x8a\x1d\xb5\x94\xd4\xb9:\xff\xc8\x14q\x9a,\xe8\x0a_ET\xd1\xf8\x85;Q\xadg\xee\x0d\x92,\
+    \xd8k\xce?f\x02L\0\x99\xe1\xfa\xa5\xb3\x86h\x82\xb4v\xa2\xcb\xf4\x87\x1fF@\x82\x22\xfa\
+    \xff\xc3Wj\xc4\x064\xa9\xd9d\x9f-\0\xbc\xc5zaIA\xa3A?$8\x8a\x1d\xb5\x94\xd4\xb9:\xff\xc8\
+    \x14q\x9a,\xe8\x0a_ET\xd1\xf8\x85;Q\xadg\xee\x0d\x92,\xd8k\xce?f\x02";
+
 /// Returns the steps by a plan that is kept; `None` where the items aren't those of `rows`.
 fn steps_of(
     alloc: Global,
@@ -138,5 +167,81 @@ fn events_one_after_the_other(rt: HostRuntime) -> Result<(), Fail> {
     for (case, steps) in CASES {
         assert!(rt; steps_in(rt.alloc(), &mut kept, case)? == Some(steps));
     }
+    Ok(())
+}
+
+/// Reads both events. Returns how many pairs there are by the plan that is kept, and the steps.
+fn read_by(
+    alloc: Global,
+    kept: &mut KeptPlan,
+    table: &[u8],
+    rows: &[u8],
+    event_type: EventType,
+) -> Result<(usize, u128), Fault> {
+    let table: TableMapEvent<'_> = ParseBuf(table).parse(8)?;
+    let event = read(rows, event_type, 10)?;
+    let mut pairs = 0;
+    let mut items = event.rows_by(alloc, &table, kept)?;
+    for pair in items.by_ref() {
+        pair?;
+        pairs += 1;
+    }
+    Ok((pairs, items.metadata_steps()))
+}
+
+/// Does the same by a plan that is there. Not inlined, so that scripts/instructions.sh can count it.
+#[inline(never)]
+fn read_again(
+    alloc: Global,
+    kept: &mut KeptPlan,
+    table: &[u8],
+    rows: &[u8],
+    event_type: EventType,
+) -> Result<(usize, u128), Fault> {
+    read_by(alloc, kept, table, rows, event_type)
+}
+
+/// Reads both events twice, the second time by the plan that is kept.
+fn read_twice(
+    alloc: Global,
+    table: &[u8],
+    rows: &[u8],
+    event_type: EventType,
+) -> Result<[(usize, u128); 2], Fault> {
+    let mut kept = KeptPlan::default();
+    let anew = read_by(alloc, &mut kept, table, rows, event_type)?;
+    let again = read_again(alloc, &mut kept, table, rows, event_type)?;
+    Ok([anew, again])
+}
+
+#[test]
+fn insert_read_twice(rt: HostRuntime) -> Result<(), Fail> {
+    let event_type = EventType::WRITE_ROWS_EVENT;
+    let twice = read_twice(rt.alloc(), TEN_COLUMNS, TEN_INSERTED, event_type)?;
+    assert!(rt; twice == [(1, 10), (1, 0)]);
+    Ok(())
+}
+
+#[test]
+fn named_insert_read_twice(rt: HostRuntime) -> Result<(), Fail> {
+    let event_type = EventType::WRITE_ROWS_EVENT;
+    let twice = read_twice(rt.alloc(), TEN_NAMED_COLUMNS, TEN_INSERTED, event_type)?;
+    assert!(rt; twice == [(1, 26), (1, 0)]);
+    Ok(())
+}
+
+#[test]
+fn update_read_twice(rt: HostRuntime) -> Result<(), Fail> {
+    let event_type = EventType::UPDATE_ROWS_EVENT;
+    let twice = read_twice(rt.alloc(), TEN_COLUMNS, TEN_UPDATED, event_type)?;
+    assert!(rt; twice == [(1, 10), (1, 0)]);
+    Ok(())
+}
+
+#[test]
+fn named_update_read_twice(rt: HostRuntime) -> Result<(), Fail> {
+    let event_type = EventType::UPDATE_ROWS_EVENT;
+    let twice = read_twice(rt.alloc(), TEN_NAMED_COLUMNS, TEN_UPDATED, event_type)?;
+    assert!(rt; twice == [(1, 26), (1, 0)]);
     Ok(())
 }

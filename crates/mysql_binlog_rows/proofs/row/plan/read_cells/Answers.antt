@@ -15,10 +15,12 @@ returns c = λ other. all_ill _ _ _ _ _ _ _ _ _ c.loop-slot-test.false c.in-Some
 pub loop-slot-preserved : goal.loop-slot-preserved
 loop-slot-preserved c = record {
   place = omega arith;
+  len = omega (arith, c.push_reserved.ensures.len, c.loop-slot.invariant.len);
+  room = omega (arith, c.push_reserved.ensures.capacity, c.loop-slot.invariant.room);
   so_far =
       let read : (slot_cell (get_or c.args.nulls.now c.loop-slot.place false) c.args.partials.now c.slot-item.result).parse c.loop-slot.buf.0.now ≡ Ok (cell_of c.in_ok-value.value, c.read_nullable_cell.new.buf.0.now) =
       ap (λ (b : Bool). (slot_cell b c.args.partials.now c.slot-item.result).parse c.loop-slot.buf.0.now) (sym c.is_set.ensures) ∙ c.in_ok-value.ensures in
-      rw (c.in_ok-push.ensures.items, map-append)
+      rw (c.push_reserved.ensures.items, map-append)
       (goes_on c.args.partials.now _ c.args.slots.now c.args.end c.args.nulls.now c.loop-slot.slot-index c.loop-slot.place c.loop-slot.buf.0.now c.read_nullable_cell.new.buf.0.now c.slot-item.result (cell_of c.in_ok-value.value) _
       c.loop-slot-test.true c.slot-item.is read c.loop-slot.invariant.so_far);
 }

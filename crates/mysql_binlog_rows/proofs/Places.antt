@@ -1,0 +1,98 @@
+-- Numbers that are written at the end of zeros: the zeros before the digits are their padding.
+use Rattle.std.specs.Prelude.{replicate, decimal, unsigned_abs}
+use Rattle.std.specs.Int.{is_negative}
+use Rattle.std.specs.Fmt.{sign_text, signed_decimal}
+use Rattle.std.proofs.Common.{◌≡◌, ℕ, ◌+◌, ◌-◌, ◌<◌, ◌≤◌, ◌^◌, ℤ, pos, negsuc, Bool, true, false, cond, List, ◌∷◌, ◌++◌, length, take, drop, set, min, suc, [], ◌/◌, ◌%◌, int_eq, sym, ap, ◌∙◌, append-nil, append_assoc, arith}
+use Rattle.std.proofs.lemmas.Bool.{le-ltb}
+use Rattle.std.proofs.lemmas.Fmt.{decimal_step, decimal_digit}
+use Rattle.std.proofs.lemmas.List.{length-append, drop_all, take-append-drop, drop-append-le, take-take, take-replicate, drop-replicate, length-replicate, drop-set, take_rest}
+use Rattle.mysql_binlog_rows.specs.Cells.{places_text, timestamp_text}
+
+-- The digits are written up to the end of the zeros: those before the digits are left.
+pub record AtEnd (new old digits : List ℕ) (at end : ℕ) : Type 0 where
+  pub long : at + length digits ≡ end
+  pub written : drop at new ≡ digits ++ drop end old
+  pub before : take at new ≡ take at old
+  pub zeros : take end old ≡ replicate end 48
+
+pub zeros_left : (new old digits : List ℕ) (at end start : ℕ) → AtEnd new old digits at end → start ≤ at → take start new ≡ replicate start 48
+zeros_left new old digits at end start a le =
+    sym (take-take start at new le) ∙ ap (take start) a.before ∙ take-take start at old le
+    ∙ sym (take-take start end old (omega (arith, le, a.long))) ∙ ap (take start) a.zeros ∙ take-replicate start end 48 (omega (arith, le, a.long))
+
+-- from before the digits on are as many zeros, the digits, and what is after them
+padded : (new old digits : List ℕ) (at end start : ℕ) → AtEnd new old digits at end → start ≤ at → drop start new ≡ (replicate (at - start) 48 ++ digits) ++ drop end old
+padded new old digits at end start a le =
+    let front : take at new ≡ replicate at 48 = zeros_left new old digits at end at a (omega arith) in
+    let whole : new ≡ replicate at 48 ++ (digits ++ drop end old) = sym (take-append-drop at new) ∙ ap (λ (t : List ℕ). t ++ drop at new) front ∙ ap (λ (t : List ℕ). replicate at 48 ++ t) a.written in
+    ap (drop start) whole
+    ∙ drop-append-le start (replicate at 48) (digits ++ drop end old) (omega (arith, le, length-replicate {A = ℕ} at 48))
+    ∙ ap (λ (t : List ℕ). t ++ (digits ++ drop end old)) (drop-replicate start at 48)
+    ∙ sym (append_assoc (replicate (at - start) 48) digits (drop end old))
+
+pub unsigned_places : (new old : List ℕ) (z : ℤ) (places at end start : ℕ) → is_negative z ≡ false → AtEnd new old (decimal (unsigned_abs z)) at end → start ≡ min at (end - places) → places ≤ end
+    → drop start new ≡ places_text places z ++ drop end old
+unsigned_places new old z places at end start sign a is fits =
+    let digits = decimal (unsigned_abs z) in
+    let many : at - start ≡ places - length digits - 0 = omega (arith, is, a.long, fits) in
+    rw sign (padded new old digits at end start a (omega (arith, is)) ∙ ap (λ (k : ℕ). (replicate k 48 ++ digits) ++ drop end old) many)
+
+pub signed_places : (new old : List ℕ) (z : ℤ) (places at end start : ℕ) → is_negative z ≡ true → AtEnd new old (decimal (unsigned_abs z)) at end → start ≡ min at (end - (places - 1)) → places ≤ end
+    → 1 ≤ start → start - 1 < length new → drop (start - 1) (set new (start - 1) 45) ≡ places_text places z ++ drop end old
+signed_places new old z places at end start sign a is fits some within =
+    let digits = decimal (unsigned_abs z) in
+    let many : at - start ≡ places - length digits - 1 = omega (arith, is, a.long, fits) in
+    let same : start - 1 + 1 ≡ start = omega (arith, some) in
+    rw sign (drop-set new (start - 1) 45 within
+    ∙ ap (λ (k : ℕ). 45 ∷ drop k new) same
+    ∙ ap (λ (t : List ℕ). 45 ∷ t) (padded new old digits at end start a (omega (arith, is)) ∙ ap (λ (k : ℕ). (replicate k 48 ++ digits) ++ drop end old) many))
+
+pub no_places : (z : ℤ) → places_text 0 z ≡ signed_decimal z
+no_places (pos n) =
+    let digits = decimal n in
+    let sign : is_negative (pos n) ≡ false = le-ltb n 0 (omega arith) in
+    let none : 0 - length digits - 0 ≡ 0 = omega arith in
+    ap (λ (b : Bool). sign_text b ++ (replicate (0 - length digits - length (sign_text b)) 48 ++ digits)) sign ∙ ap (λ (k : ℕ). replicate k 48 ++ digits) none
+no_places (negsuc n) =
+    let digits = decimal (suc n) in
+    let none : 0 - length digits - 1 ≡ 0 = omega arith in
+    ap (λ (k : ℕ). 45 ∷ (replicate k 48 ++ digits)) none
+
+one_more : (n : ℕ) → 10 ≤ n → n < 2 ^ 64 → length (decimal n) ≡ length (decimal (n / 10)) + 1
+one_more n low high = ap length (decimal_step n low high) ∙ length-append (decimal (n / 10)) ((48 + n % 10) ∷ [])
+
+-- a number from 1000 to 9999 has four digits
+pub four_digits : (n : ℕ) → 1000 ≤ n → n < 10000 → length (decimal n) ≡ 4
+four_digits n low high =
+    let one : length (decimal (n / 10 / 10 / 10)) ≡ 1 = ap length (decimal_digit (n / 10 / 10 / 10) (omega arith)) in
+    omega (arith, one, one_more n (omega arith) (omega arith), one_more (n / 10) (omega arith) (omega arith), one_more (n / 10 / 10) (omega arith) (omega arith))
+
+-- digits that fill their room
+pub filled : (new old digits : List ℕ) (at : ℕ) → drop at new ≡ digits ++ drop 4 old → at + length digits ≡ 4 → length digits ≡ 4 → length old ≡ 4 → new ≡ digits
+filled new old digits at written start four long =
+    let first : at ≡ 0 = omega (arith, start, four) in
+    let none : drop 4 old ≡ [] = drop_all 4 old (omega (arith, long)) in
+    ap (λ (k : ℕ). drop k new) (sym first) ∙ written ∙ ap (λ (t : List ℕ). digits ++ t) none ∙ append-nil digits
+
+-- the rest of a room, from a place on
+pub rest_of_room : (room : List ℕ) (start : ℕ) → length room ≡ 24 → take (24 - start) (drop start room) ≡ drop start room
+rest_of_room room start long = ap (λ (n : ℕ). take (n - start) (drop start room)) (sym long) ∙ take_rest room start
+
+-- seconds, a point and microseconds
+pub timestamp_with : (seconds micro : ℤ) (text room made old : List ℕ) (end at : ℕ) → int_eq micro (pos 0) ≡ false → text ≡ places_text 0 seconds ++ drop end room
+    → room ≡ set made (at - 1) 46 → end ≡ at - 1 → 1 ≤ at → at ≤ length made → drop at made ≡ places_text 6 micro ++ drop 24 old → length old ≡ 24 → text ≡ timestamp_text (seconds, micro)
+timestamp_with seconds micro text room made old end at other is set_point here some within written long =
+    let next : at - 1 + 1 ≡ at = omega (arith, some) in
+    let none : drop 24 old ≡ [] = drop_all 24 old (omega (arith, long)) in
+    let fraction : drop at made ≡ places_text 6 micro = written ∙ ap (λ (t : List ℕ). places_text 6 micro ++ t) none ∙ append-nil (places_text 6 micro) in
+    let after : drop end room ≡ 46 ∷ places_text 6 micro =
+    ap (drop end) set_point ∙ ap (λ (k : ℕ). drop k (set made (at - 1) 46)) here ∙ drop-set made (at - 1) 46 (omega (arith, some, within)) ∙ ap (λ (k : ℕ). 46 ∷ drop k made) next ∙ ap (λ (t : List ℕ). 46 ∷ t) fraction in
+    is ∙ ap (λ (t : List ℕ). t ++ drop end room) (no_places seconds) ∙ ap (λ (t : List ℕ). signed_decimal seconds ++ t) after
+    ∙ ap (λ (b : Bool). cond b (signed_decimal seconds) (signed_decimal seconds ++ (46 ∷ places_text 6 micro))) (sym other)
+
+-- seconds alone
+pub timestamp_without : (seconds micro : ℤ) (text room : List ℕ) (end : ℕ) → int_eq micro (pos 0) ≡ true → text ≡ places_text 0 seconds ++ drop end room → end ≡ 24 → length room ≡ 24 → text ≡ timestamp_text (seconds, micro)
+timestamp_without seconds micro text room end zero is here long =
+    let none : drop end room ≡ [] = drop_all end room (omega (arith, here, long)) in
+    is ∙ ap (λ (t : List ℕ). places_text 0 seconds ++ t) none ∙ append-nil (places_text 0 seconds) ∙ no_places seconds
+    ∙ ap (λ (b : Bool). cond b (signed_decimal seconds) (signed_decimal seconds ++ (46 ∷ places_text 6 micro))) (sym zero)

@@ -12,3 +12,5 @@ pub mod EventRead
 pub mod Sized
 pub mod SourceFollowed
 pub mod Headers
+pub mod Moved
+pub mod Checkpointed

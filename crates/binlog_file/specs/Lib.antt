@@ -13,3 +13,5 @@ pub mod Stream
 pub mod Readers
 pub mod SourceChanges
 pub mod SourceWalks
+pub mod Stored
+pub mod Checkpoints

@@ -6,7 +6,7 @@ use Rattle.binlog_file.specs.declared.reader.Kept.{Kept}
 use Rattle.binlog_file.specs.declared.reader.EventStreamReader.{EventStreamReader}
 
 abbrev pub kept_by : Kept → Spec.Kept
-kept_by k = Spec.kept k.position k.description (held_by k.tables)
+kept_by k = Spec.kept k.position k.description (held_by k.tables) k.stored
 
 abbrev pub reading_of : EventStreamReader → Spec.Reading
 reading_of r = record { kept = kept_by r.kept; is_over = r.is_over }

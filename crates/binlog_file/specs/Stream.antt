@@ -8,7 +8,8 @@ use Rattle.binlog_file.specs.declared.error.EventError.TheVariants as error
 use Rattle.binlog_file.specs.declared.error.FileError.{FileError}
 use Rattle.binlog_file.specs.Description.{Description}
 use Rattle.binlog_file.specs.Events.{Raw, raw_event, Event, event, after, is_binlog, no_binlog}
-use Rattle.binlog_file.specs.Tables.{InForce, in_force_after}
+use Rattle.binlog_file.specs.Tables.{InForce, nothing_in_force, in_force_after}
+use Rattle.binlog_file.specs.Stored.{Stored, nothing_stored, stored_after}
 
 -- these are the next n bytes of a source, or all that were left, which are fewer
 pub record Fills (n : ℕ) (old new : Option (List ℕ)) (bytes : List ℕ) : Type 0 where
@@ -27,24 +28,30 @@ RawGives old (Ok None) new = IsLeft old []
 RawGives old (Ok (Some r)) new = (y : List ℕ) × raw_event.spells y r × Consumes old new y
 RawGives old (Err e) new = IsOutside e ⊎ ((x : List ℕ) × (x ≢ []) × raw_event.refuses x e × IsLeft old x)
 
--- what a reader keeps between events: the position, the description and the tables in force
+-- what a reader keeps between events: the position, the description and the tables in force, and the
+-- bytes of the events that a checkpoint has
 pub record Kept : Type 0 where
   pub at : ℕ
   pub description : Option Description
   pub in_force : InForce
+  pub stored : Stored
 
-abbrev pub kept : ℕ → Option Description → InForce → Kept
-kept at d s = record { at = at; description = d; in_force = s }
+abbrev pub kept : ℕ → Option Description → InForce → Stored → Kept
+kept at d s stored = record { at = at; description = d; in_force = s; stored = stored }
 
--- a position is at most 2^64 - 1
-abbrev pub kept_after : Kept → Event → Kept
-kept_after k e = kept (min (k.at + e.header.event_size) (2 ^ 64 - 1)) (after k.description e) (in_force_after k.in_force e)
+-- after the four bytes with which a file begins
+abbrev pub first_kept : Kept
+first_kept = kept 4 None nothing_in_force nothing_stored
+
+-- what is kept after an event of these bytes; a position is at most 2^64 - 1
+abbrev pub kept_after : Kept → List ℕ → Event → Kept
+kept_after k y e = kept (min (k.at + e.header.event_size) (2 ^ 64 - 1)) (after k.description e) (in_force_after k.in_force e) (stored_after k.stored k.in_force.ended e y)
 
 -- The event at the start of the bytes, which are taken; nothing if no bytes were left; or the error with
 -- which those that were left are refused.
 abbrev pub ReadGives : Option (List ℕ) → Kept → Result (Option Event) EventError → Option (List ℕ) → Kept → Type 0
 ReadGives old k (Ok None) new l = IsLeft old [] × (l ≡ k)
-ReadGives old k (Ok (Some e)) new l = (y : List ℕ) × (event k.at k.description).spells y e × Consumes old new y × (l ≡ kept_after k e)
+ReadGives old k (Ok (Some e)) new l = (y : List ℕ) × (event k.at k.description).spells y e × Consumes old new y × (l ≡ kept_after k y e)
 ReadGives old k (Err e) new l = IsOutside e ⊎ ((x : List ℕ) × (x ≢ []) × (event k.at k.description).refuses x e × IsLeft old x)
 
 -- the same, and the error with the position where the bytes begin

@@ -10,6 +10,7 @@ ghost use Rattle.binlog_file.specs.declared.error.EventError.TheVariants as erro
 ghost use Rattle.binlog_file.specs.Crc32.{crc32};
 ghost use Rattle.binlog_file.specs.Events as Spec;
 ghost use Rattle.binlog_file.specs.Tables.{ends_statement};
+ghost use Rattle.binlog_file.specs.Stored.{is_there};
 
 use crate::crc::crc32_of_both;
 use crate::description::FormatDescriptionEvent;
@@ -55,6 +56,20 @@ impl<'a> Raw<'a> {
         ensures { result ≡ self.now.header }
     {
         self.header
+    }
+
+    // Returns the bytes of the header.
+    pub(crate) fn head(&self) -> &'a [u8]
+        ensures { result.now ≡ self.now.head }
+    {
+        self.head
+    }
+
+    // Returns the bytes after the header.
+    pub(crate) fn rest(&self) -> &'a [u8]
+        ensures { result.now ≡ self.now.rest }
+    {
+        self.rest
     }
 
     fn is_description(&self) -> bool
@@ -478,6 +493,26 @@ impl<'a> Event<'a> {
         ensures { option_map (λ d. d.now) result ≡ self.now.description }
     {
         self.description.as_ref()
+    }
+
+    // Returns whether the event is a format description event.
+    pub(crate) fn is_description(&self) -> bool
+        ensures { result ≡ is_there self.now.description }
+    {
+        match self.description() {
+            Some(_) => true,
+            None => false,
+        }
+    }
+
+    // Returns whether the event is a table map event.
+    pub(crate) fn is_table(&self) -> bool
+        ensures { result ≡ is_there self.now.table }
+    {
+        match self.table() {
+            Some(_) => true,
+            None => false,
+        }
     }
 
     /// Returns whether the event is a rows event with the flag STMT_END_F: the last one of its

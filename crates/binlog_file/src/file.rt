@@ -2,7 +2,6 @@
 
 ghost use Rattle.std.specs.Prelude.{◌≡◌, None, true, false, IfOk, IfErr};
 ghost use Rattle.std.specs.Io.KnownBytes.{Consumes};
-ghost use Rattle.binlog_file.specs.Tables.{nothing_in_force};
 ghost use Rattle.binlog_file.specs.Events.{is_binlog, magic};
 ghost use Rattle.binlog_file.specs.Events as Events;
 ghost use Rattle.binlog_file.specs.Stream as Spec;
@@ -81,7 +80,7 @@ impl<S: Source + Drop> BinlogFile<S> {
     pub fn new(alloc: Global, source: S) -> Result<BinlogFile<S>, FileError>
         ensures ok { IfOk result (λ f. Consumes (S.remaining source) (S.remaining f.source) magic) }
         ensures err { IfErr result (Spec.NoHeader (S.remaining source)) }
-        ensures kept { IfOk result (λ f. kept_by f.reader.kept ≡ Spec.kept 4 None nothing_in_force) }
+        ensures kept { IfOk result (λ f. kept_by f.reader.kept ≡ Spec.first_kept) }
         ensures goes_on { IfOk result (λ f. f.reader.is_over ≡ false) }
     {
         let mut source = source;
@@ -93,7 +92,7 @@ impl<S: Source + Drop> BinlogFile<S> {
     /// bytes of a file without its header.
     pub fn from_stream(alloc: Global, source: S) -> BinlogFile<S>
         ensures source { result.source ≡ source }
-        ensures kept { kept_by result.reader.kept ≡ Spec.kept 4 None nothing_in_force }
+        ensures kept { kept_by result.reader.kept ≡ Spec.first_kept }
         ensures goes_on { result.reader.is_over ≡ false }
     {
         BinlogFile {

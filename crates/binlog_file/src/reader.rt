@@ -1,16 +1,17 @@
 //! Reading events one at a time from a source of bytes.
 
-ghost use Rattle.std.specs.Prelude.{◌≡◌, ◌≤◌, ◌<◌, ◌↔◌, ◌⊎◌, false, true, Ok, None, length, OnOk, IfOk, IfErr, IsErr, IsTrue};
+ghost use Rattle.std.specs.Prelude.{◌≡◌, ◌≤◌, ◌<◌, ◌++◌, ◌↔◌, ◌⊎◌, false, true, Ok, None, length, OnOk, IfOk, IfErr, IsErr, IsTrue};
 ghost use Rattle.std.specs.Option.{option_map};
 ghost use Rattle.std.specs.Io.KnownBytes.{Consumes, IsAtEnd};
 ghost use Rattle.binlog_file.specs.Events.{after};
-ghost use Rattle.binlog_file.specs.Tables.{nothing_in_force};
 ghost use Rattle.binlog_file.specs.Stream as Spec;
 ghost use Rattle.binlog_file.specs.Readers.{kept_by, reading_of};
+ghost use Rattle.binlog_file.specs.Checkpoints.{checkpoint, checkpoint_of};
 
 use crate::description::{FormatDescriptionEvent, OwnedDescription};
 use crate::error::{EventError, FileError};
 use crate::event::{Event, Raw, header_of, rest_len};
+use crate::stored::StoredEvents;
 use crate::tables::TableMaps;
 use binlog_base::below::{Failed, Source};
 use binlog_table::table_map::TableMapEvent;
@@ -115,6 +116,7 @@ struct Kept {
     position: u64,
     description: Option<OwnedDescription>,
     tables: TableMaps,
+    stored: StoredEvents,
 }
 
 // Returns the same description, which borrows its bytes.
@@ -142,15 +144,24 @@ fn description_after(
 }
 
 impl Kept {
-    // Takes what an event says.
-    fn take(&mut self, alloc: Global, event: &Event<'_>) -> Result<(), AllocError>
-        ensures { OnOk result (kept_by self.new ≡ Spec.kept_after (kept_by self.old) event.now) }
+    // Takes what an event of these bytes says.
+    fn take(&mut self, alloc: Global, event: &Event<'_>, raw: &Raw<'_>) -> Result<(), AllocError>
+        ensures { OnOk result (kept_by self.new ≡ Spec.kept_after (kept_by self.old)
+            (raw.now.head ++ raw.now.rest) event.now) }
     {
         self.description = description_after(alloc, self.description.take(), event)?;
+        self.stored.take(self.tables.ended(), event, raw)?;
         self.tables.take(alloc, event)?;
         let size = u64::from(event.header().event_size());
         self.position = self.position.saturating_add(size);
         Ok(())
+    }
+
+    // Returns the bytes of a checkpoint.
+    fn checkpoint(&self, alloc: Global) -> Result<Vec<u8>, AllocError>
+        ensures { IfOk result (λ c. c.items ≡ checkpoint_of (kept_by self.now)) }
+    {
+        self.stored.checkpoint(alloc, self.tables.ended())
     }
 }
 
@@ -169,7 +180,7 @@ fn read_event<'b, S: Source>(
     };
     let in_force = lend(&kept.description);
     let event = Event::of_raw(kept.position, &in_force, &raw)?;
-    kept.take(alloc, &event)?;
+    kept.take(alloc, &event, &raw)?;
     Ok(Some(event))
 }
 
@@ -209,7 +220,7 @@ impl EventStreamReader {
 
     /// Returns a reader of the events after the four bytes with which a file begins.
     pub fn new(alloc: Global) -> EventStreamReader
-        ensures kept { kept_by result.kept ≡ Spec.kept 4 None nothing_in_force }
+        ensures kept { kept_by result.kept ≡ Spec.first_kept }
         ensures goes_on { result.is_over ≡ false }
     {
         EventStreamReader {
@@ -218,6 +229,7 @@ impl EventStreamReader {
                 position: 4,
                 description: None,
                 tables: TableMaps::new(alloc),
+                stored: StoredEvents::new(alloc),
             },
             is_over: false,
         }
@@ -236,6 +248,20 @@ impl EventStreamReader {
         ensures { option_map (λ t. t.now) result ≡ (kept_by self.now.kept).in_force.tables table_id }
     {
         self.kept.tables.get_tme(table_id)
+    }
+
+    /// Returns a checkpoint: bytes that are themselves the beginning of a binlog file. They are the
+    /// four bytes with which a file begins, the format description event, the last GTID event after
+    /// it, and the table map events that the next event finds, as they were read. Whoever reads them
+    /// and then the rest of the file from `position()` on reads the rest as this reader does. There
+    /// is no checkpoint after an error. Fails if memory is refused.
+    pub fn checkpoint(&self, alloc: Global) -> Result<Option<Vec<u8>>, AllocError>
+        ensures { IfOk result (λ c. option_map (λ b. b.items) c ≡ checkpoint (reading_of self.now)) }
+    {
+        if self.is_over {
+            return Ok(None);
+        }
+        Ok(Some(self.kept.checkpoint(alloc)?))
     }
 
     /// Reads the next event of the source into the buffer; nothing if no bytes are left, or after

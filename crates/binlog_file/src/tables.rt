@@ -36,6 +36,13 @@ impl TableMaps {
         self.tables.get(&table_id)
     }
 
+    // Returns whether a statement ended with the last event.
+    pub(crate) fn ended(&self) -> bool
+        ensures { result ≡ self.now.ended }
+    {
+        self.ended
+    }
+
     // Gives up all tables if the event before was the last of its statement, or this one is a format
     // description event.
     fn give_up(&mut self, event: &Event<'_>)

@@ -5,6 +5,7 @@ mod below;
 mod cells;
 mod consts;
 mod decimals;
+mod file;
 mod filter;
 mod images;
 mod jsonb;

@@ -4,10 +4,15 @@ ghost use Rattle.std.specs.Prelude.{◌≡◌, IfOk, IfErr};
 ghost use Rattle.binlog_base.specs.declared.fault.Fault.TheVariants as Fault;
 ghost use Rattle.mysql_binlog_rows.specs.Images.{pair};
 ghost use Rattle.mysql_binlog_rows.specs.Cover.{Covers};
+ghost use Rattle.binlog_table.specs.TableMap.{TableMap};
+ghost use Rattle.mysql_binlog_rows.specs.RowsEvent.{RowsEvent as Event};
+ghost use Rattle.mysql_binlog_rows.specs.Rows.{Reads};
+ghost use Rattle.mysql_binlog_rows.specs.Kept.{KeptServes};
 ghost use Rattle.mysql_binlog_rows.specs.Decodes.{input, input_of, DecodesAs};
 
 use super::event::{RowsEvent, RowsEventCtx};
-use super::rows::RowPair;
+use super::kept::KeptPlan;
+use super::rows::{RowPair, RowsEventRows};
 use binlog_base::below::{ParseBuf, Server};
 use binlog_base::fault::Fault;
 use binlog_table::table_map::TableMapEvent;
@@ -21,18 +26,14 @@ pub struct Decoded {
     pub fault: Option<Fault>,
 }
 
-// Returns the pairs of rows of an event, up to its first fault.
-fn pairs_of(
-    alloc: Global,
-    table: &TableMapEvent<'_>,
-    event: &RowsEvent<'_>,
-) -> Result<Decoded, Fault>
-    ensures covers { IfOk result (λ d. Covers (pair table.now event.now) event.now.rows_data d.pairs.items
-        d.fault) }
+// Returns the pairs of rows that an iterator gives, up to its first fault.
+fn collect(alloc: Global, rows: RowsEventRows<'_>) -> Result<Decoded, Fault>
+    ensures covers { (t : TableMap) (e : Event) → Reads t e rows.entry.plans
+        → IfOk result (λ d. Covers (pair t e) rows.entry.left d.pairs.items d.fault) }
     ensures err { IfErr result (λ e. e ≡ Fault.Memory) }
 {
     let mut pairs = Vec::new(alloc);
-    for item in event.rows(alloc, table) {
+    for item in rows {
         match item {
             Ok(pair) => pairs.push(pair)?,
             Err(fault) => {
@@ -47,6 +48,40 @@ fn pairs_of(
         }
     }
     Ok(Decoded { pairs, fault: None })
+}
+
+/// Returns the pairs of rows of an event, up to its first fault. `table` is the table map event that
+/// describes the columns.
+///
+/// A fault in the rows data is not an error: it is answered with the pairs before it. The error is
+/// `Memory` if memory can't be allocated.
+pub fn pairs_of(
+    alloc: Global,
+    table: &TableMapEvent<'_>,
+    event: &RowsEvent<'_>,
+) -> Result<Decoded, Fault>
+    ensures covers { IfOk result (λ d. Covers (pair table.now event.now) event.now.rows_data d.pairs.items
+        d.fault) }
+    ensures err { IfErr result (λ e. e ≡ Fault.Memory) }
+{
+    collect(alloc, event.rows(alloc, table))
+}
+
+/// Returns the pairs of rows as `pairs_of` does, by a plan that is kept, as `RowsEvent::rows_by`
+/// says.
+pub fn pairs_by(
+    alloc: Global,
+    table: &TableMapEvent<'_>,
+    event: &RowsEvent<'_>,
+    kept: &mut KeptPlan,
+) -> Result<Decoded, Fault>
+    ensures covers { IfOk result (λ d. Covers (pair table.now event.now) event.now.rows_data d.pairs.items
+        d.fault) }
+    ensures kept { IfOk result (λ _. KeptServes kept.new table.now event.now) }
+    ensures err { IfErr result (λ e. e ≡ Fault.Memory) }
+{
+    let rows = event.rows_by(alloc, table, kept)?;
+    collect(alloc, rows)
 }
 
 /// Reads a table map event and a rows event of MySQL's binary log, and all pairs of rows of the

@@ -1,0 +1,16 @@
+pub mod Remainders
+pub mod CrcTables
+pub mod Words
+pub mod Reading
+pub mod Collected
+pub mod Rest
+pub mod Changed
+pub mod Followed
+pub mod Held
+pub mod RawRead
+pub mod EventRead
+pub mod Sized
+pub mod SourceFollowed
+pub mod Headers
+pub mod Moved
+pub mod Checkpointed

@@ -1,0 +1,8 @@
+use Rattle.binlog_file.proofs.Checkpointed.{leads_to, goes_on_with}
+use Rattle.binlog_file.proofs.laws.checkpoints_lead_back.Goals as goal
+
+pub returns-clause-leads : goal.returns-clause-leads
+returns-clause-leads c = leads_to
+
+pub returns-clause-goes_on : goal.returns-clause-goes_on
+returns-clause-goes_on c = goes_on_with

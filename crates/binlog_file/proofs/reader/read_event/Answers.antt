@@ -1,0 +1,36 @@
+use Rattle.std.proofs.Common.{ℕ, List, Ok, Err, Option, subst}
+use Rattle.binlog_base.specs.Format.{Parses}
+use Rattle.binlog_file.specs.Description.{Description}
+use Rattle.binlog_file.specs.Events.{Raw, event_of_raw}
+use Rattle.binlog_file.specs.Stream.{RawGives}
+use Rattle.binlog_file.specs.Readers.{kept_by}
+use Rattle.binlog_file.proofs.EventRead.{handed_on, raw_refused, event_refused, event_read}
+use Rattle.binlog_file.proofs.reader.read_event.Goals as goal
+
+pub returns-in_err-raw : goal.returns-in_err-raw
+returns-in_err-raw g c =
+    let old = g.S.Source.remaining c.args.source.now in
+    let new = g.S.Source.remaining c.take_raw.new.source in
+    let k = kept_by c.args.kept.now in
+    let e = c.in_err-raw.field-0.0 in
+    handed_on old new k k c.from_residual.result e c.from_residual.ensures.1 (raw_refused old new k k e c.in_err-raw.ensures)
+
+pub returns-in_err-event : goal.returns-in_err-event
+returns-in_err-event g c =
+    let old = g.S.Source.remaining c.args.source.now in
+    let new = g.S.Source.remaining c.take_raw.new.source in
+    let k = kept_by c.args.kept.now in
+    let e = c.in_err-event.field-0.0 in
+    let raw = subst (λ (o : Option Raw). RawGives old (Ok o) new) c.in-Some.is c.in_ok-raw.ensures in
+    let read = subst (λ (d : Option Description). (x : List ℕ) → Parses (event_of_raw k.at d c.in-Some.raw) (Err e) x x) c.lend-in_force.ensures c.in_err-event.ensures in
+    handed_on old new k k c.from_residual-in_err-event.result e c.from_residual-in_err-event.ensures.1 (event_refused old new k k c.in-Some.raw e raw read)
+
+pub returns : goal.returns
+returns g c =
+    let old = g.S.Source.remaining c.args.source.now in
+    let new = g.S.Source.remaining c.take_raw.new.source in
+    let k = kept_by c.args.kept.now in
+    let e = c.in_ok-event.event in
+    let raw = subst (λ (o : Option Raw). RawGives old (Ok o) new) c.in-Some.is c.in_ok-raw.ensures in
+    let read = subst (λ (d : Option Description). (x : List ℕ) → Parses (event_of_raw k.at d c.in-Some.raw) (Ok e) x x) c.lend-in_force.ensures c.in_ok-event.ensures in
+    event_read old new k (kept_by c.take.new.self) c.in-Some.raw e raw read c.in_ok-take.ensures

@@ -1,0 +1,42 @@
+-- Reading the changes of a file from a source, one at a time.
+use Rattle.std.specs.Prelude.{◌≡◌, ℕ, ◌+◌, ◌-◌, ◌*◌, ◌^◌, ◌<◌, Bool, true, false, if◌then◌else◌, List, [], length, Result, Option, Some, None}
+use Rattle.binlog_file.specs.declared.error.FileError.{FileError}
+use Rattle.binlog_file.specs.Events.{Place}
+use Rattle.binlog_file.specs.Stream.{Kept, Reading, IsOutside}
+use Rattle.binlog_file.specs.Changes.{Wanted, Change, Spot, spot, TakeGives, ChangeGives, count, LessensTo}
+
+-- The bytes that a reading finds: none at its end; else those of its source, where they are known, if the
+-- last of them has a position below 2^64.
+abbrev pub Found : Bool → ℕ → Option (List ℕ) → List ℕ → Type 0
+Found true at remaining x = x ≡ []
+Found false at remaining x = (remaining ≡ Some x) × (at + length x < 2 ^ 64)
+
+abbrev pub Finds : Reading → Option (List ℕ) → List ℕ → Type 0
+Finds r remaining x = Found r.is_over r.kept.at remaining x
+
+-- where a reading is that finds these bytes
+abbrev pub place_at : Kept → List ℕ → Place
+place_at k x = record { left = x; at = k.at; in_force = k.description }
+
+abbrev pub spot_at : Kept → Option FileError → List ℕ → Spot
+spot_at k pending x = spot (place_at k x) k.in_force pending
+
+-- whatever bytes the old reading finds, what is left at the new one is what was left, or follows a change
+abbrev pub SourceTakes : Wanted → Option (List ℕ) → Reading → Option FileError → Option Change → Option (List ℕ) → Reading → Option FileError → Type 0
+SourceTakes wanted old r p c new s q = (x : List ℕ) → Finds r old x → (z : List ℕ) × Finds s new z × TakeGives IsOutside wanted (spot_at r.kept p x) c (spot_at s.kept q z)
+
+-- whatever bytes the old reading finds, this is their next change, or the error that follows
+abbrev pub SourceGives : Wanted → Option (List ℕ) → Reading → Option FileError → Option (Result Change FileError) → Option (List ℕ) → Reading → Option FileError → Type 0
+SourceGives wanted old r p item new s q = (x : List ℕ) → Finds r old x → (z : List ℕ) × Finds s new z × ChangeGives IsOutside wanted (spot_at r.kept p x) item (spot_at s.kept q z)
+
+-- how many positions are left, of which each event takes some
+abbrev pub turns : Reading → ℕ
+turns r = if r.is_over then 0 else 2 ^ 64 - r.kept.at
+
+-- more items than are left
+abbrev pub items_left : Reading → Option FileError → ℕ
+items_left r pending = 2 * turns r + count pending
+
+pub record SourceSteps (wanted : Wanted) (old : Option (List ℕ)) (r : Reading) (p : Option FileError) (item : Option (Result Change FileError)) (new : Option (List ℕ)) (s : Reading) (q : Option FileError) : Type 0 where
+  pub gives : SourceGives wanted old r p item new s q
+  pub lessens : LessensTo (items_left r p) item (items_left s q)

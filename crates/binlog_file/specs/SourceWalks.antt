@@ -1,0 +1,11 @@
+-- Where a reading of changes from a source is. It is a module of its own because SourceWalk is a type of
+-- the code.
+use Rattle.binlog_file.specs.Stream.{Kept, Reading}
+use Rattle.binlog_file.specs.Readers.{kept_by, reading_of}
+use Rattle.binlog_file.specs.declared.source_changes.SourceWalk.{SourceWalk}
+
+abbrev pub reading_in : SourceWalk → Reading
+reading_in w = reading_of w.reader
+
+abbrev pub kept_in : SourceWalk → Kept
+kept_in w = kept_by w.reader.kept

@@ -1,0 +1,80 @@
+-- Reading events from a source. The bytes of a source are Some of those that are left in it, or None
+-- where they aren't known.
+use Rattle.std.specs.Prelude.{◌≡◌, ◌≢◌, ◌↔◌, ℕ, ◌+◌, ◌-◌, ◌^◌, ◌<◌, ◌≤◌, min, Bool, true, false, IsTrue, List, [], length, Result, Ok, Err, IsErr, Option, Some, None, ◌⊎◌}
+use Rattle.std.specs.Io.KnownBytes.{Consumes, IsAtEnd}
+use Rattle.binlog_base.specs.Sources.{IsLeft}
+use Rattle.binlog_file.specs.declared.error.EventError.{EventError}
+use Rattle.binlog_file.specs.declared.error.EventError.TheVariants as error
+use Rattle.binlog_file.specs.declared.error.FileError.{FileError}
+use Rattle.binlog_file.specs.Description.{Description}
+use Rattle.binlog_file.specs.Events.{Raw, raw_event, Event, event, after, is_binlog, no_binlog}
+use Rattle.binlog_file.specs.Tables.{InForce, nothing_in_force, in_force_after}
+use Rattle.binlog_file.specs.Stored.{Stored, nothing_stored, stored_after}
+
+-- these are the next n bytes of a source, or all that were left, which are fewer
+pub record Fills (n : ℕ) (old new : Option (List ℕ)) (bytes : List ℕ) : Type 0 where
+  pub fits : length bytes ≤ n
+  pub taken : Consumes old new bytes
+  pub ends : length bytes < n → IsAtEnd new
+
+-- the source failed, or memory was refused
+abbrev pub IsOutside : EventError → Type 0
+IsOutside e = (e ≡ error.Reader) ⊎ (e ≡ error.Memory)
+
+-- the bytes of the event at the start, which are taken; nothing if no bytes were left; or the error with
+-- which those that were left are refused
+abbrev pub RawGives : Option (List ℕ) → Result (Option Raw) EventError → Option (List ℕ) → Type 0
+RawGives old (Ok None) new = IsLeft old []
+RawGives old (Ok (Some r)) new = (y : List ℕ) × raw_event.spells y r × Consumes old new y
+RawGives old (Err e) new = IsOutside e ⊎ ((x : List ℕ) × (x ≢ []) × raw_event.refuses x e × IsLeft old x)
+
+-- what a reader keeps between events: the position, the description and the tables in force, and the
+-- bytes of the events that a checkpoint has
+pub record Kept : Type 0 where
+  pub at : ℕ
+  pub description : Option Description
+  pub in_force : InForce
+  pub stored : Stored
+
+abbrev pub kept : ℕ → Option Description → InForce → Stored → Kept
+kept at d s stored = record { at = at; description = d; in_force = s; stored = stored }
+
+-- after the four bytes with which a file begins
+abbrev pub first_kept : Kept
+first_kept = kept 4 None nothing_in_force nothing_stored
+
+-- what is kept after an event of these bytes; a position is at most 2^64 - 1
+abbrev pub kept_after : Kept → List ℕ → Event → Kept
+kept_after k y e = kept (min (k.at + e.header.event_size) (2 ^ 64 - 1)) (after k.description e) (in_force_after k.in_force e) (stored_after k.stored k.in_force.ended e y)
+
+-- The event at the start of the bytes, which are taken; nothing if no bytes were left; or the error with
+-- which those that were left are refused.
+abbrev pub ReadGives : Option (List ℕ) → Kept → Result (Option Event) EventError → Option (List ℕ) → Kept → Type 0
+ReadGives old k (Ok None) new l = IsLeft old [] × (l ≡ k)
+ReadGives old k (Ok (Some e)) new l = (y : List ℕ) × (event k.at k.description).spells y e × Consumes old new y × (l ≡ kept_after k y e)
+ReadGives old k (Err e) new l = IsOutside e ⊎ ((x : List ℕ) × (x ≢ []) × (event k.at k.description).refuses x e × IsLeft old x)
+
+-- the same, and the error with the position where the bytes begin
+abbrev pub EventGives : Option (List ℕ) → Kept → Result (Option Event) FileError → Option (List ℕ) → Kept → Type 0
+EventGives old k (Ok e) new l = ReadGives old k (Ok e) new l
+EventGives old k (Err e) new l = (e.position ≡ k.at) × ReadGives old k (Err e.error) new l
+
+-- the error of a source that doesn't begin with the bytes of a binlog file
+abbrev pub NoHeader : Option (List ℕ) → FileError → Type 0
+NoHeader old e = ((e.position ≡ 0) × IsOutside e.error) ⊎ ((x : List ℕ) × (is_binlog x ≡ false) × (e ≡ no_binlog x) × IsLeft old x)
+
+-- what a reader keeps, and whether it is at its end
+pub record Reading : Type 0 where
+  pub kept : Kept
+  pub is_over : Bool
+
+-- The next event, or the error, after which the reader is at its end. At its end it gives nothing, and
+-- leaves all as it is.
+pub record ReaderGives (old : Option (List ℕ)) (r : Reading) (result : Result (Option Event) FileError) (new : Option (List ℕ)) (s : Reading) : Type 0 where
+  pub reads : r.is_over ≡ false → EventGives old r.kept result new s.kept
+  pub over : r.is_over ≡ true → (result ≡ Ok None) × (s ≡ r) × (new ≡ old)
+  pub ended : IsTrue s.is_over ↔ ((r.is_over ≡ true) ⊎ IsErr result)
+
+-- the reader isn't at its end, and neither at the greatest position
+abbrev pub MayGoOn : Reading → Type 0
+MayGoOn r = (r.is_over ≡ false) × (r.kept.at < 2 ^ 64 - 1)

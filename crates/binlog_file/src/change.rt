@@ -1,0 +1,267 @@
+//! The changes of rows events.
+
+ghost use Rattle.std.specs.Prelude.{◌≡◌, Some, None, Ok, Err, IfOk, IfErr};
+ghost use Rattle.binlog_base.specs.declared.fault.Fault.TheVariants as Fault;
+ghost use Rattle.binlog_file.specs.declared.error.EventError.TheVariants as EventError;
+ghost use Rattle.binlog_file.specs.TableMaps.{in_maps};
+ghost use Rattle.binlog_file.specs.Changes as Spec;
+
+use crate::choice::Choice;
+use crate::error::EventError;
+use crate::event::Event;
+use crate::origin::Origin;
+use crate::plans::KeptPlans;
+use crate::tables::TableMaps;
+use binlog_base::below::{MyDeserialize, ParseBuf};
+use binlog_base::fault::Fault;
+use binlog_table::table_map::TableMapEvent;
+use mysql_binlog_rows::rows_event::{RowPair, RowsEvent, RowsEventCtx};
+use std::alloc::{AllocError, Global};
+use std::marker::Model;
+
+/// A rows event, and its pairs of rows.
+#[derive(Drop)]
+pub struct Change<'a> {
+    origin: Origin,
+    rows: RowsEvent<'a>,
+    pairs: Vec<RowPair>,
+}
+
+impl<'a> Model for Change<'a> {
+    ghost use Rattle.binlog_file.specs.Changes as Spec;
+
+    ghost Value = { Spec.Change };
+
+    ghost view = { λ c. record { origin = c.origin; rows = c.rows; pairs = c.pairs.items } };
+}
+
+impl<'a> Change<'a> {
+    /// Returns where the event comes from.
+    pub fn origin(&self) -> Origin
+        ensures { result ≡ self.now.origin }
+    {
+        self.origin
+    }
+
+    /// Returns where the event begins in the file.
+    pub fn position(&self) -> u64
+        ensures { result ≡ self.now.origin.position }
+    {
+        self.origin.position
+    }
+
+    /// Returns the rows event.
+    pub fn rows(&self) -> &RowsEvent<'a>
+        ensures { result.now ≡ self.now.rows }
+    {
+        &self.rows
+    }
+
+    /// Returns the pairs of rows. If an error follows the change, they are those before the pair
+    /// that can't be read.
+    pub fn pairs(&self) -> &[RowPair]
+        ensures { result.now ≡ self.now.pairs }
+    {
+        &self.pairs
+    }
+
+    // Returns the same change, which owns its bytes.
+    fn into_owned(self, alloc: Global) -> Result<Change<'static>, AllocError>
+        ensures { IfOk result (λ c. c ≡ self.entry) }
+    {
+        Ok(Change {
+            origin: self.origin,
+            rows: self.rows.into_owned(alloc)?,
+            pairs: self.pairs,
+        })
+    }
+}
+
+// Returns the same change, if there is one, which owns its bytes.
+fn maybe_owned(
+    alloc: Global,
+    change: Option<Change<'_>>,
+) -> Result<Option<Change<'static>>, AllocError>
+    ensures { IfOk result (λ c. c ≡ change.entry) }
+{
+    match change {
+        None => Ok(None),
+        Some(change) => Ok(Some(change.into_owned(alloc)?)),
+    }
+}
+
+/// What an event gives: a change, an error, both or nothing.
+#[derive(Drop)]
+pub(crate) struct Given<'a> {
+    change: Option<Change<'a>>,
+    error: Option<EventError>,
+}
+
+impl<'a> Model for Given<'a> {
+    ghost use Rattle.binlog_file.specs.Changes as Spec;
+
+    ghost Value = { Spec.Given };
+
+    ghost view = { λ g. record { change = g.change; error = g.error } };
+}
+
+impl<'a> Given<'a> {
+    // Returns the same, which owns its bytes.
+    pub(crate) fn into_owned(self, alloc: Global) -> Result<Given<'static>, AllocError>
+        ensures { IfOk result (λ g. g ≡ self.entry) }
+    {
+        Ok(Given {
+            change: maybe_owned(alloc, self.change)?,
+            error: self.error,
+        })
+    }
+
+    // Returns the change and the error.
+    pub(crate) fn into_parts(self) -> (Option<Change<'a>>, Option<EventError>)
+        ensures change { result.0 ≡ self.entry.change }
+        ensures error { result.1 ≡ self.entry.error }
+    {
+        (self.change, self.error)
+    }
+}
+
+// Returns that an event gives nothing.
+fn nothing<'a>() -> Given<'a>
+    ensures { result ≡ Spec.nothing }
+{
+    Given {
+        change: None,
+        error: None,
+    }
+}
+
+// Returns that an event gives an error alone.
+fn failure<'a>(error: EventError) -> Given<'a>
+    ensures { result ≡ Spec.failure error }
+{
+    Given {
+        change: None,
+        error: Some(error),
+    }
+}
+
+// Returns whether the event is MySQL's that only ends a statement.
+fn is_dummy(rows: &RowsEvent<'_>) -> bool
+    ensures { result ≡ Spec.is_dummy rows.now }
+{
+    rows.table_id() == 0x00ff_ffff && rows.flags_raw() % 2 == 1
+}
+
+// Returns the change of a rows event, with the table map event that is in force for it.
+fn with_table<'a>(
+    alloc: Global,
+    plans: &mut KeptPlans,
+    table: &TableMapEvent<'_>,
+    origin: Origin,
+    rows: RowsEvent<'a>,
+) -> Result<Given<'a>, Fault>
+    ensures given { IfOk result (λ g. Spec.IsCovered table.now origin rows.entry g.change g.error) }
+    ensures err { IfErr result (λ e. e ≡ Fault.Memory) }
+{
+    let decoded = plans.pairs(alloc, table, &rows)?;
+    let pairs = decoded.pairs;
+    let error = match decoded.fault {
+        None => None,
+        Some(fault) => Some(EventError::RowsData(pairs.len() as u64, fault)),
+    };
+    Ok(Given {
+        change: Some(Change {
+            origin,
+            rows,
+            pairs,
+        }),
+        error,
+    })
+}
+
+// Returns the change of a rows event if it is wanted.
+fn if_wanted<'a>(
+    alloc: Global,
+    is_wanted: bool,
+    plans: &mut KeptPlans,
+    table: &TableMapEvent<'_>,
+    origin: Origin,
+    rows: RowsEvent<'a>,
+) -> Result<Given<'a>, Fault>
+    ensures given { IfOk result
+        (λ g. Spec.IsChosen is_wanted table.now origin rows.entry g.change g.error) }
+    ensures err { IfErr result (λ e. e ≡ Fault.Memory) }
+{
+    if is_wanted {
+        with_table(alloc, plans, table, origin, rows)
+    } else {
+        Ok(nothing())
+    }
+}
+
+// Returns what a rows event gives that was read.
+fn change_of<'a, C: Choice>(
+    alloc: Global,
+    choice: &C,
+    plans: &mut KeptPlans,
+    tables: &TableMaps,
+    origin: Origin,
+    rows: RowsEvent<'a>,
+) -> Result<Given<'a>, Fault>
+    ensures given { IfOk result (λ g. Spec.RowsGive (C.wanted choice.now) (in_maps tables.now) origin
+        rows.entry g.change g.error) }
+    ensures err { IfErr result (λ e. e ≡ Fault.Memory) }
+{
+    if is_dummy(&rows) {
+        return Ok(nothing());
+    }
+    let table_id = rows.table_id();
+    match tables.get_tme(table_id) {
+        None => Ok(failure(EventError::UnknownTable(table_id))),
+        Some(table) => {
+            let is_wanted = choice.wants(origin.position, table, rows.event_type());
+            if_wanted(alloc, is_wanted, plans, table, origin, rows)
+        }
+    }
+}
+
+// Returns what the body of a rows event gives.
+fn body_gives<'a, C: Choice>(
+    alloc: Global,
+    choice: &C,
+    plans: &mut KeptPlans,
+    tables: &TableMaps,
+    origin: Origin,
+    ctx: RowsEventCtx,
+    body: &'a [u8],
+) -> Result<Given<'a>, Fault>
+    ensures given { IfOk result (λ g. Spec.BodyGives (C.wanted choice.now) (in_maps tables.now) origin
+        ctx body.now g) }
+    ensures err { IfErr result (λ e. e ≡ Fault.Memory) }
+{
+    match RowsEvent::deserialize(ctx, &mut ParseBuf(body)) {
+        Err(fault) => Ok(failure(EventError::RowsEvent(fault))),
+        Ok(rows) => change_of(alloc, choice, plans, tables, origin, rows),
+    }
+}
+
+/// Returns what an event gives.
+pub(crate) fn event_gives<'a, C: Choice>(
+    alloc: Global,
+    choice: &C,
+    plans: &mut KeptPlans,
+    tables: &TableMaps,
+    event: &Event<'a>,
+) -> Result<Given<'a>, Fault>
+    ensures given { IfOk result
+        (λ g. Spec.EventGives (C.wanted choice.now) (in_maps tables.now) event.now g) }
+    ensures err { IfErr result (λ e. e ≡ Fault.Memory) }
+{
+    match event.rows_ctx() {
+        None => Ok(nothing()),
+        Some(ctx) => {
+            let (origin, body) = (event.origin(), event.body());
+            body_gives(alloc, choice, plans, tables, origin, ctx, body)
+        }
+    }
+}

@@ -1,0 +1,257 @@
+//! The changes of a file in memory.
+
+ghost use Rattle.std.specs.Prelude.{◌≡◌, ◌≢◌, List, ℕ, true, false, Some, None, Ok, Err, IfOk, IfErr, IfSome, IfNone, OnOk};
+ghost use Rattle.std.specs.Option.{option_map};
+ghost use Rattle.binlog_base.specs.declared.fault.Fault.TheVariants as Fault;
+ghost use Rattle.binlog_file.specs.declared.error.EventError.TheVariants as EventError;
+ghost use Rattle.binlog_file.specs.Events.{Place, NextGives, is_binlog, no_binlog};
+ghost use Rattle.binlog_file.specs.Tables.{in_force_after};
+ghost use Rattle.binlog_file.specs.TableMaps.{held_by};
+ghost use Rattle.binlog_file.specs.Changes as Spec;
+ghost use Rattle.binlog_file.specs.Walks.{spot_of};
+
+use crate::change::{Change, Given, event_gives};
+use crate::choice::Choice;
+use crate::error::{EventError, FileError};
+use crate::event::Event;
+use crate::events::Events;
+use crate::plans::KeptPlans;
+use crate::tables::TableMaps;
+use binlog_base::fault::Fault;
+use binlog_table::table_map::TableMapEvent;
+use std::alloc::{AllocError, Global};
+
+// Takes what an event says of tables, and returns what it gives.
+fn read_change<'a, C: Choice>(
+    alloc: Global,
+    choice: &C,
+    plans: &mut KeptPlans,
+    tables: &mut TableMaps,
+    event: &Event<'a>,
+) -> Result<Given<'a>, Fault>
+    ensures tables { OnOk result (held_by tables.new ≡ in_force_after (held_by tables.old) event.now) }
+    ensures given { IfOk result (λ g. Spec.EventGives (C.wanted choice.now)
+        (in_force_after (held_by tables.old) event.now).tables event.now g) }
+    ensures err { IfErr result (λ e. e ≡ Fault.Memory) }
+{
+    tables.take(alloc, event)?;
+    event_gives(alloc, choice, plans, tables, event)
+}
+
+/// Where a reading of changes is: the events that are left, the tables in force, the plans that are
+/// kept, and the error with which it ends, if it does.
+#[derive(Drop)]
+struct Walk<'a> {
+    events: Events<'a>,
+    tables: TableMaps,
+    plans: KeptPlans,
+    pending: Option<FileError>,
+}
+
+/// An iterator over the changes of a file that are wanted, up to and including its first error.
+#[derive(Drop)]
+pub struct FileChanges<'a, C: Choice + Drop> {
+    alloc: Global,
+    choice: C,
+    walk: Walk<'a>,
+}
+
+impl<'a> Walk<'a> {
+    // Returns the error with which the reading ends, if it ends here. Nothing is left after it.
+    fn end(&mut self) -> Option<FileError>
+        ensures error { result ≡ self.old.pending }
+        ensures ended { IfSome result (λ _. Spec.IsAtEnd (spot_of self.new)) }
+        ensures goes_on { IfNone result (spot_of self.new ≡ spot_of self.old) }
+        ensures not_ended { IfNone result (self.new.pending ≡ None) }
+    {
+        let error = self.pending.take()?;
+        self.events.stop();
+        Some(error)
+    }
+}
+
+impl<'a, C: Choice + Drop> FileChanges<'a, C> {
+    /// Returns an iterator over the changes of a file that are wanted. Fails with `NotABinlogFile`
+    /// or `Encrypted` if its first four bytes are others than those of a binlog file.
+    pub fn new(alloc: Global, file: &'a [u8], choice: C) -> Result<FileChanges<'a, C>, FileError>
+        ensures ok { IfOk result (λ c. spot_of c.walk ≡ Spec.first_spot file.now) }
+        ensures choice { IfOk result (λ c. c.choice ≡ choice) }
+        ensures magic { IfOk result (λ _. is_binlog file.now ≡ true) }
+        ensures err { IfErr result (λ e. (e ≡ no_binlog file.now) × (is_binlog file.now ≡ false)) }
+    {
+        let events = Events::new(file)?;
+        Ok(FileChanges {
+            alloc,
+            choice,
+            walk: Walk {
+                events,
+                tables: TableMaps::new(alloc),
+                plans: KeptPlans::new(alloc),
+                pending: None,
+            },
+        })
+    }
+
+    /// Returns the table map event that is in force for a table id after the change that was given
+    /// last.
+    pub fn get_tme(&self, table_id: u64) -> Option<&TableMapEvent<'static>>
+        ensures { option_map (λ t. t.now) result ≡ (spot_of self.now.walk).in_force.tables table_id }
+    {
+        self.walk.tables.get_tme(table_id)
+    }
+}
+
+// Returns the error at a position, if there is one.
+pub(crate) fn at_position(position: u64, error: Option<EventError>) -> Option<FileError>
+    ensures { result ≡ Spec.at_position position error }
+{
+    error.map(|error| FileError { position, error })
+}
+
+// Takes an event: returns its change, and keeps the error with which the reading ends, if it does.
+fn take_event<'a, C: Choice>(
+    alloc: Global,
+    choice: &C,
+    walk: &mut Walk<'a>,
+    event: &Event<'a>,
+) -> Option<Change<'a>>
+    ensures takes { (p : Place) → NextGives p (Some (Ok event.now)) walk.old.events
+        → Spec.TakeGives Spec.IsMemory (C.wanted choice.now) (Spec.spot p (held_by walk.old.tables) None)
+        result (spot_of walk.new) }
+    ensures events { walk.new.events ≡ walk.old.events }
+{
+    let position = event.position();
+    match read_change(alloc, choice, &mut walk.plans, &mut walk.tables, event) {
+        Ok(given) => {
+            let (change, error) = given.into_parts();
+            walk.pending = at_position(position, error);
+            change
+        }
+        Err(_) => {
+            walk.pending = at_position(position, Some(EventError::Memory));
+            None
+        }
+    }
+}
+
+// Takes an item of the events: returns its change, and keeps the error with which the reading ends,
+// if it does.
+fn take_item<'a, C: Choice>(
+    alloc: Global,
+    choice: &C,
+    walk: &mut Walk<'a>,
+    item: Result<Event<'a>, FileError>,
+) -> Option<Change<'a>>
+    ensures takes { (p : Place) → NextGives p (Some item.entry) walk.old.events
+        → Spec.TakeGives Spec.IsMemory (C.wanted choice.now) (Spec.spot p (held_by walk.old.tables) None)
+        result (spot_of walk.new) }
+    ensures events { walk.new.events ≡ walk.old.events }
+{
+    match item {
+        Ok(event) => take_event(alloc, choice, walk, &event),
+        Err(error) => {
+            walk.pending = Some(error);
+            None
+        }
+    }
+}
+
+// Returns the next change, or the error with which the reading ends.
+fn next_change<'a, C: Choice>(
+    alloc: Global,
+    choice: &C,
+    walk: &mut Walk<'a>,
+) -> Option<Result<Change<'a>, FileError>>
+    ensures { Spec.ChangeSteps (C.wanted choice.now) (spot_of walk.old) result (spot_of walk.new) }
+{
+    loop {
+        if let Some(error) = walk.end() {
+            return Some(Err(error));
+        }
+        let item = walk.events.next()?;
+        if let Some(change) = take_item(alloc, choice, walk, item) {
+            return Some(Ok(change));
+        }
+    }
+}
+
+impl<'a, C: Choice + Drop> Iterator for FileChanges<'a, C> {
+    type Item = Result<Change<'a>, FileError>;
+
+    ghost use Rattle.std.specs.Prelude.{◌≡◌};
+    ghost use Rattle.std.specs.Iterator.{at_most};
+    ghost use Rattle.binlog_file.specs.Changes.{ChangeSteps, most_left};
+    ghost use Rattle.binlog_file.specs.Walks.{spot_of};
+
+    ghost next_gives = { λ s r t. (t.choice ≡ s.choice)
+        × ChangeSteps (C.wanted s.choice) (spot_of s.walk) r (spot_of t.walk) };
+
+    ghost remaining = { λ s. at_most (most_left (spot_of s.walk)) };
+
+    fn next(&mut self) -> Option<Result<Change<'a>, FileError>> {
+        next_change(self.alloc, &self.choice, &mut self.walk)
+    }
+}
+
+/// The changes of a file, and the error that follows them, if one does.
+#[derive(Drop)]
+pub struct ChangeList<'a> {
+    pub changes: Vec<Change<'a>>,
+    pub error: Option<FileError>,
+}
+
+// Returns the changes that an error follows, unless memory was refused.
+fn ended<'a>(changes: Vec<Change<'a>>, error: FileError) -> Result<ChangeList<'a>, AllocError>
+    ensures changes { IfOk result (λ l. l.changes.items ≡ changes.entry.items) }
+    ensures error { IfOk result (λ l. l.error ≡ Some error) }
+    ensures memory { IfOk result (λ _. error.error ≢ EventError.Memory) }
+{
+    match error.error {
+        EventError::Memory => Err(AllocError),
+        _ => Ok(ChangeList {
+            changes,
+            error: Some(error),
+        }),
+    }
+}
+
+// Returns the changes that are left, up to the first error.
+fn collect<'a, C: Choice + Drop>(
+    alloc: Global,
+    changes: FileChanges<'a, C>,
+) -> Result<ChangeList<'a>, AllocError>
+    ensures { (x : List ℕ) → spot_of changes.entry.walk ≡ Spec.first_spot x → is_binlog x ≡ true
+        → IfOk result (λ l. Spec.AreChangesOfFile (C.wanted changes.entry.choice) x l.changes.items l.error) }
+{
+    let mut list = Vec::new(alloc);
+    for item in changes {
+        match item {
+            Ok(change) => list.push(change)?,
+            Err(error) => return ended(list, error),
+        }
+    }
+    Ok(ChangeList {
+        changes: list,
+        error: None,
+    })
+}
+
+/// Reads the changes of a file that are wanted, in order: each rows event with its pairs of rows by
+/// the table map event that is in force for it, up to the first place where an event can't be read,
+/// or the pairs don't cover its rows data, with the error there. Fails if memory is refused.
+pub fn changes<'a, C: Choice + Drop>(
+    alloc: Global,
+    file: &'a [u8],
+    choice: C,
+) -> Result<ChangeList<'a>, AllocError>
+    ensures { IfOk result
+        (λ l. Spec.AreChangesOfFile (C.wanted choice) file.now l.changes.items l.error) }
+{
+    match FileChanges::new(alloc, file, choice) {
+        Ok(changes) => collect(alloc, changes),
+        Err(error) => Ok(ChangeList {
+            changes: Vec::new(alloc),
+            error: Some(error),
+        }),
+    }
+}

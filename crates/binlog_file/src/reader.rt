@@ -1,0 +1,292 @@
+//! Reading events one at a time from a source of bytes.
+
+ghost use Rattle.std.specs.Prelude.{◌≡◌, ◌≤◌, ◌<◌, ◌++◌, ◌↔◌, ◌⊎◌, false, true, Ok, None, length, OnOk, IfOk, IfErr, IsErr, IsTrue};
+ghost use Rattle.std.specs.Option.{option_map};
+ghost use Rattle.std.specs.Io.KnownBytes.{Consumes, IsAtEnd};
+ghost use Rattle.binlog_file.specs.Events.{after};
+ghost use Rattle.binlog_file.specs.Stream as Spec;
+ghost use Rattle.binlog_file.specs.Readers.{kept_by, reading_of};
+ghost use Rattle.binlog_file.specs.Checkpoints.{checkpoint, checkpoint_of};
+
+use crate::description::{FormatDescriptionEvent, OwnedDescription};
+use crate::error::{EventError, FileError};
+use crate::event::{Event, Raw, header_of, rest_len};
+use crate::stored::StoredEvents;
+use crate::tables::TableMaps;
+use binlog_base::below::{Failed, Source};
+use binlog_table::table_map::TableMapEvent;
+use std::alloc::{AllocError, Global};
+
+/// How many bytes are asked of a source at most.
+const PIECE: usize = 4096;
+
+/// The bytes of an event that was read. It is used for one event after the other.
+#[derive(Drop)]
+pub struct EventBuffer {
+    head: Vec<u8>,
+    rest: Vec<u8>,
+    piece: [u8; PIECE],
+}
+
+impl EventBuffer {
+    /// Returns an empty buffer.
+    pub fn new(alloc: Global) -> EventBuffer {
+        EventBuffer {
+            head: Vec::new(alloc),
+            rest: Vec::new(alloc),
+            piece: [0; PIECE],
+        }
+    }
+
+    // Takes n bytes of the source, or all that are left if they are fewer.
+    pub(crate) fn fill<S: Source>(&mut self, source: &mut S, n: usize) -> Result<&[u8], EventError>
+        ensures ok { IfOk result (λ x. Spec.Fills n (S.remaining source.old) (S.remaining source.new) x.now) }
+        ensures err { IfErr result (λ e. Spec.IsOutside e) }
+    {
+        fill(source, &mut self.piece, &mut self.head, n)?;
+        Ok(&self.head)
+    }
+}
+
+// Takes at most so many bytes of the source: none only if none are left.
+fn read_piece<'p, S: Source>(
+    source: &mut S,
+    piece: &'p mut [u8; PIECE],
+    most: usize,
+) -> Result<&'p [u8], Failed>
+    ensures taken { IfOk result (λ x. Consumes (S.remaining source.old) (S.remaining source.new) x.now) }
+    ensures fits { IfOk result (λ x. length x.now ≤ most) }
+    ensures ends { IfOk result (λ x. length x.now ≡ 0 → 0 < most → IsAtEnd (S.remaining source.new)) }
+{
+    let room = most.min(PIECE);
+    let n = source.read_some(&mut piece[..room])?;
+    Ok(&piece[..n])
+}
+
+// Takes n bytes of the source into a buffer, or all that are left if they are fewer. The buffer
+// grows as the bytes come, so it takes no memory for bytes that the source hasn't.
+fn fill<S: Source>(
+    source: &mut S,
+    piece: &mut [u8; PIECE],
+    buffer: &mut Vec<u8>,
+    n: usize,
+) -> Result<(), EventError>
+    ensures ok { OnOk result (Spec.Fills n (S.remaining source.old) (S.remaining source.new) buffer.new.items) }
+    ensures err { IfErr result (λ e. Spec.IsOutside e) }
+{
+    buffer.clear();
+    let mut left = n;
+    while left > 0 {
+        let bytes = read_piece(source, piece, left)?;
+        if bytes.is_empty() {
+            return Ok(());
+        }
+        buffer.extend_from_slice(bytes)?;
+        left -= bytes.len();
+    }
+    Ok(())
+}
+
+// Takes the bytes of the next event; nothing if no bytes are left.
+fn take_raw<'b, S: Source>(
+    source: &mut S,
+    buffer: &'b mut EventBuffer,
+) -> Result<Option<Raw<'b>>, EventError>
+    ensures { Spec.RawGives (S.remaining source.old) result (S.remaining source.new) }
+{
+    fill(source, &mut buffer.piece, &mut buffer.head, 19)?;
+    if buffer.head.is_empty() {
+        return Ok(None);
+    }
+    if buffer.head.len() < 19 {
+        return Err(EventError::Cut((19 - buffer.head.len()) as u64));
+    }
+    let header = header_of(&buffer.head)?;
+    let n = rest_len(&header)?;
+    fill(source, &mut buffer.piece, &mut buffer.rest, n)?;
+    if buffer.rest.len() < n {
+        return Err(EventError::Cut((n - buffer.rest.len()) as u64));
+    }
+    Ok(Some(Raw::new(&buffer.head, header, &buffer.rest)))
+}
+
+/// What a reader keeps between events.
+#[derive(Drop)]
+struct Kept {
+    position: u64,
+    description: Option<OwnedDescription>,
+    tables: TableMaps,
+    stored: StoredEvents,
+}
+
+// Returns the same description, which borrows its bytes.
+fn lend(description: &Option<OwnedDescription>) -> Option<FormatDescriptionEvent<'_>>
+    ensures { result ≡ description.now }
+{
+    match description {
+        Some(description) => Some(description.lend()),
+        None => None,
+    }
+}
+
+// Returns the description that is in force after an event.
+fn description_after(
+    alloc: Global,
+    before: Option<OwnedDescription>,
+    event: &Event<'_>,
+) -> Result<Option<OwnedDescription>, AllocError>
+    ensures { IfOk result (λ d. d ≡ after before event.now) }
+{
+    match event.description() {
+        Some(description) => Ok(Some(description.to_owned(alloc)?)),
+        None => Ok(before),
+    }
+}
+
+impl Kept {
+    // Takes what an event of these bytes says.
+    fn take(&mut self, alloc: Global, event: &Event<'_>, raw: &Raw<'_>) -> Result<(), AllocError>
+        ensures { OnOk result (kept_by self.new ≡ Spec.kept_after (kept_by self.old)
+            (raw.now.head ++ raw.now.rest) event.now) }
+    {
+        self.description = description_after(alloc, self.description.take(), event)?;
+        self.stored.take(self.tables.ended(), event, raw)?;
+        self.tables.take(alloc, event)?;
+        let size = u64::from(event.header().event_size());
+        self.position = self.position.saturating_add(size);
+        Ok(())
+    }
+
+    // Returns the bytes of a checkpoint.
+    fn checkpoint(&self, alloc: Global) -> Result<Vec<u8>, AllocError>
+        ensures { IfOk result (λ c. c.items ≡ checkpoint_of (kept_by self.now)) }
+    {
+        self.stored.checkpoint(alloc, self.tables.ended())
+    }
+}
+
+// Reads the next event; nothing if no bytes are left.
+fn read_event<'b, S: Source>(
+    alloc: Global,
+    source: &mut S,
+    buffer: &'b mut EventBuffer,
+    kept: &mut Kept,
+) -> Result<Option<Event<'b>>, EventError>
+    ensures { Spec.ReadGives (S.remaining source.old) (kept_by kept.old) result
+        (S.remaining source.new) (kept_by kept.new) }
+{
+    let Some(raw) = take_raw(source, buffer)? else {
+        return Ok(None);
+    };
+    let in_force = lend(&kept.description);
+    let event = Event::of_raw(kept.position, &in_force, &raw)?;
+    kept.take(alloc, &event, &raw)?;
+    Ok(Some(event))
+}
+
+/// A reader of the events of a binlog file, or of a stream with the same bytes, one at a time.
+///
+/// It keeps the format description event and the table map events that are in force. After an error
+/// it is at its end.
+#[derive(Drop)]
+pub struct EventStreamReader {
+    alloc: Global,
+    kept: Kept,
+    is_over: bool,
+}
+
+impl EventStreamReader {
+    // Returns whether there may be more events.
+    pub(crate) fn goes_on(&self) -> bool
+        ensures { IsTrue result ↔ Spec.MayGoOn (reading_of self.now) }
+    {
+        !self.is_over && self.kept.position < u64::MAX
+    }
+
+    // Puts the reader at its end.
+    pub(crate) fn stop(&mut self)
+        ensures kept { self.new.kept ≡ self.old.kept }
+        ensures over { self.new.is_over ≡ true }
+    {
+        self.is_over = true;
+    }
+
+    // Returns the table map events that are in force.
+    pub(crate) fn tables(&self) -> &TableMaps
+        ensures { result.now ≡ self.now.kept.tables }
+    {
+        &self.kept.tables
+    }
+
+    /// Returns a reader of the events after the four bytes with which a file begins.
+    pub fn new(alloc: Global) -> EventStreamReader
+        ensures kept { kept_by result.kept ≡ Spec.first_kept }
+        ensures goes_on { result.is_over ≡ false }
+    {
+        EventStreamReader {
+            alloc,
+            kept: Kept {
+                position: 4,
+                description: None,
+                tables: TableMaps::new(alloc),
+                stored: StoredEvents::new(alloc),
+            },
+            is_over: false,
+        }
+    }
+
+    /// Returns where the next event begins in the file.
+    pub fn position(&self) -> u64
+        ensures { result ≡ (kept_by self.now.kept).at }
+    {
+        self.kept.position
+    }
+
+    /// Returns the table map event that is in force for a table id, after the event that was read
+    /// last.
+    pub fn get_tme(&self, table_id: u64) -> Option<&TableMapEvent<'static>>
+        ensures { option_map (λ t. t.now) result ≡ (kept_by self.now.kept).in_force.tables table_id }
+    {
+        self.kept.tables.get_tme(table_id)
+    }
+
+    /// Returns a checkpoint: bytes that are themselves the beginning of a binlog file. They are the
+    /// four bytes with which a file begins, the format description event, the last GTID event after
+    /// it, and the table map events that the next event finds, as they were read. Whoever reads them
+    /// and then the rest of the file from `position()` on reads the rest as this reader does. There
+    /// is no checkpoint after an error. Fails if memory is refused.
+    pub fn checkpoint(&self, alloc: Global) -> Result<Option<Vec<u8>>, AllocError>
+        ensures { IfOk result (λ c. option_map (λ b. b.items) c ≡ checkpoint (reading_of self.now)) }
+    {
+        if self.is_over {
+            return Ok(None);
+        }
+        Ok(Some(self.kept.checkpoint(alloc)?))
+    }
+
+    /// Reads the next event of the source into the buffer; nothing if no bytes are left, or after
+    /// an error.
+    ///
+    /// Fails as `Event::read` does; with `Reader` if the source failed; and with `Memory` if memory
+    /// is refused. The error has the position where the event begins.
+    pub fn read<'b, S: Source>(
+        &mut self,
+        source: &mut S,
+        buffer: &'b mut EventBuffer,
+    ) -> Result<Option<Event<'b>>, FileError>
+        ensures { Spec.ReaderGives (S.remaining source.old) (reading_of self.old) result
+            (S.remaining source.new) (reading_of self.new) }
+    {
+        if self.is_over {
+            return Ok(None);
+        }
+        let position = self.kept.position;
+        match read_event(self.alloc, source, buffer, &mut self.kept) {
+            Ok(event) => Ok(event),
+            Err(error) => {
+                self.is_over = true;
+                Err(FileError { position, error })
+            }
+        }
+    }
+}

@@ -1,0 +1,224 @@
+//! The changes of a file one at a time, from a source of bytes.
+
+ghost use Rattle.std.specs.Prelude.{◌≡◌, ◌<◌, ◌≤◌, ◌↔◌, true, Some, None, Ok, IfOk, IsTrue, IsSome};
+ghost use Rattle.binlog_file.specs.Events.{Place, NextGives};
+ghost use Rattle.binlog_file.specs.Tables.{InForce, in_force_after};
+ghost use Rattle.binlog_file.specs.Changes.{EventGives, TakeGives, spot, LessensTo};
+ghost use Rattle.binlog_file.specs.Stream.{IsOutside, MayGoOn};
+ghost use Rattle.binlog_file.specs.SourceChanges as Spec;
+ghost use Rattle.binlog_file.specs.SourceWalks.{reading_in, kept_in};
+
+use crate::change::{Change, Given, event_gives};
+use crate::changes::at_position;
+use crate::choice::Choice;
+use crate::error::{EventError, FileError};
+use crate::event::Event;
+use crate::file::BinlogFile;
+use crate::plans::KeptPlans;
+use crate::reader::{EventBuffer, EventStreamReader};
+use binlog_base::below::Source;
+use binlog_base::fault::Fault;
+use std::alloc::Global;
+
+/// Where a reading of changes from a source is: its reader, the plans that are kept, and the error
+/// with which it ends, if it does.
+#[derive(Drop)]
+struct SourceWalk {
+    reader: EventStreamReader,
+    plans: KeptPlans,
+    pending: Option<FileError>,
+}
+
+impl SourceWalk {
+    // Returns whether there may be more events.
+    fn goes_on(&self) -> bool
+        ensures { IsTrue result ↔ ((self.now.pending ≡ None) × MayGoOn (reading_in self.now)) }
+    {
+        self.pending.is_none() && self.reader.goes_on()
+    }
+
+    // Keeps the error with which the reading ends, if it does.
+    fn end_with(&mut self, error: Option<FileError>)
+        ensures pending { self.new.pending ≡ error }
+        ensures kept { kept_in self.new ≡ kept_in self.old }
+        ensures over { IsSome error → self.new.reader.is_over ≡ true }
+        ensures on { error ≡ None → self.new.reader.is_over ≡ self.old.reader.is_over }
+    {
+        if error.is_some() {
+            self.reader.stop();
+        }
+        self.pending = error;
+    }
+
+    // Returns the error with which the reading ended, if it did. Nothing is left after it.
+    fn end(&mut self) -> Option<FileError>
+        ensures error { result ≡ self.old.pending }
+        ensures pending { self.new.pending ≡ None }
+        ensures kept { kept_in self.new ≡ kept_in self.old }
+        ensures over { self.new.reader.is_over ≡ true }
+    {
+        self.reader.stop();
+        self.pending.take()
+    }
+}
+
+// Returns what an event gives that was read, which owns its bytes.
+fn owned_gives<C: Choice>(
+    alloc: Global,
+    choice: &C,
+    walk: &mut SourceWalk,
+    event: &Event<'_>,
+) -> Result<Given<'static>, Fault>
+    ensures given { IfOk result (λ g. EventGives (C.wanted choice.now)
+        (kept_in walk.old).in_force.tables event.now g) }
+    ensures kept { kept_in walk.new ≡ kept_in walk.old }
+    ensures over { walk.new.reader.is_over ≡ walk.old.reader.is_over }
+{
+    let tables = walk.reader.tables();
+    let given = event_gives(alloc, choice, &mut walk.plans, tables, event)?;
+    Ok(given.into_owned(alloc)?)
+}
+
+// Takes an event that was read: returns its change, and keeps the error with which the reading ends,
+// if it does.
+fn take<C: Choice>(
+    alloc: Global,
+    choice: &C,
+    walk: &mut SourceWalk,
+    event: &Event<'_>,
+) -> Option<Change<'static>>
+    ensures takes { (p q r : Place) (s : InForce) → NextGives p (Some (Ok event.now)) q
+        → (kept_in walk.old).in_force ≡ in_force_after s event.now → (walk.new.pending ≡ None → r ≡ q)
+        → TakeGives IsOutside (C.wanted choice.now) (spot p s None) result
+        (spot r (kept_in walk.old).in_force walk.new.pending) }
+    ensures kept { kept_in walk.new ≡ kept_in walk.old }
+    ensures on { walk.new.pending ≡ None → walk.new.reader.is_over ≡ walk.old.reader.is_over }
+{
+    let position = event.position();
+    match owned_gives(alloc, choice, walk, event) {
+        Ok(given) => {
+            let (change, error) = given.into_parts();
+            walk.end_with(at_position(position, error));
+            change
+        }
+        Err(_) => {
+            walk.end_with(at_position(position, Some(EventError::Memory)));
+            None
+        }
+    }
+}
+
+// Reads the next event of the source: returns its change, and keeps the error with which the reading
+// ends, if it does.
+fn read_one<S: Source, C: Choice>(
+    alloc: Global,
+    choice: &C,
+    source: &mut S,
+    buffer: &mut EventBuffer,
+    walk: &mut SourceWalk,
+) -> Option<Change<'static>>
+    requires pending { walk.old.pending ≡ None }
+    requires on { MayGoOn (reading_in walk.old) }
+    ensures takes { Spec.SourceTakes (C.wanted choice.now) (S.remaining source.old) (reading_in walk.old)
+        None result (S.remaining source.new) (reading_in walk.new) walk.new.pending }
+    ensures fewer { Spec.turns (reading_in walk.new) < Spec.turns (reading_in walk.old) }
+{
+    match walk.reader.read(source, buffer) {
+        Ok(Some(event)) => take(alloc, choice, walk, &event),
+        Ok(None) => {
+            walk.reader.stop();
+            None
+        }
+        Err(error) => {
+            walk.pending = Some(error);
+            None
+        }
+    }
+}
+
+// Returns the next change, or the error with which the reading ends.
+fn next_change<S: Source, C: Choice>(
+    alloc: Global,
+    choice: &C,
+    source: &mut S,
+    buffer: &mut EventBuffer,
+    walk: &mut SourceWalk,
+) -> Option<Result<Change<'static>, FileError>>
+    ensures { Spec.SourceSteps (C.wanted choice.now) (S.remaining source.old) (reading_in walk.old)
+        walk.old.pending result (S.remaining source.new) (reading_in walk.new) walk.new.pending }
+{
+    while walk.goes_on() {
+        if let Some(change) = read_one(alloc, choice, source, buffer, walk) {
+            return Some(Ok(change));
+        }
+    }
+    let error = walk.end()?;
+    Some(Err(error))
+}
+
+/// An iterator over the changes of a file that are wanted, up to and including its first error. It
+/// reads the file from a source, one event at a time into a buffer that is used again.
+#[derive(Drop)]
+pub struct SourceChanges<S, C> {
+    alloc: Global,
+    choice: C,
+    source: S,
+    buffer: EventBuffer,
+    walk: SourceWalk,
+}
+
+impl<S: Source + Drop, C: Choice + Drop> SourceChanges<S, C> {
+    /// Returns an iterator over the changes of a file that are wanted, from where the file is.
+    pub fn new(alloc: Global, file: BinlogFile<S>, choice: C) -> SourceChanges<S, C>
+        ensures choice { result.choice ≡ choice }
+        ensures source { result.source ≡ file.source }
+        ensures reader { result.walk.reader ≡ file.reader }
+        ensures pending { result.walk.pending ≡ None }
+    {
+        let BinlogFile { source, reader } = file;
+        SourceChanges {
+            alloc,
+            choice,
+            source,
+            buffer: EventBuffer::new(alloc),
+            walk: SourceWalk {
+                reader,
+                plans: KeptPlans::new(alloc),
+                pending: None,
+            },
+        }
+    }
+
+    /// Returns the reader: where it is, and the table map events that are in force after the change
+    /// that was given last.
+    pub fn reader(&self) -> &EventStreamReader
+        ensures { result.now ≡ self.now.walk.reader }
+    {
+        &self.walk.reader
+    }
+}
+
+impl<S: Source + Drop, C: Choice + Drop> Iterator for SourceChanges<S, C> {
+    type Item = Result<Change<'static>, FileError>;
+
+    ghost use Rattle.std.specs.Prelude.{◌≡◌};
+    ghost use Rattle.std.specs.Iterator.{at_most};
+    ghost use Rattle.binlog_file.specs.SourceChanges.{SourceSteps, items_left};
+    ghost use Rattle.binlog_file.specs.SourceWalks.{reading_in};
+
+    ghost next_gives = { λ s r t. (t.choice ≡ s.choice)
+        × SourceSteps (C.wanted s.choice) (S.remaining s.source) (reading_in s.walk) s.walk.pending r
+        (S.remaining t.source) (reading_in t.walk) t.walk.pending };
+
+    ghost remaining = { λ s. at_most (items_left (reading_in s.walk) s.walk.pending) };
+
+    fn next(&mut self) -> Option<Result<Change<'static>, FileError>> {
+        next_change(
+            self.alloc,
+            &self.choice,
+            &mut self.source,
+            &mut self.buffer,
+            &mut self.walk,
+        )
+    }
+}

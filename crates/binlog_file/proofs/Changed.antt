@@ -1,5 +1,5 @@
 -- What a rows event gives.
-use Rattle.std.proofs.Common.{◌≡◌, ℕ, Bool, true, false, List, Option, Some, None, Result, Ok, Err, refl, sym, ap, ◌∙◌, inl, inr}
+use Rattle.std.proofs.Common.{◌≡◌, ℕ, Bool, false, Option, Some, None, Result, Ok, Err, sym, ap, ◌∙◌, inr}
 use Rattle.std.specs.Prelude.{IfOk}
 use Rattle.binlog_base.specs.declared.fault.Fault.{Fault}
 use Rattle.binlog_table.specs.TableMap.{TableMap}
@@ -7,7 +7,7 @@ use Rattle.mysql_binlog_rows.specs.RowsEvent.{RowsEvent}
 use Rattle.binlog_file.specs.declared.error.EventError.{EventError}
 use Rattle.binlog_file.specs.declared.origin.Origin.{Origin}
 use Rattle.binlog_file.specs.Tables.{Tables}
-use Rattle.binlog_file.specs.Changes.{Wanted, Change, IsCovered, IsChosen, RowsGive, Given, is_dummy}
+use Rattle.binlog_file.specs.Changes.{Wanted, Change, IsChosen, RowsGive, Given, is_dummy}
 
 chosen : (w : Wanted) (ts : Tables) (from : Origin) (rows : RowsEvent) (t : TableMap) (c : Option Change) (err : Option EventError) → is_dummy rows ≡ false → ts rows.table_id ≡ Some t
     → IsChosen (w from.position t rows.event_type) t from rows c err → RowsGive w ts from rows c err

@@ -1,18 +1,17 @@
 -- What is read of a checkpoint.
-use Rattle.std.proofs.Common.{◌≡◌, ◌≢◌, ◌⊎◌, ℕ, ◌+◌, ◌||◌, Bool, true, false, List, [], ◌∷◌, ◌++◌, length, length-append, drop, map, Option, Some, None, refl, sym, ap, subst, ◌∙◌, append_assoc, append-nil, inl, inr, arith}
+use Rattle.std.proofs.Common.{◌≡◌, ℕ, ◌+◌, Bool, true, false, List, [], ◌∷◌, ◌++◌, length, length-append, map, Option, Some, None, refl, sym, ap, subst, ◌∙◌, append_assoc, append-nil, inl, inr, arith}
 use Rattle.std.specs.Prelude.{if◌then◌else◌}
 use Rattle.std.specs.Option.{option_map}
 use Rattle.binlog_table.specs.TableMap.{TableMap}
 use Rattle.mysql_binlog_rows.specs.declared.rows_event.event.RowsEventCtx.{RowsEventCtx}
-use Rattle.binlog_file.specs.declared.error.EventError.{EventError}
 use Rattle.binlog_file.specs.declared.error.FileError.{FileError}
 use Rattle.binlog_file.specs.Description.{Description}
-use Rattle.binlog_file.specs.Events.{Event, event, after, AreEvents, AreEventsOfFile, magic, is_binlog}
+use Rattle.binlog_file.specs.Events.{Event, event, after, AreEvents, AreEventsOfFile, magic}
 use Rattle.binlog_file.specs.Tables.{Tables, InForce, found, given_up, with_map, has_end_flag, nothing_in_force, in_force_after, in_force_after_all}
-use Rattle.binlog_file.specs.Stored.{Stored, is_there, is_gtid, description_after, gtid_after, tables_after}
-use Rattle.binlog_file.specs.Stream.{Kept, first_kept, kept_after}
+use Rattle.binlog_file.specs.Stored.{is_gtid}
+use Rattle.binlog_file.specs.Stream.{Kept, kept_after}
 use Rattle.binlog_file.specs.Checkpoints.{Reached, start, next, after_all, LeadsTo, GoesOnWith, checkpoint_of, unplaced}
-use Rattle.binlog_file.proofs.Moved.{placed, moved, refused_moved, Describes, Maps, IsPlain, Kind, kind_of}
+use Rattle.binlog_file.proofs.Moved.{placed, moved, refused_moved, Describes, Maps, IsPlain, kind_of}
 
 -- the bytes are events, after which the description and the tables have become these
 record Led (at : ℕ) (d : Option Description) (s : InForce) (x : List ℕ) (f : Option Description) (t : InForce) : Type 0 where

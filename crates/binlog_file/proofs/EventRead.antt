@@ -1,13 +1,11 @@
 -- An event is read from its bytes, which were taken from a source.
-use Rattle.std.proofs.Common.{◌≡◌, ◌≢◌, ◌⊎◌, ℕ, ◌≤◌, List, [], ◌++◌, length, length-append, Option, Some, None, Result, Ok, Err, refl, sym, ap, subst, ◌∙◌, append-nil, inl, inr, arith}
+use Rattle.std.proofs.Common.{◌≡◌, ℕ, ◌≤◌, List, [], ◌++◌, length, length-append, Option, Some, None, Result, Ok, Err, refl, sym, ap, subst, ◌∙◌, append-nil, inl, inr, arith}
 use Rattle.std.specs.Result.{IsErrAnd}
-use Rattle.std.specs.Io.KnownBytes.{Consumes}
 use Rattle.binlog_base.specs.Format.{Parses}
-use Rattle.binlog_base.specs.Sources.{IsLeft}
 use Rattle.binlog_file.specs.declared.error.EventError.{EventError}
 use Rattle.binlog_file.specs.Lemmas.Formats.{exact_event_of_raw}
 use Rattle.binlog_file.specs.Events.{Raw, raw_event, Event, event, event_of_raw}
-use Rattle.binlog_file.specs.Stream.{Kept, kept_after, IsOutside, RawGives, ReadGives}
+use Rattle.binlog_file.specs.Stream.{Kept, kept_after, RawGives, ReadGives}
 use Rattle.binlog_file.proofs.RawRead.{all_left, not_empty}
 
 raw_long : (y : List ℕ) (r : Raw) → raw_event.spells y r → 19 ≤ length y

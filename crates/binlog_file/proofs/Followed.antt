@@ -1,13 +1,13 @@
 -- What is left at a spot, and after a step from there.
-use Rattle.std.proofs.Common.{◌≡◌, ◌≢◌, ◌⊎◌, ℕ, ◌+◌, ◌*◌, ◌<◌, ◌≤◌, true, false, List, [], ◌∷◌, ◌++◌, length, Option, Some, None, Result, Ok, Err, refl, sym, ap, subst, ◌∙◌, append_assoc, append-nil, inl, inr, arith}
+use Rattle.std.proofs.Common.{◌≡◌, ◌≢◌, ◌⊎◌, ℕ, ◌+◌, ◌<◌, ◌≤◌, true, false, List, [], ◌∷◌, ◌++◌, length, Option, Some, None, Result, Ok, Err, refl, sym, ap, subst, ◌∙◌, append_assoc, append-nil, inl, inr, arith}
 use Rattle.std.specs.Prelude.{IfOk}
 use Rattle.binlog_file.specs.declared.error.EventError.{EventError}
 use Rattle.binlog_file.specs.declared.error.EventError.TheVariants as error
 use Rattle.binlog_file.specs.declared.error.FileError.{FileError}
 use Rattle.binlog_file.specs.Description.{Description}
-use Rattle.binlog_file.specs.Events.{Event, Place, NextGives, Shrinks, Steps, AreLeft, AreEvents, event, after, first_place, is_binlog, no_binlog}
+use Rattle.binlog_file.specs.Events.{Event, Place, NextGives, Shrinks, Steps, AreLeft, AreEvents, is_binlog, no_binlog}
 use Rattle.binlog_file.specs.Tables.{InForce, in_force_after, nothing_in_force}
-use Rattle.binlog_file.specs.Changes.{Wanted, Change, Given, EventGives, GoesOn, AreChanges, AreChangesOfFile, AreGiven, Spot, spot, first_spot, Left, Follows, IsMemory, ChangeGives, TakeGives, listed, at_position, count, most_left}
+use Rattle.binlog_file.specs.Changes.{Wanted, Change, Given, EventGives, GoesOn, AreChanges, AreChangesOfFile, Spot, spot, first_spot, Left, Follows, IsMemory, ChangeGives, TakeGives, listed, at_position, count, most_left}
 use Rattle.binlog_file.proofs.Rest.{rest_of}
 
 goes_on : (Later : List Change → Type 0) (at : ℕ) (c : Option Change) (err : Option EventError) (cs : List Change) (out : Option FileError) → err ≡ None → Later cs → GoesOn Later at c err (listed c ++ cs) out

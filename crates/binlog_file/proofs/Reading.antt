@@ -1,5 +1,5 @@
 -- An event is read part by part.
-use Rattle.std.proofs.Common.{◌≡◌, ℕ, nat_eq, true, false, List, length, Option, Some, None, Result, Ok, Err, refl, ap, ◌≤◌, ◌+◌, arith, length-append}
+use Rattle.std.proofs.Common.{◌≡◌, ℕ, nat_eq, true, false, List, length, Option, Some, Result, Ok, Err, refl, ap, ◌≤◌, ◌+◌, arith, length-append}
 use Rattle.binlog_base.specs.Format.{Parses, ReadsAs, SpellsPrefix, all_of, map_value, map_fault}
 use Rattle.binlog_file.specs.declared.error.EventError.{EventError}
 use Rattle.binlog_file.specs.declared.error.EventError.TheVariants as error

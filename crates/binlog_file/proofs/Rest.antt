@@ -1,7 +1,5 @@
 -- From each place on, the bytes are events, and then nothing or an error.
-use Rattle.std.proofs.Common.{◌≡◌, ℕ, zero, suc, ◌+◌, ◌≤◌, List, [], ◌∷◌, ◌++◌, length, length-append, Option, Some, None, Result, Ok, Err, refl, ap, arith}
-use Rattle.binlog_base.specs.Lemmas.Format.{ok_is}
-use Rattle.binlog_file.specs.declared.error.EventError.{EventError}
+use Rattle.std.proofs.Common.{◌≡◌, ℕ, zero, suc, ◌+◌, ◌≤◌, List, [], ◌∷◌, length, length-append, Option, Some, None, Ok, Err, refl, ap, arith}
 use Rattle.binlog_file.specs.declared.error.FileError.{FileError}
 use Rattle.binlog_file.specs.Lemmas.Formats.{exact_event}
 use Rattle.binlog_file.specs.Description.{Description}

@@ -1,5 +1,5 @@
 -- What is left at a spot of a source, and after a step from there.
-use Rattle.std.proofs.Common.{◌≡◌, ◌≢◌, ◌⊎◌, ℕ, ◌+◌, ◌-◌, ◌*◌, ◌^◌, ◌<◌, ◌≤◌, Bool, true, false, List, [], ◌∷◌, ◌++◌, length, length-append, Option, Some, None, Result, Ok, Err, refl, sym, ap, subst, ◌∙◌, inl, inr, arith}
+use Rattle.std.proofs.Common.{◌≡◌, ◌⊎◌, ℕ, ◌+◌, ◌-◌, ◌^◌, ◌<◌, ◌≤◌, Bool, true, false, List, [], ◌∷◌, ◌++◌, length, length-append, Option, Some, None, Ok, Err, refl, sym, ap, subst, ◌∙◌, inl, inr, arith}
 use Rattle.std.proofs.lemmas.Bool.{false≢true}
 use Rattle.std.specs.Prelude.{◌↔◌, if◌then◌else◌, IsTrue}
 use Rattle.std.specs.Io.KnownBytes.{Consumes}
@@ -8,12 +8,12 @@ use Rattle.binlog_file.specs.declared.error.EventError.{EventError}
 use Rattle.binlog_file.specs.declared.error.FileError.{FileError}
 use Rattle.binlog_file.specs.Events.{Event, Place, NextGives, event}
 use Rattle.binlog_file.specs.Tables.{InForce, in_force_after}
-use Rattle.binlog_file.specs.Stream.{Kept, kept_after, Reading, IsOutside, EventGives, ReaderGives, MayGoOn}
-use Rattle.binlog_file.specs.Changes.{Wanted, Change, Spot, spot, Left, TakeGives, ChangeGives}
+use Rattle.binlog_file.specs.Stream.{Kept, Reading, IsOutside, EventGives, ReaderGives, MayGoOn}
+use Rattle.binlog_file.specs.Changes.{Wanted, Change, spot, TakeGives}
 use Rattle.binlog_file.specs.SourceChanges.{Found, Finds, place_at, spot_at, SourceTakes, turns}
 use Rattle.binlog_file.proofs.Reading.{long}
 use Rattle.binlog_file.proofs.Sized.{sized}
-use Rattle.binlog_file.proofs.Followed.{no_step, error_taken, other_taken, error_given, all_given}
+use Rattle.binlog_file.proofs.Followed.{no_step, error_taken, other_taken}
 
 taken_from : (x y : List ℕ) (new : Option (List ℕ)) → Consumes (Some x) new y → (z : List ℕ) × (new ≡ Some z) × (x ≡ y ++ z)
 taken_from x y None c = absurd c

@@ -1,12 +1,10 @@
 -- Checkpoints: bytes from which a reading goes on.
 use Rattle.std.specs.Prelude.{◌≡◌, ℕ, if◌then◌else◌, List, [], ◌∷◌, ◌++◌, map, Option, Some, None}
 use Rattle.std.specs.Option.{option_map}
-use Rattle.binlog_file.specs.declared.error.EventError.{EventError}
 use Rattle.binlog_file.specs.declared.error.FileError.{FileError}
 use Rattle.binlog_file.specs.Description.{Description}
 use Rattle.binlog_file.specs.Events.{Event, event, after, AreEvents, AreEventsOfFile, magic}
 use Rattle.binlog_file.specs.Tables.{InForce, nothing_in_force, in_force_after, in_force_after_all}
-use Rattle.binlog_file.specs.Stored.{Stored}
 use Rattle.binlog_file.specs.Stream.{Kept, Reading, first_kept, kept_after}
 
 -- the magic, the format description event, the last GTID event, and the table map events that the next

@@ -1,6 +1,5 @@
 -- Which table map events a TableMaps holds. It is a module of its own because TableMaps is a type of
 -- the code.
-use Rattle.std.specs.Prelude.{ℕ, Option}
 use Rattle.std.specs.Ordering.{nat_cmp}
 use Rattle.std.specs.BTreeMap as tree
 use Rattle.binlog_file.specs.Tables.{Tables, InForce}

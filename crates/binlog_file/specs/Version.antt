@@ -1,5 +1,5 @@
 -- The version of a server, as the format description event has it.
-use Rattle.std.specs.Prelude.{ℕ, ◌+◌, ◌-◌, ◌*◌, ◌&&◌, ◌||◌, not, Bool, false, true, nat_lt, nat_eq, min, if◌then◌else◌, List, [], ◌∷◌, drop, codes}
+use Rattle.std.specs.Prelude.{ℕ, ◌+◌, ◌-◌, ◌*◌, ◌&&◌, ◌||◌, not, Bool, false, nat_lt, nat_eq, min, if◌then◌else◌, List, [], ◌∷◌, drop, codes}
 use Rattle.std.specs.List.{starts_with}
 use Rattle.binlog_base.specs.declared.below.columns.server.Server.{Server}
 use Rattle.binlog_base.specs.declared.below.columns.server.Server.TheVariants.{MySql, MariaDb}

@@ -1,7 +1,6 @@
 -- The formats of events are exact.
-use Rattle.std.specs.Prelude.{ℕ, ◌-◌, nat_eq, Bool, true, false, IsTrue, List, length, take, drop, Option, Some, None, Result, Ok, Err, ⊤}
-use Rattle.std.proofs.Common.{◌≡◌, refl}
-use Rattle.binlog_base.specs.Format.{FormatOf, IsExactOf, IsExactToEndOf, IsExact, Format, take_bytes}
+use Rattle.std.specs.Prelude.{ℕ, ◌-◌, List, length, Option, Some, None, ⊤}
+use Rattle.binlog_base.specs.Format.{IsExactOf, IsExactToEndOf, IsExact, Format}
 use Rattle.binlog_base.specs.Lemmas.Format.{exact_take_or, exact_take_bytes, exact_no_bytes, exact_refusal, exact_check, exact_within, exact_all_of, exact_sequence, exact_map_value, exact_map_fault, exact_choice, exact_choice_to_end, exact_map_all_left, to_end_both}
 use Rattle.binlog_base.specs.Lemmas.Numbers.{exact_little_endian}
 use Rattle.binlog_table.specs.Lemmas.TableMap.{exact_table_map}
@@ -9,7 +8,7 @@ use Rattle.binlog_file.specs.declared.error.EventError.{EventError}
 use Rattle.binlog_file.specs.declared.error.EventError.TheVariants as error
 use Rattle.binlog_file.specs.Header.{Header, header}
 use Rattle.binlog_file.specs.Version.{knows_checksums}
-use Rattle.binlog_file.specs.Description.{Description, description, lens_of, part, only, new_enough, algorithm}
+use Rattle.binlog_file.specs.Description.{Description, description, lens_of, part, algorithm}
 use Rattle.binlog_file.specs.Events.{Raw, Parts, raw_event, event, event_of_raw, other_event, is_description, has_checksum, parts_of, rest_len, taken}
 
 -- every error is one that bytes can have

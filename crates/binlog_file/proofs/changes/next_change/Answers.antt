@@ -1,4 +1,4 @@
-use Rattle.std.proofs.Common.{◌<◌, None, Option, subst, arith}
+use Rattle.std.proofs.Common.{Option, subst, arith}
 use Rattle.binlog_file.specs.TableMaps.{held_by}
 use Rattle.binlog_file.specs.Changes.{Change, IsMemory, TakeGives}
 use Rattle.binlog_file.specs.Walks.{spot_of}

@@ -1,7 +1,6 @@
-use Rattle.std.proofs.Common.{◌≡◌, ℕ, Option, Result, ap, refl, ◌∙◌, subst}
+use Rattle.std.proofs.Common.{◌≡◌, ℕ, Result, ap, refl, ◌∙◌, subst}
 use Rattle.std.specs.Prelude.{IfOk, OnOk}
 use Rattle.binlog_base.specs.declared.fault.Fault.{Fault}
-use Rattle.binlog_file.specs.declared.error.EventError.{EventError}
 use Rattle.binlog_file.specs.Tables.{in_force_after}
 use Rattle.binlog_file.specs.TableMaps.{held_by}
 use Rattle.binlog_file.specs.Changes.{Given, EventGives, IsMemory, at_position}

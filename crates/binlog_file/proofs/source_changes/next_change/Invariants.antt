@@ -1,4 +1,4 @@
-use Rattle.std.proofs.Common.{◌≤◌, ℕ, List, None}
+use Rattle.std.proofs.Common.{◌≤◌, None}
 use Rattle.binlog_file.specs.SourceChanges.{SourceTakes, items_left, turns}
 use Rattle.binlog_file.specs.SourceWalks.{reading_in}
 use Rattle.binlog_file.proofs.source_changes.next_change.Given as goal

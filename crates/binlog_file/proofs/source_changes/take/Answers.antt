@@ -1,5 +1,4 @@
-use Rattle.std.proofs.Common.{◌≡◌, ℕ, ap, ◌∙◌, subst}
-use Rattle.binlog_file.specs.Events.{Place}
+use Rattle.std.proofs.Common.{ℕ, ap, ◌∙◌, subst}
 use Rattle.binlog_file.specs.Tables.{Tables, InForce}
 use Rattle.binlog_file.specs.Stream.{IsOutside}
 use Rattle.binlog_file.specs.Changes.{EventGives, at_position}

@@ -1,4 +1,3 @@
-use Rattle.std.proofs.Common.{List, ℕ, subst}
 use Rattle.std.proofs.lemmas.Result.{IfErr-weaker}
 use Rattle.binlog_file.specs.Stream.{NoHeader}
 use Rattle.binlog_file.proofs.Headers.{no_header}

@@ -1,7 +1,8 @@
 //! The table map events in force.
 
-ghost use Rattle.std.specs.Prelude.{◌≡◌, ℕ, false, OnOk};
+ghost use Rattle.std.specs.Prelude.{◌≡◌, ℕ, false, OnOk, IfOk, IfSome};
 ghost use Rattle.std.specs.Option.{option_map};
+ghost use Rattle.std.specs.Rc.{rc_value};
 ghost use Rattle.binlog_file.specs.Tables.{no_tables, with_table, found, given_up, ends_statement, in_force_after};
 ghost use Rattle.binlog_file.specs.TableMaps.{in_maps, held_by};
 
@@ -9,11 +10,19 @@ use crate::event::Event;
 use binlog_table::table_map::TableMapEvent;
 use std::alloc::{AllocError, Global};
 use std::collections::BTreeMap;
+use std::rc::Rc;
+
+/// How many table map events are kept at most past the end of their statements.
+const MOST_KEPT: usize = 1024;
 
 /// The table map events in force, one for each table id. They own their bytes.
+///
+/// A server writes the same table map event again before each statement. So up to 1,024 of them are
+/// kept past the end of their statements, and one that comes again is not copied again.
 #[derive(Drop)]
 pub struct TableMaps {
-    tables: BTreeMap<u64, TableMapEvent<'static>>,
+    tables: BTreeMap<u64, Rc<TableMapEvent<'static>>>,
+    kept: BTreeMap<u64, Rc<TableMapEvent<'static>>>,
     ended: bool,
 }
 
@@ -25,6 +34,7 @@ impl TableMaps {
     {
         TableMaps {
             tables: BTreeMap::new(alloc),
+            kept: BTreeMap::new(alloc),
             ended: false,
         }
     }
@@ -33,7 +43,10 @@ impl TableMaps {
     pub fn get_tme(&self, table_id: u64) -> Option<&TableMapEvent<'static>>
         ensures { option_map (λ t. t.now) result ≡ in_maps self.now table_id }
     {
-        self.tables.get(&table_id)
+        match self.tables.get(&table_id) {
+            Some(table) => Some(table.as_ref()),
+            None => None,
+        }
     }
 
     // Returns whether a statement ended with the last event.
@@ -56,13 +69,48 @@ impl TableMaps {
         self.ended = event.ends_statement();
     }
 
-    // Holds a table map event in place of one with the same table id.
-    fn insert(&mut self, table: TableMapEvent<'static>) -> Result<(), AllocError>
-        ensures tables { OnOk result
-            ((id : ℕ) → in_maps self.new id ≡ with_table (in_maps self.old) table.entry id) }
+    // Returns the kept table map event that is the same as this one.
+    fn kept_as(
+        &self,
+        table: &TableMapEvent<'_>,
+    ) -> Result<Option<Rc<TableMapEvent<'static>>>, AllocError>
+        ensures { IfOk result (λ o. IfSome o (λ t. rc_value t ≡ table.now)) }
+    {
+        match self.kept.get(&table.table_id()) {
+            Some(kept) if kept.as_ref() == table => Ok(Some(kept.clone()?)),
+            _ => Ok(None),
+        }
+    }
+
+    // Keeps a copy of a table map event, and returns it.
+    fn keep(
+        &mut self,
+        alloc: Global,
+        table: &TableMapEvent<'_>,
+    ) -> Result<Rc<TableMapEvent<'static>>, AllocError>
+        ensures kept { IfOk result (λ t. rc_value t ≡ table.now) }
+        ensures tables { self.new.tables ≡ self.old.tables }
         ensures ended { self.new.ended ≡ self.old.ended }
     {
-        self.tables.insert(table.table_id(), table)?;
+        let copy = Rc::new(alloc, table.clone(alloc)?.into_owned(alloc)?)?;
+        if self.kept.len() >= MOST_KEPT {
+            self.kept.clear();
+        }
+        self.kept.insert(table.table_id(), copy.clone()?)?;
+        Ok(copy)
+    }
+
+    // Holds a table map event in place of one with the same table id.
+    fn insert(&mut self, alloc: Global, table: &TableMapEvent<'_>) -> Result<(), AllocError>
+        ensures tables { OnOk result
+            ((id : ℕ) → in_maps self.new id ≡ with_table (in_maps self.old) table.now id) }
+        ensures ended { self.new.ended ≡ self.old.ended }
+    {
+        let shared = match self.kept_as(table)? {
+            Some(kept) => kept,
+            None => self.keep(alloc, table)?,
+        };
+        self.tables.insert(table.table_id(), shared)?;
         Ok(())
     }
 
@@ -77,7 +125,7 @@ impl TableMaps {
         self.give_up(event);
         match event.table() {
             None => Ok(()),
-            Some(table) => self.insert(table.clone(alloc)?.into_owned(alloc)?),
+            Some(table) => self.insert(alloc, table),
         }
     }
 }

@@ -21,6 +21,7 @@ pub mod JsonbCounting
 pub mod JsonbScalars
 pub mod JsonbLimits
 pub mod InlineTexts
+pub mod TimeTexts
 pub mod JsonbOpaques
 pub mod JsonbClones
 pub mod JsonbStacked

@@ -1,6 +1,7 @@
 -- The definitions that the contracts of this crate use.
 pub mod Times
 pub mod TimeText
+pub mod TimeCharacters
 pub mod Decimals
 pub mod DecimalGroups
 pub mod DecimalMasks

@@ -29,7 +29,7 @@ use MysqlTimestampType::{MYSQL_TIMESTAMP_DATE, MYSQL_TIMESTAMP_DATETIME, MYSQL_T
 use binlog_base::misc::{DateTimeFields, TimeFields};
 use std::alloc::AllocError;
 use std::fmt::{InlineText, Write};
-use text::TimeText;
+use text::{TimeText, characters, extent, part};
 
 // The length of the longest text, in bytes: 26 for a date and time, and 11 for its zone.
 const LONGEST: usize = 37;
@@ -110,6 +110,9 @@ impl MysqlTime {
         ensures { let old = text.old.bytes.items in
             text.new.bytes.items ≡ (if is_ok result then old ++ text_of decimals self.now else old) }
     {
+        if let Some((start, end)) = extent(self, decimals) {
+            return text.push_str(part(&characters(self), start, end));
+        }
         let shown = TimeText {
             time: self,
             decimals,

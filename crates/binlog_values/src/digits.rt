@@ -46,10 +46,7 @@ fn write_chunk<W: fmt::Write>(f: &mut fmt::Formatter<W>, digits: &[u8]) -> fmt::
     let characters = &mut buffer[..digits.len()];
     characters.copy_from_slice(digits);
     make_characters(characters);
-    let Ok(text) = str::from_utf8(characters) else {
-        unreachable!();
-    };
-    f.write_str(text)
+    f.write_str(unsafe { str::from_utf8_unchecked(characters) })
 }
 
 // Writes digits, `CHUNK` at a time.

@@ -71,26 +71,29 @@ impl OfWidth for Count {
     }
 }
 
-// A bound of the bytes that a decimal takes in packed form, where its precision has one byte.
+// The most digits of a decimal that is read without memory of its own: as many as a precision of one
+// byte counts. Below it is a bound of the bytes that these digits take in packed form.
+const MAX_PRECISION: usize = 255;
+
 const MAX_SIZE: usize = 128;
 
 impl Decimal {
-    // Reads a decimal from all of these packed bytes, and overwrites them.
+    // Reads a decimal from all of these packed bytes, and overwrites them. There is room for exactly
+    // its digits.
     #[tactic(auto, unfolding(crate::specs::PackedDecimals::packed_decimal))]
     fn of_bytes(
         alloc: Global,
         bytes: &mut [u8],
-        precision: usize,
+        digits: &mut [u8],
         scale: usize,
         keep_prec: bool,
     ) -> Result<Decimal, Fault>
-        requires scale { scale ≤ precision }
-        requires some { 0 < precision }
-        requires size { length bytes.now ≡ packed_size (precision - scale) scale }
-        ensures { OrMemory result (Parses (packed_decimal precision scale keep_prec) result bytes.old []) }
+        requires scale { scale ≤ length digits.now }
+        requires some { 0 < length digits.now }
+        requires size { length bytes.now ≡ packed_size (length digits.now - scale) scale }
+        ensures { OrMemory result (Parses (packed_decimal (length digits.old) scale keep_prec) result bytes.old []) }
     {
-        let mut digits = vec![in alloc; 0u8; precision]?;
-        let (integer, fraction) = digits.split_at_mut(precision - scale);
+        let (integer, fraction) = digits.split_at_mut(digits.len() - scale);
         let negative = unpack(bytes, integer, fraction)?;
         let decimal = Lent {
             negative,
@@ -102,6 +105,26 @@ impl Decimal {
         } else {
             Ok(decimal.trimmed().to_decimal(alloc)?)
         }
+    }
+
+    // Reads a decimal, where there is room for exactly its packed bytes and its digits.
+    fn read_with<S: Source>(
+        alloc: Global,
+        reader: &mut S,
+        bytes: &mut [u8],
+        digits: &mut [u8],
+        scale: usize,
+        keep_prec: bool,
+    ) -> Result<Decimal, Fault>
+        requires scale { scale ≤ length digits.now }
+        requires some { 0 < length digits.now }
+        requires size { length bytes.now ≡ packed_size (length digits.now - scale) scale }
+        ensures { ReadsFromOrMemory (packed_decimal (length digits.old) scale keep_prec) result
+            (S.remaining reader.old) (S.remaining reader.new)
+            (S.failures reader.old) (S.failures reader.new) }
+    {
+        read_exact(reader, bytes)?;
+        Decimal::of_bytes(alloc, bytes, digits, scale, keep_prec)
     }
 
     /// Reads a decimal of `precision` digits, `scale` of them after the point, in MySQL's packed
@@ -134,10 +157,17 @@ impl Decimal {
         if precision == 0 {
             return Ok(Decimal::default(alloc)?);
         }
-        let mut bytes = vec![in alloc; 0u8; digits_size(precision - scale) + digits_size(scale)]?;
-        let filled = bytes.as_mut_slice();
-        read_exact(reader, filled)?;
-        Decimal::of_bytes(alloc, filled, precision, scale, keep_prec)
+        let size = digits_size(precision - scale) + digits_size(scale);
+        if precision <= MAX_PRECISION {
+            let mut bytes = [0; MAX_SIZE];
+            let mut digits = [0; MAX_PRECISION];
+            let (packed, room) = (&mut bytes[..size], &mut digits[..precision]);
+            return Decimal::read_with(alloc, reader, packed, room, scale, keep_prec);
+        }
+        let mut bytes = vec![in alloc; 0u8; size]?;
+        let mut digits = vec![in alloc; 0u8; precision]?;
+        let (packed, room) = (bytes.as_mut_slice(), digits.as_mut_slice());
+        Decimal::read_with(alloc, reader, packed, room, scale, keep_prec)
     }
 
     /// Reads one byte of precision, one byte of scale, and then a decimal of this precision and

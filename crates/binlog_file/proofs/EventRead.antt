@@ -4,8 +4,9 @@ use Rattle.std.specs.Result.{IsErrAnd}
 use Rattle.binlog_base.specs.Format.{Parses}
 use Rattle.binlog_file.specs.declared.error.EventError.{EventError}
 use Rattle.binlog_file.specs.Lemmas.Formats.{exact_event_of_raw}
-use Rattle.binlog_file.specs.Events.{Raw, raw_event, Event, event, event_of_raw}
-use Rattle.binlog_file.specs.Stream.{Kept, kept_after, RawGives, ReadGives}
+use Rattle.binlog_file.specs.Events.{Raw, raw_event, Event, event, Glance, event_of_raw}
+use Rattle.binlog_file.specs.Stream.{Kept, kept_after, RawGives, ReadGives, GlanceGives}
+use Rattle.binlog_file.specs.Taken.{TakesRaw}
 use Rattle.binlog_file.proofs.RawRead.{all_left, not_empty}
 
 raw_long : (y : List ℕ) (r : Raw) → raw_event.spells y r → 19 ≤ length y
@@ -48,3 +49,15 @@ event_read old new k l r e h read kept =
     let s = (exact_event_of_raw k.at k.description r).sound [] e [] (read []) in
     let none : s.0 ≡ [] = sym (append-nil s.0) ∙ sym s.1 in
     (h.0, (r, h.0, [], sym (append-nil h.0), h.1, subst (λ (y : List ℕ). (event_of_raw k.at k.description r).spells y e) none s.2), h.2, subst (λ (y : List ℕ). l ≡ kept_after k y e) (sym (raw_bytes h.0 r h.1)) kept)
+
+-- ---- with a glance in place of the event
+
+pub glance_handed_on : (old new : Option (List ℕ)) (k l : Kept) (r : Result (Option Glance) EventError) (e : EventError) → IsErrAnd r (λ d. d ≡ e) → ReadGives old k (Err e) new l → GlanceGives old k r new l
+glance_handed_on old new k l (Ok x) e is h = absurd is
+glance_handed_on old new k l (Err d) e is h = subst (λ (x : EventError). ReadGives old k (Err x) new l) (sym is) h
+
+pub glance_read : (old new : Option (List ℕ)) (k l : Kept) (r : Raw) (g : Glance) → RawGives old (Ok (Some r)) new → TakesRaw k r (Ok g) l → GlanceGives old k (Ok (Some g)) new l
+glance_read old new k l r g h t = (t.0, t.1, event_read old new k l r t.0 h t.2 t.3)
+
+pub glance_refused : (old new : Option (List ℕ)) (k l : Kept) (r : Raw) (e : EventError) → RawGives old (Ok (Some r)) new → TakesRaw k r (Err e) l → ReadGives old k (Err e) new l
+glance_refused old new k l r e h t = elim t [ inl o ↦ inl o | inr read ↦ event_refused old new k l r e h read ]

@@ -1,14 +1,14 @@
 -- What is left at a spot of a source, and after a step from there.
 use Rattle.std.proofs.Common.{◌≡◌, ◌⊎◌, ℕ, ◌+◌, ◌-◌, ◌^◌, ◌<◌, ◌≤◌, Bool, true, false, List, [], ◌∷◌, ◌++◌, length, length-append, Option, Some, None, Ok, Err, refl, sym, ap, subst, ◌∙◌, inl, inr, arith}
 use Rattle.std.proofs.lemmas.Bool.{false≢true}
-use Rattle.std.specs.Prelude.{◌↔◌, if◌then◌else◌, IsTrue}
+use Rattle.std.specs.Prelude.{◌↔◌, if◌then◌else◌, IsTrue, IsErr}
 use Rattle.std.specs.Io.KnownBytes.{Consumes}
 use Rattle.binlog_base.specs.Sources.{IsLeft}
 use Rattle.binlog_file.specs.declared.error.EventError.{EventError}
 use Rattle.binlog_file.specs.declared.error.FileError.{FileError}
-use Rattle.binlog_file.specs.Events.{Event, Place, NextGives, event}
+use Rattle.binlog_file.specs.Events.{Event, Glance, glance_of, Place, NextGives, event}
 use Rattle.binlog_file.specs.Tables.{InForce, in_force_after}
-use Rattle.binlog_file.specs.Stream.{Kept, Reading, IsOutside, EventGives, ReaderGives, MayGoOn}
+use Rattle.binlog_file.specs.Stream.{Kept, Reading, IsOutside, EventGives, ReaderGives, ReaderGlances, MayGoOn}
 use Rattle.binlog_file.specs.Changes.{Wanted, Change, spot, TakeGives}
 use Rattle.binlog_file.specs.SourceChanges.{Found, Finds, place_at, spot_at, SourceTakes, turns}
 use Rattle.binlog_file.proofs.Reading.{long}
@@ -119,3 +119,35 @@ error_taken_from w old new r s e on gives = λ x finds.
     let here = subst (λ (b : Bool). Found b r.kept.at old x) on.0 finds in
     let over : s.is_over ≡ true = gives.ended.1 (inr refl) in
     ([], subst (λ (b : Bool). Found b s.kept.at new []) (sym over) refl, error_step w old new x r.kept s.kept e here.0 (gives.reads on.0))
+
+-- ---- with a glance at the event in place of the event
+
+no_end : (b : Bool) (P : Type 0) → b ≡ false → b ≡ true → P
+no_end b P isnt is = absurd (let bad : true ≡ false = sym is ∙ isnt in cc)
+
+as_reading : (old new : Option (List ℕ)) (r s : Reading) (g : Option Glance) (e : Option Event) → r.is_over ≡ false → EventGives old r.kept (Ok e) new s.kept → IsTrue s.is_over ↔ IsErr {E = FileError} (Ok g) → ReaderGives old r (Ok e) new s
+as_reading old new r s g e on h ended = record {
+  reads = λ _. h;
+  over = λ o. no_end r.is_over _ on o;
+  ended = (λ t. inr (ended.0 t), λ x. elim x [ inl o ↦ no_end r.is_over _ on o | inr bad ↦ ended.1 bad ]);
+}
+
+pub glance_taken_from : (w : Wanted) (old new : Option (List ℕ)) (r s t : Reading) (g : Glance) (c : Option Change) (pending : Option FileError) → MayGoOn r → ReaderGlances old r (Ok (Some g)) new s
+    → ((e : Event) (p q place : Place) (state : InForce) → g ≡ glance_of e → NextGives p (Some (Ok e)) q → s.kept.in_force ≡ in_force_after state e → (pending ≡ None → place ≡ q) → TakeGives IsOutside w (spot p state None) c (spot place s.kept.in_force pending))
+    → t.kept ≡ s.kept → (pending ≡ None → t.is_over ≡ s.is_over) → SourceTakes w old r None c new t pending
+glance_taken_from w old new r s t g c pending on gives takes kept over =
+    let h = gives.glances in
+    event_taken_from w old new r s t h.0 c pending on (as_reading old new r s (Some g) (Some h.0) on.0 h.2 gives.ended) (λ p q place state next. takes h.0 p q place state h.1 next) kept over
+
+pub fewer_turns_after : (old new : Option (List ℕ)) (r s t : Reading) (g : Glance) → MayGoOn r → ReaderGlances old r (Ok (Some g)) new s → t.kept ≡ s.kept → turns t < turns r
+fewer_turns_after old new r s t g on gives kept =
+    let h = gives.glances in
+    fewer_turns old new r s t h.0 on (as_reading old new r s (Some g) (Some h.0) on.0 h.2 gives.ended) kept
+
+pub glance_refused_from : (w : Wanted) (old new : Option (List ℕ)) (r s : Reading) (e : FileError) → MayGoOn r → ReaderGlances old r (Err e) new s → SourceTakes w old r None None new s (Some e)
+glance_refused_from w old new r s e on gives =
+    error_taken_from w old new r s e on (record {
+      reads = λ _. gives.glances;
+      over = λ o. no_end r.is_over _ on.0 o;
+      ended = (λ t. inr (gives.ended.0 t), λ x. elim x [ inl o ↦ no_end r.is_over _ on.0 o | inr bad ↦ gives.ended.1 bad ]);
+    })

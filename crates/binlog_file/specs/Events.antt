@@ -103,6 +103,19 @@ pub record Event : Type 0 where
 abbrev pub origin_of : Event → Origin
 origin_of e = record { position = e.position; timestamp = e.header.timestamp; server_id = e.header.server_id }
 
+-- what the changes of a file need of an event
+pub record Glance : Type 0 where
+  pub origin : Origin
+  pub rows : Option RowsEventCtx
+  pub body : List ℕ
+
+abbrev pub glance_of : Event → Glance
+glance_of e = record { origin = origin_of e; rows = e.rows; body = e.body }
+
+-- the event is neither a format description nor a table map event
+abbrev pub is_plain : Raw → Bool
+is_plain r = not (nat_eq r.header.event_type 0x0F) && not (nat_eq r.header.event_type 0x13)
+
 -- events that hold rows, or hide them, and aren't read: the rows events of MySQL before 5.1.16, a
 -- compressed transaction, MariaDB's START_ENCRYPTION_EVENT and its compressed rows events
 abbrev pub has_unread_rows : ℕ → Bool

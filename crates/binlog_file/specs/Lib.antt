@@ -15,3 +15,4 @@ pub mod SourceChanges
 pub mod SourceWalks
 pub mod Stored
 pub mod Checkpoints
+pub mod Taken

@@ -7,7 +7,7 @@ use Rattle.binlog_file.specs.declared.error.EventError.{EventError}
 use Rattle.binlog_file.specs.declared.error.EventError.TheVariants as error
 use Rattle.binlog_file.specs.declared.error.FileError.{FileError}
 use Rattle.binlog_file.specs.Description.{Description}
-use Rattle.binlog_file.specs.Events.{Raw, raw_event, Event, event, after, is_binlog, no_binlog}
+use Rattle.binlog_file.specs.Events.{Raw, raw_event, Event, event, Glance, glance_of, after, is_binlog, no_binlog}
 use Rattle.binlog_file.specs.Tables.{InForce, nothing_in_force, in_force_after}
 use Rattle.binlog_file.specs.Stored.{Stored, nothing_stored, stored_after}
 
@@ -54,6 +54,12 @@ ReadGives old k (Ok None) new l = IsLeft old [] × (l ≡ k)
 ReadGives old k (Ok (Some e)) new l = (y : List ℕ) × (event k.at k.description).spells y e × Consumes old new y × (l ≡ kept_after k y e)
 ReadGives old k (Err e) new l = IsOutside e ⊎ ((x : List ℕ) × (x ≢ []) × (event k.at k.description).refuses x e × IsLeft old x)
 
+-- the same, with a glance at the event in place of it
+abbrev pub GlanceGives : Option (List ℕ) → Kept → Result (Option Glance) EventError → Option (List ℕ) → Kept → Type 0
+GlanceGives old k (Ok None) new l = ReadGives old k (Ok None) new l
+GlanceGives old k (Ok (Some g)) new l = (e : Event) × (g ≡ glance_of e) × ReadGives old k (Ok (Some e)) new l
+GlanceGives old k (Err e) new l = ReadGives old k (Err e) new l
+
 -- the same, and the error with the position where the bytes begin
 abbrev pub EventGives : Option (List ℕ) → Kept → Result (Option Event) FileError → Option (List ℕ) → Kept → Type 0
 EventGives old k (Ok e) new l = ReadGives old k (Ok e) new l
@@ -67,6 +73,16 @@ NoHeader old e = ((e.position ≡ 0) × IsOutside e.error) ⊎ ((x : List ℕ) �
 pub record Reading : Type 0 where
   pub kept : Kept
   pub is_over : Bool
+
+-- the same, and the error with the position where the bytes begin
+abbrev pub GlanceAt : Option (List ℕ) → Kept → Result (Option Glance) FileError → Option (List ℕ) → Kept → Type 0
+GlanceAt old k (Ok g) new l = GlanceGives old k (Ok g) new l
+GlanceAt old k (Err e) new l = EventGives old k (Err e) new l
+
+-- A glance at the next event of a reader that isn't at its end, or the error, after which it is.
+pub record ReaderGlances (old : Option (List ℕ)) (r : Reading) (result : Result (Option Glance) FileError) (new : Option (List ℕ)) (s : Reading) : Type 0 where
+  pub glances : GlanceAt old r.kept result new s.kept
+  pub ended : IsTrue s.is_over ↔ IsErr result
 
 -- The next event, or the error, after which the reader is at its end. At its end it gives nothing, and
 -- leaves all as it is.

@@ -8,7 +8,7 @@ ghost use Rattle.binlog_file.specs.Changes as Spec;
 
 use crate::choice::Choice;
 use crate::error::EventError;
-use crate::event::Event;
+use crate::event::{Event, Glance};
 use crate::origin::Origin;
 use crate::plans::KeptPlans;
 use crate::tables::TableMaps;
@@ -242,6 +242,32 @@ fn body_gives<'a, C: Choice>(
     match RowsEvent::deserialize(ctx, &mut ParseBuf(body)) {
         Err(fault) => Ok(failure(EventError::RowsEvent(fault))),
         Ok(rows) => change_of(alloc, choice, plans, tables, origin, rows),
+    }
+}
+
+/// Returns what an event gives that was glanced at.
+pub(crate) fn glance_gives<'a, C: Choice>(
+    alloc: Global,
+    choice: &C,
+    plans: &mut KeptPlans,
+    tables: &TableMaps,
+    glance: Glance<'a>,
+) -> Result<Given<'a>, Fault>
+    ensures given { IfOk result (λ g. Spec.Gives (C.wanted choice.now) (in_maps tables.now)
+        glance.entry.origin glance.entry.rows glance.entry.body g) }
+    ensures err { IfErr result (λ e. e ≡ Fault.Memory) }
+{
+    match glance.rows {
+        None => Ok(nothing()),
+        Some(ctx) => body_gives(
+            alloc,
+            choice,
+            plans,
+            tables,
+            glance.origin,
+            ctx,
+            glance.body,
+        ),
     }
 }
 

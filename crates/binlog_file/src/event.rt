@@ -1,6 +1,6 @@
 //! The events of a file, and how one is read.
 
-ghost use Rattle.std.specs.Prelude.{◌≡◌, ◌-◌, ◌<◌, ◌++◌, ℕ, List, false, Some, Ok, Err, IfOk, IfErr, length, take, drop};
+ghost use Rattle.std.specs.Prelude.{◌≡◌, ◌-◌, ◌<◌, ◌++◌, ℕ, List, true, false, nat_eq, None, Some, Ok, Err, IfOk, IfErr, length, take, drop};
 ghost use Rattle.std.specs.Option.{option_map};
 ghost use Rattle.binlog_base.specs.Format.{Parses, ParsesAs, ReadsAs, within, all_of, map_value, map_fault};
 ghost use Rattle.binlog_table.specs.TableMap.{table_map_of};
@@ -9,7 +9,7 @@ ghost use Rattle.binlog_file.specs.Header.{header};
 ghost use Rattle.binlog_file.specs.declared.error.EventError.TheVariants as error;
 ghost use Rattle.binlog_file.specs.Crc32.{crc32};
 ghost use Rattle.binlog_file.specs.Events as Spec;
-ghost use Rattle.binlog_file.specs.Tables.{ends_statement};
+ghost use Rattle.binlog_file.specs.Tables.{ends_statement, has_end_flag};
 ghost use Rattle.binlog_file.specs.Stored.{is_there};
 
 use crate::crc::crc32_of_both;
@@ -77,6 +77,30 @@ impl<'a> Raw<'a> {
     {
         self.header.event_type() == 0x0f
     }
+
+    // Returns whether the event is neither a format description nor a table map event.
+    pub(crate) fn is_plain(&self) -> bool
+        ensures { result ≡ Spec.is_plain self.now }
+    {
+        !matches!(self.header.event_type(), 0x0f | 0x13)
+    }
+}
+
+/// What the changes of a file need of an event: where it comes from, what is needed to read it as a
+/// rows event, if it is one, and its body.
+#[derive(Drop)]
+pub(crate) struct Glance<'a> {
+    pub(crate) origin: Origin,
+    pub(crate) rows: Option<RowsEventCtx>,
+    pub(crate) body: &'a [u8],
+}
+
+impl<'a> Model for Glance<'a> {
+    ghost use Rattle.binlog_file.specs.Events as Spec;
+
+    ghost Value = { Spec.Glance };
+
+    ghost view = { λ g. record { origin = g.origin; rows = g.rows; body = g.body.now } };
 }
 
 /// What an event ends with: its checksum, where events have one.
@@ -388,6 +412,131 @@ fn rows_ctx(description: &FormatDescriptionEvent<'_>, number: u8) -> Option<Rows
     })
 }
 
+/// An event that is neither a format description nor a table map event. It is smaller than an
+/// `Event`, so that the many events that are passed over cost less.
+#[derive(Drop)]
+pub(crate) struct PlainEvent<'a> {
+    position: u64,
+    header: BinlogEventHeader,
+    body: &'a [u8],
+    footer: BinlogEventFooter,
+    rows: Option<RowsEventCtx>,
+}
+
+impl<'a> Model for PlainEvent<'a> {
+    ghost use Rattle.std.specs.Prelude.{None};
+    ghost use Rattle.binlog_file.specs.Events as Spec;
+
+    ghost Value = { Spec.Event };
+
+    ghost view = { λ e. record {
+      position = e.position;
+      header = e.header;
+      body = e.body.now;
+      checksum = e.footer.checksum;
+      rows = e.rows;
+      description = None;
+      table = None;
+    } };
+}
+
+// Reads a plain event from its parts.
+fn plain_event<'a>(
+    position: u64,
+    in_force: &Option<FormatDescriptionEvent<'_>>,
+    header: BinlogEventHeader,
+    parts: Parts<'a>,
+) -> Result<PlainEvent<'a>, EventError>
+    requires { nat_eq header.event_type 0x13 ≡ false }
+    ensures parses { (x : List ℕ) → Parses
+        (Spec.other_event position in_force.now header parts.entry) result x x }
+    ensures plain { IfOk result (λ e. e.description ≡ None) }
+    ensures no_table { IfOk result (λ e. e.table ≡ None) }
+{
+    let Some(description) = in_force else {
+        return Err(EventError::NoDescription);
+    };
+    if !is_supported(&header) {
+        return Err(EventError::NotSupported(header.event_type()));
+    }
+    let Parts { body, footer } = parts;
+    Ok(PlainEvent {
+        position,
+        header,
+        body,
+        footer,
+        rows: rows_ctx(description, header.event_type()),
+    })
+}
+
+impl<'a> PlainEvent<'a> {
+    // Reads the event of these bytes, after the description that is in force.
+    pub(crate) fn of_raw(
+        position: u64,
+        in_force: &Option<FormatDescriptionEvent<'_>>,
+        raw: &Raw<'a>,
+    ) -> Result<PlainEvent<'a>, EventError>
+        requires { Spec.is_plain raw.now ≡ true }
+        ensures parses { (x : List ℕ) → Parses
+            (Spec.event_of_raw position in_force.now raw.now) result x x }
+        ensures plain { IfOk result (λ e. e.description ≡ None) }
+        ensures no_table { IfOk result (λ e. e.table ≡ None) }
+    {
+        let parts = parts_of(has_checksum(in_force, raw), raw)?;
+        let header = raw.header();
+        plain_event(position, in_force, header, parts)
+    }
+
+    // Returns the number of the event's type.
+    pub(crate) fn event_type(&self) -> u8
+        ensures { result ≡ self.now.header.event_type }
+    {
+        self.header.event_type()
+    }
+
+    // Returns how many bytes the whole event has.
+    pub(crate) fn event_size(&self) -> u32
+        ensures { result ≡ self.now.header.event_size }
+    {
+        self.header.event_size()
+    }
+
+    // Returns whether the event is a rows event with the flag STMT_END_F.
+    pub(crate) fn ends_statement(&self) -> bool
+        ensures { result ≡ ends_statement self.now }
+    {
+        ends_statement_of(self.rows, self.body)
+    }
+
+    // Returns what the changes need of the event.
+    pub(crate) fn glance(&self) -> Glance<'a>
+        ensures { result ≡ Spec.glance_of self.now }
+    {
+        Glance {
+            origin: Origin {
+                position: self.position,
+                timestamp: self.header.timestamp(),
+                server_id: self.header.server_id(),
+            },
+            rows: self.rows,
+            body: self.body,
+        }
+    }
+}
+
+// Returns whether the body of a rows event has the flag STMT_END_F.
+fn ends_statement_of(rows: Option<RowsEventCtx>, body: &[u8]) -> bool
+    ensures { result ≡ has_end_flag rows body.now }
+{
+    match rows {
+        None => false,
+        Some(ctx) => {
+            let id_len = if ctx.post_header_len == 6 { 4 } else { 6 };
+            body.get(id_len).copied().unwrap_or(0) % 2 == 1
+        }
+    }
+}
+
 // Reads an event that is no format description event, after a description.
 fn after_description<'a>(
     position: u64,
@@ -520,12 +669,17 @@ impl<'a> Event<'a> {
     pub fn ends_statement(&self) -> bool
         ensures { result ≡ ends_statement self.now }
     {
-        match self.rows {
-            None => false,
-            Some(ctx) => {
-                let id_len = if ctx.post_header_len == 6 { 4 } else { 6 };
-                self.body.get(id_len).copied().unwrap_or(0) % 2 == 1
-            }
+        ends_statement_of(self.rows, self.body)
+    }
+
+    // Returns what the changes need of the event.
+    pub(crate) fn glance(&self) -> Glance<'a>
+        ensures { result ≡ Spec.glance_of self.now }
+    {
+        Glance {
+            origin: self.origin(),
+            rows: self.rows,
+            body: self.body,
         }
     }
 

@@ -1,6 +1,7 @@
 //! The plans of the last tables.
 
-ghost use Rattle.std.specs.Prelude.{◌≡◌, IfOk, IfErr};
+ghost use Rattle.std.specs.Prelude.{◌≡◌, ◌<◌, ◌≤◌, IfOk, IfErr};
+ghost use Rattle.std.specs.BTreeMap.{btree_map_len};
 ghost use Rattle.binlog_base.specs.declared.fault.Fault.TheVariants as Fault;
 ghost use Rattle.mysql_binlog_rows.specs.Images.{pair};
 ghost use Rattle.mysql_binlog_rows.specs.Cover.{Covers};
@@ -15,13 +16,13 @@ use std::collections::BTreeMap;
 /// How many plans are kept at most.
 const MOST_PLANS: usize = 1024;
 
-/// How many columns the tables of all kept plans have at most, unless there is one plan alone.
-const MOST_COLUMNS: u64 = 0x4_0000;
+/// The most that all kept plans weigh, unless there is one plan alone.
+const MOST_WEIGHT: u64 = 0x4_0000;
 
-/// A plan, and how many columns it was made for.
+/// A plan, and what it weighs.
 #[derive(Drop)]
-struct CountedPlan {
-    columns: u64,
+struct WeighedPlan {
+    weight: u64,
     plan: KeptPlan,
 }
 
@@ -29,13 +30,13 @@ struct CountedPlan {
 /// of one table have plans of their own, so that neither takes the other's place. They are kept past
 /// the end of statements: a plan serves again while its table map event tells the same.
 ///
-/// There are at most 1,024 plans. Together they are for at most 262,144 columns, so that wide tables
-/// don't fill the memory; a plan for more is kept alone.
+/// There are at most 1,024 plans. Together they weigh at most 262,144, so that wide tables don't fill
+/// the memory; a plan that weighs more is kept alone.
 #[derive(Drop)]
 pub(crate) struct KeptPlans {
     alloc: Global,
-    plans: BTreeMap<u64, CountedPlan>,
-    columns: u64,
+    plans: BTreeMap<u64, WeighedPlan>,
+    weight: u64,
 }
 
 // Returns the number of a kind of change, below 4: events of one kind have the same images.
@@ -53,31 +54,44 @@ fn key_of(rows: &RowsEvent<'_>) -> u64 {
     rows.table_id().wrapping_mul(4) | kind_of(rows.event_type())
 }
 
+// Returns what a plan for these events weighs: one for each column, and one for each 32 bytes of
+// optional metadata.
+fn weight_of(table: &TableMapEvent<'_>, rows: &RowsEvent<'_>) -> u64 {
+    let metadata = table.optional_metadata_raw().len() as u64 / 32;
+    rows.num_columns().saturating_add(metadata)
+}
+
 impl KeptPlans {
     // Keeps no plan yet.
-    pub(crate) fn new(alloc: Global) -> KeptPlans {
+    pub(crate) fn new(alloc: Global) -> KeptPlans
+        ensures { btree_map_len result.plans ≡ 0 }
+    {
         KeptPlans {
             alloc,
             plans: BTreeMap::new(alloc),
-            columns: 0,
+            weight: 0,
         }
     }
 
-    // Gives up all plans if there is no room for one more, of so many columns.
-    fn make_room(&mut self, columns: u64) {
-        let sum = self.columns.saturating_add(columns);
-        if self.plans.len() >= MOST_PLANS || sum > MOST_COLUMNS {
+    // Gives up all plans if there is no room for one more of this weight.
+    fn make_room(&mut self, weight: u64)
+        ensures { btree_map_len self.new.plans < MOST_PLANS }
+    {
+        let sum = self.weight.saturating_add(weight);
+        if self.plans.len() >= MOST_PLANS || sum > MOST_WEIGHT {
             self.plans = BTreeMap::new(self.alloc);
-            self.columns = columns;
+            self.weight = weight;
         } else {
-            self.columns = sum;
+            self.weight = sum;
         }
     }
 
-    // Keeps a plan that was made for so many columns.
-    fn keep(&mut self, key: u64, columns: u64, plan: KeptPlan) -> Result<(), AllocError> {
-        self.make_room(columns);
-        self.plans.insert(key, CountedPlan { columns, plan })?;
+    // Keeps a plan of this weight.
+    fn keep(&mut self, key: u64, weight: u64, plan: KeptPlan) -> Result<(), AllocError>
+        ensures { btree_map_len self.new.plans ≤ MOST_PLANS }
+    {
+        self.make_room(weight);
+        self.plans.insert(key, WeighedPlan { weight, plan })?;
         Ok(())
     }
 
@@ -92,17 +106,19 @@ impl KeptPlans {
         ensures covers { IfOk result
             (λ d. Covers (pair table.now rows.now) rows.now.rows_data d.pairs.items d.fault) }
         ensures err { IfErr result (λ e. e ≡ Fault.Memory) }
+        ensures few { btree_map_len self.old.plans ≤ MOST_PLANS
+            → btree_map_len self.new.plans ≤ MOST_PLANS }
     {
         let key = key_of(rows);
-        let columns = rows.num_columns();
+        let weight = weight_of(table, rows);
         if let Some(kept) = self.plans.get_mut(&key) {
-            if kept.columns == columns {
+            if kept.weight == weight {
                 return pairs_by(alloc, table, rows, &mut kept.plan);
             }
         }
         let mut plan = KeptPlan::new();
         let decoded = pairs_by(alloc, table, rows, &mut plan)?;
-        self.keep(key, columns, plan)?;
+        self.keep(key, weight, plan)?;
         Ok(decoded)
     }
 }

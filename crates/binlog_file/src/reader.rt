@@ -3,14 +3,15 @@
 ghost use Rattle.std.specs.Prelude.{◌≡◌, ◌≤◌, ◌<◌, ◌++◌, ◌↔◌, ◌⊎◌, false, true, Ok, None, length, OnOk, IfOk, IfErr, IsErr, IsTrue};
 ghost use Rattle.std.specs.Option.{option_map};
 ghost use Rattle.std.specs.Io.KnownBytes.{Consumes, IsAtEnd};
-ghost use Rattle.binlog_file.specs.Events.{after};
+ghost use Rattle.binlog_file.specs.Events.{after, is_plain};
+ghost use Rattle.binlog_file.specs.Taken.{TakesRaw};
 ghost use Rattle.binlog_file.specs.Stream as Spec;
 ghost use Rattle.binlog_file.specs.Readers.{kept_by, reading_of};
 ghost use Rattle.binlog_file.specs.Checkpoints.{checkpoint, checkpoint_of};
 
 use crate::description::{FormatDescriptionEvent, OwnedDescription};
 use crate::error::{EventError, FileError};
-use crate::event::{Event, Raw, header_of, rest_len};
+use crate::event::{Event, Glance, PlainEvent, Raw, header_of, rest_len};
 use crate::stored::StoredEvents;
 use crate::tables::TableMaps;
 use binlog_base::below::{Failed, Source};
@@ -157,6 +158,19 @@ impl Kept {
         Ok(())
     }
 
+    // Takes what a plain event of these bytes says.
+    fn take_plain(&mut self, event: &PlainEvent<'_>, raw: &Raw<'_>) -> Result<(), AllocError>
+        requires plain { event.now.description ≡ None }
+        requires no_table { event.now.table ≡ None }
+        ensures { OnOk result (kept_by self.new ≡ Spec.kept_after (kept_by self.old)
+            (raw.now.head ++ raw.now.rest) event.now) }
+    {
+        self.stored.take_plain(self.tables.ended(), event, raw)?;
+        self.tables.take_plain(event);
+        self.position = self.position.saturating_add(u64::from(event.event_size()));
+        Ok(())
+    }
+
     // Returns the bytes of a checkpoint.
     fn checkpoint(&self, alloc: Global) -> Result<Vec<u8>, AllocError>
         ensures { IfOk result (λ c. c.items ≡ checkpoint_of (kept_by self.now)) }
@@ -182,6 +196,54 @@ fn read_event<'b, S: Source>(
     let event = Event::of_raw(kept.position, &in_force, &raw)?;
     kept.take(alloc, &event, &raw)?;
     Ok(Some(event))
+}
+
+// Takes a plain event of these bytes, and returns a glance at it.
+fn take_plain<'b>(kept: &mut Kept, raw: &Raw<'b>) -> Result<Glance<'b>, EventError>
+    requires { is_plain raw.now ≡ true }
+    ensures { TakesRaw (kept_by kept.old) raw.now result (kept_by kept.new) }
+{
+    let in_force = lend(&kept.description);
+    let event = PlainEvent::of_raw(kept.position, &in_force, raw)?;
+    kept.take_plain(&event, raw)?;
+    Ok(event.glance())
+}
+
+// Takes an event of these bytes, and returns a glance at it.
+fn take_other<'b>(alloc: Global, kept: &mut Kept, raw: &Raw<'b>) -> Result<Glance<'b>, EventError>
+    ensures { TakesRaw (kept_by kept.old) raw.now result (kept_by kept.new) }
+{
+    let in_force = lend(&kept.description);
+    let event = Event::of_raw(kept.position, &in_force, raw)?;
+    kept.take(alloc, &event, raw)?;
+    Ok(event.glance())
+}
+
+// Takes the event of these bytes, and returns a glance at it.
+fn take_glance<'b>(alloc: Global, kept: &mut Kept, raw: &Raw<'b>) -> Result<Glance<'b>, EventError>
+    ensures { TakesRaw (kept_by kept.old) raw.now result (kept_by kept.new) }
+{
+    if raw.is_plain() {
+        take_plain(kept, raw)
+    } else {
+        take_other(alloc, kept, raw)
+    }
+}
+
+// Reads the next event, and returns a glance at it; nothing if no bytes are left.
+fn read_glance<'b, S: Source>(
+    alloc: Global,
+    source: &mut S,
+    buffer: &'b mut EventBuffer,
+    kept: &mut Kept,
+) -> Result<Option<Glance<'b>>, EventError>
+    ensures { Spec.GlanceGives (S.remaining source.old) (kept_by kept.old) result
+        (S.remaining source.new) (kept_by kept.new) }
+{
+    let Some(raw) = take_raw(source, buffer)? else {
+        return Ok(None);
+    };
+    Ok(Some(take_glance(alloc, kept, &raw)?))
 }
 
 /// A reader of the events of a binlog file, or of a stream with the same bytes, one at a time.
@@ -216,6 +278,26 @@ impl EventStreamReader {
         ensures { result.now ≡ self.now.kept.tables }
     {
         &self.kept.tables
+    }
+
+    // Reads the next event, as `read` does, and returns a glance at it.
+    pub(crate) fn glance<'b, S: Source>(
+        &mut self,
+        source: &mut S,
+        buffer: &'b mut EventBuffer,
+    ) -> Result<Option<Glance<'b>>, FileError>
+        requires { self.old.is_over ≡ false }
+        ensures { Spec.ReaderGlances (S.remaining source.old) (reading_of self.old) result
+            (S.remaining source.new) (reading_of self.new) }
+    {
+        let position = self.kept.position;
+        match read_glance(self.alloc, source, buffer, &mut self.kept) {
+            Ok(glance) => Ok(glance),
+            Err(error) => {
+                self.is_over = true;
+                Err(FileError { position, error })
+            }
+        }
     }
 
     /// Returns a reader of the events after the four bytes with which a file begins.

@@ -1,18 +1,18 @@
 //! The changes of a file one at a time, from a source of bytes.
 
 ghost use Rattle.std.specs.Prelude.{◌≡◌, ◌<◌, ◌≤◌, ◌↔◌, true, Some, None, Ok, IfOk, IsTrue, IsSome};
-ghost use Rattle.binlog_file.specs.Events.{Place, NextGives};
+ghost use Rattle.binlog_file.specs.Events.{Event, Place, NextGives, glance_of};
 ghost use Rattle.binlog_file.specs.Tables.{InForce, in_force_after};
-ghost use Rattle.binlog_file.specs.Changes.{EventGives, TakeGives, spot, LessensTo};
+ghost use Rattle.binlog_file.specs.Changes.{Gives, TakeGives, spot, LessensTo};
 ghost use Rattle.binlog_file.specs.Stream.{IsOutside, MayGoOn};
 ghost use Rattle.binlog_file.specs.SourceChanges as Spec;
 ghost use Rattle.binlog_file.specs.SourceWalks.{reading_in, kept_in};
 
-use crate::change::{Change, Given, event_gives};
+use crate::change::{Change, Given, glance_gives};
 use crate::changes::at_position;
 use crate::choice::Choice;
 use crate::error::{EventError, FileError};
-use crate::event::Event;
+use crate::event::Glance;
 use crate::file::BinlogFile;
 use crate::plans::KeptPlans;
 use crate::reader::{EventBuffer, EventStreamReader};
@@ -67,15 +67,15 @@ fn owned_gives<C: Choice>(
     alloc: Global,
     choice: &C,
     walk: &mut SourceWalk,
-    event: &Event<'_>,
+    glance: Glance<'_>,
 ) -> Result<Given<'static>, Fault>
-    ensures given { IfOk result (λ g. EventGives (C.wanted choice.now)
-        (kept_in walk.old).in_force.tables event.now g) }
+    ensures given { IfOk result (λ g. Gives (C.wanted choice.now)
+        (kept_in walk.old).in_force.tables glance.entry.origin glance.entry.rows glance.entry.body g) }
     ensures kept { kept_in walk.new ≡ kept_in walk.old }
     ensures over { walk.new.reader.is_over ≡ walk.old.reader.is_over }
 {
     let tables = walk.reader.tables();
-    let given = event_gives(alloc, choice, &mut walk.plans, tables, event)?;
+    let given = glance_gives(alloc, choice, &mut walk.plans, tables, glance)?;
     Ok(given.into_owned(alloc)?)
 }
 
@@ -85,17 +85,18 @@ fn take<C: Choice>(
     alloc: Global,
     choice: &C,
     walk: &mut SourceWalk,
-    event: &Event<'_>,
+    glance: Glance<'_>,
 ) -> Option<Change<'static>>
-    ensures takes { (p q r : Place) (s : InForce) → NextGives p (Some (Ok event.now)) q
-        → (kept_in walk.old).in_force ≡ in_force_after s event.now → (walk.new.pending ≡ None → r ≡ q)
+    ensures takes { (e : Event) (p q r : Place) (s : InForce) → glance.entry ≡ glance_of e
+        → NextGives p (Some (Ok e)) q
+        → (kept_in walk.old).in_force ≡ in_force_after s e → (walk.new.pending ≡ None → r ≡ q)
         → TakeGives IsOutside (C.wanted choice.now) (spot p s None) result
         (spot r (kept_in walk.old).in_force walk.new.pending) }
     ensures kept { kept_in walk.new ≡ kept_in walk.old }
     ensures on { walk.new.pending ≡ None → walk.new.reader.is_over ≡ walk.old.reader.is_over }
 {
-    let position = event.position();
-    match owned_gives(alloc, choice, walk, event) {
+    let position = glance.origin.position;
+    match owned_gives(alloc, choice, walk, glance) {
         Ok(given) => {
             let (change, error) = given.into_parts();
             walk.end_with(at_position(position, error));
@@ -123,8 +124,8 @@ fn read_one<S: Source, C: Choice>(
         None result (S.remaining source.new) (reading_in walk.new) walk.new.pending }
     ensures fewer { Spec.turns (reading_in walk.new) < Spec.turns (reading_in walk.old) }
 {
-    match walk.reader.read(source, buffer) {
-        Ok(Some(event)) => take(alloc, choice, walk, &event),
+    match walk.reader.glance(source, buffer) {
+        Ok(Some(glance)) => take(alloc, choice, walk, glance),
         Ok(None) => {
             walk.reader.stop();
             None

@@ -1,10 +1,10 @@
 //! The bytes of the events that a checkpoint has.
 
-ghost use Rattle.std.specs.Prelude.{◌≡◌, ◌++◌, [], ◌||◌, if◌then◌else◌, IfOk, OnOk};
+ghost use Rattle.std.specs.Prelude.{◌≡◌, ◌++◌, [], ◌||◌, if◌then◌else◌, None, IfOk, OnOk};
 ghost use Rattle.binlog_file.specs.Events.{magic};
 ghost use Rattle.binlog_file.specs.Stored as Spec;
 
-use crate::event::{Event, Raw};
+use crate::event::{Event, PlainEvent, Raw};
 use crate::file::MAGIC;
 use std::alloc::{AllocError, Global};
 use std::marker::Model;
@@ -134,6 +134,27 @@ impl StoredEvents {
         take_description(&mut self.description, event, raw)?;
         take_gtid(&mut self.gtid, event, raw)?;
         take_table(&mut self.tables, ended, event, raw)
+    }
+
+    // Stores a plain event of these bytes, if a checkpoint has it. `ended`: a statement ended with the
+    // event before.
+    pub(crate) fn take_plain(
+        &mut self,
+        ended: bool,
+        event: &PlainEvent<'_>,
+        raw: &Raw<'_>,
+    ) -> Result<(), AllocError>
+        requires plain { event.now.description ≡ None }
+        requires no_table { event.now.table ≡ None }
+        ensures { OnOk result (self.new ≡ Spec.stored_after self.old ended event.now
+            (raw.now.head ++ raw.now.rest)) }
+    {
+        give_up(&mut self.tables, ended);
+        if is_gtid(event.event_type()) {
+            replace(&mut self.gtid, raw)
+        } else {
+            Ok(())
+        }
     }
 
     // Returns the table map events that the next event finds.

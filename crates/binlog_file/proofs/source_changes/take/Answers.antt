@@ -1,16 +1,17 @@
 use Rattle.std.proofs.Common.{ℕ, ap, ◌∙◌, subst}
+use Rattle.binlog_file.specs.Events.{Glance}
 use Rattle.binlog_file.specs.Tables.{Tables, InForce}
 use Rattle.binlog_file.specs.Stream.{IsOutside}
-use Rattle.binlog_file.specs.Changes.{EventGives, at_position}
+use Rattle.binlog_file.specs.Changes.{Gives, EventGives, at_position}
 use Rattle.binlog_file.specs.SourceWalks.{kept_in}
 use Rattle.binlog_file.proofs.Followed.{event_taken}
 use Rattle.binlog_file.proofs.source_changes.take.Goals as goal
 
 pub returns-in-Ok-clause-takes : goal.returns-in-Ok-clause-takes
-returns-in-Ok-clause-takes g c = λ p q r s gives kept on.
+returns-in-Ok-clause-takes g c = λ e p q r s is gives kept on.
     let w = g.C.Choice.wanted c.args.choice.now in
-    let e = c.args.event.now in
-    let here = subst (λ (ts : Tables). EventGives w ts e c.in-Ok.given) (ap (λ (x : InForce). x.tables) kept) c.in-Ok.ensures.given in
+    let there = subst (λ (x : Glance). Gives w (kept_in c.args.walk.now).in_force.tables x.origin x.rows x.body c.in-Ok.given) is c.in-Ok.ensures.given in
+    let here = subst (λ (ts : Tables). EventGives w ts e c.in-Ok.given) (ap (λ (x : InForce). x.tables) kept) there in
     event_taken IsOutside w s (kept_in c.args.walk.now).in_force p q r e c.in-Ok.given _ c.end_with.new.self.pending gives here kept c.into_parts-change.ensures.change
-    (c.end_with.ensures.pending ∙ c.at_position.ensures ∙ ap (λ (n : ℕ). at_position n c.into_parts-change.result.1) c.position-position.ensures ∙ ap (at_position e.position) c.into_parts-change.ensures.error)
+    (c.end_with.ensures.pending ∙ c.at_position.ensures ∙ ap (λ (n : ℕ). at_position n c.into_parts-change.result.1) (ap (λ (x : Glance). x.origin.position) (c.glance.view_is ∙ is)) ∙ ap (at_position e.position) c.into_parts-change.ensures.error)
     on

@@ -1,5 +1,5 @@
 -- The columns of a table, by its table map event.
-use Rattle.std.specs.Prelude.{ℕ, zero, suc, ◌&&◌, Bool, true, false, List, [], ◌∷◌, length, take, Result, Ok, Err, Option, Some, None, slice_index_or, if◌then◌else◌}
+use Rattle.std.specs.Prelude.{◌≡◌, ℕ, zero, suc, ◌&&◌, Bool, true, false, List, [], ◌∷◌, length, take, Result, Ok, Err, Option, Some, None, MatchOption, slice_index_or, if◌then◌else◌}
 use Rattle.std.specs.Option.{option_map}
 use Rattle.binlog_base.specs.declared.fault.Fault.{Fault}
 use Rattle.binlog_base.specs.declared.fault.Fault.TheVariants.{NoColumnType}
@@ -63,6 +63,15 @@ column_then (Err e) more = Err e ∷ []
 abbrev pub columns_by : (ℕ → Result Column Fault) → ℕ → List (Result Column Fault)
 columns_by f zero = []
 columns_by f (suc n) = column_then (f 0) (columns_by (λ i. f (suc i)) n)
+
+-- a column of which only is told whether it has a fault
+abbrev pub passed : Result Column Fault → Result (Unit {0}) Fault
+passed c = result_map (λ _. tt) c
+
+-- A call passed over the first of the columns that were left, and told of it whether it has a fault;
+-- or none were left.
+abbrev pub PassesFirst : List (Result Column Fault) → Option (Result (Unit {0}) Fault) → List (Result Column Fault) → Type 0
+PassesFirst old r new = MatchOption r ((old ≡ []) × (new ≡ [])) (λ told. (c : Result Column Fault) × (old ≡ c ∷ new) × (told ≡ passed c))
 
 -- ---- one part after another
 

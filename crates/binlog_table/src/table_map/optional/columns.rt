@@ -11,7 +11,7 @@ ghost use Rattle.binlog_base.specs.Servers.{character_group, enum_or_set_group};
 ghost use Rattle.binlog_table.specs.ColumnTypes.{raw_type_of, real_type_of};
 ghost use Rattle.binlog_table.specs.Fields.{is_numeric_number, fields};
 ghost use Rattle.binlog_table.specs.CharsetsLeft.{row_charset};
-ghost use Rattle.binlog_table.specs.TableColumns.{typed, named, column_by, columns_by, column_at, table_columns};
+ghost use Rattle.binlog_table.specs.TableColumns.{typed, named, column_by, columns_by, column_at, table_columns, PassesFirst};
 ghost use Rattle.binlog_table.specs.Extracted.{kept_of, kept_bytes, field_fault, fields_of};
 ghost use Rattle.binlog_table.specs.ColumnsLeft.{seen_column, bit_here, bits_after, charset_here, parts_left, columns_left, Follows, Advances, HasRoom, steps_of, most_of};
 ghost use Rattle.binlog_table.specs.Lists.{Spends, count_of};
@@ -65,6 +65,7 @@ struct Walk<'a> {
 }
 
 // Returns the real type of a column, by its type byte and its chunk.
+#[inline(always)]
 fn type_of(raw: u8, chunk: Option<&[u8]>) -> Result<ColumnType, Fault>
     ensures { result ≡ typed
         (real_type_of (raw_type_of (Some raw)) (option_map (λ c. c.now) chunk.entry)) }
@@ -74,6 +75,7 @@ fn type_of(raw: u8, chunk: Option<&[u8]>) -> Result<ColumnType, Fault>
 }
 
 // Returns whether the next column is unsigned. Only a numeric column takes a sign bit.
+#[inline(always)]
 fn next_sign(server: Server, raw: u8, signs: &mut BitIter<'_>) -> bool
     ensures now { result ≡ bit_here (is_numeric_number server raw) signs.old }
     ensures left { signs.new ≡ bits_after (is_numeric_number server raw) signs.old }
@@ -86,6 +88,7 @@ fn next_sign(server: Server, raw: u8, signs: &mut BitIter<'_>) -> bool
 }
 
 // Takes the name of the next column.
+#[inline(always)]
 #[tactic(auto, using(crate::proofs::ColumnWalk::named_later, crate::proofs::ColumnWalk::named_none))]
 fn next_name<'a>(names: &mut IterNames<'a>) -> Result<Option<ColumnName<'a>>, Fault>
     ensures now { result ≡ named (items lenenc_string names.old.bytes) 0 }
@@ -102,6 +105,7 @@ fn next_name<'a>(names: &mut IterNames<'a>) -> Result<Option<ColumnName<'a>>, Fa
 }
 
 // Takes the character set of the next column, by its type; 0 where it has none.
+#[inline(always)]
 fn next_charset(
     server: Server,
     column_type: ColumnType,
@@ -132,6 +136,7 @@ fn next_charset(
 }
 
 // Returns 1 for the type byte of JSON, and 0 for any other.
+#[inline(always)]
 fn json_columns(raw: u8) -> usize
     ensures { result ≡ if raw == column_number MYSQL_TYPE_JSON then 1 else 0 }
 {
@@ -143,6 +148,7 @@ fn json_columns(raw: u8) -> usize
 }
 
 // Takes the next column.
+#[inline(always)]
 #[tactic(auto, unfolding(crate::specs::ColumnsLeft::parts_left))]
 fn next_column<'a>(walk: &mut Walk<'a>) -> Result<TableColumn<'a>, Fault>
     requires room { HasRoom walk.old }
@@ -288,6 +294,7 @@ impl<'a> TableColumns<'a> {
     }
 
     /// Takes the next column, or its fault. This is `next`, with the count of the steps.
+    #[inline(always)]
     #[tactic(auto, using(crate::proofs::ColumnWalk::walk_next, crate::proofs::ColumnWalk::walk_fault, crate::proofs::ColumnWalk::walk_end))]
     pub fn take_column(&mut self) -> Option<Result<TableColumn<'a>, Fault>>
         ensures gives { YieldsFirstBy (λ r. result_map seen_column r) (λ s. s.columns)
@@ -305,6 +312,21 @@ impl<'a> TableColumns<'a> {
                 self.walk.types = &[];
                 Some(Err(e))
             }
+        }
+    }
+
+    /// Passes over the next column: takes it as `take_column` does, and tells of it only whether it
+    /// has a fault. That costs less than the column.
+    pub fn skip_column(&mut self) -> Option<Result<(), Fault>>
+        ensures gives { PassesFirst self.old.columns result self.new.columns }
+        ensures fault { self.new.fault ≡ self.old.fault }
+        ensures steps { self.old.steps + count_of result ≤ self.new.steps }
+        ensures most { self.new.most ≤ self.old.most + count_of result }
+    {
+        match self.take_column() {
+            None => None,
+            Some(Ok(_)) => Some(Ok(())),
+            Some(Err(e)) => Some(Err(e)),
         }
     }
 }

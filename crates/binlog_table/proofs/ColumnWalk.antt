@@ -1,28 +1,36 @@
 -- Column by column: what is left of the lists tells of the columns that are left what the definitions tell.
-use Rattle.std.proofs.Common.{◌≡◌, ℕ, zero, suc, ◌+◌, ◌<◌, Bool, true, false, cond, ◌&&◌, eqb, List, [], ◌∷◌, length, take, Option, Some, None, Result, Ok, Err, refl, sym, ap, subst, ◌∙◌, arith}
+use Rattle.std.proofs.Common.{◌≡◌, ℕ, zero, suc, ◌+◌, ◌<◌, Bool, true, false, cond, ◌&&◌, eqb, List, [], ◌∷◌, length, take, Option, Some, None, Result, Ok, Err, refl, sym, ap, subst, ◌∙◌, arith, option_map, option_and_then}
 use Rattle.std.specs.Prelude.{◌==◌, slice_get, slice_index_or}
 use Rattle.std.proofs.lemmas.List.Sums.{sum_by-cons}
 use Rattle.binlog_base.specs.declared.fault.Fault.{Fault}
 use Rattle.binlog_base.specs.declared.below.columns.column_type.ColumnType.{ColumnType}
+use Rattle.binlog_base.specs.declared.fault.Fault.TheVariants as fault
+use Rattle.binlog_base.specs.declared.below.columns.column_type.UnknownColumnType.{UnknownColumnType}
+use Rattle.binlog_base.specs.ColumnTypes.{column_types, column_type_of}
+use Rattle.binlog_base.specs.Format.{◌>>=◌}
+use Rattle.binlog_base.specs.Tables.{from_table}
 use Rattle.binlog_base.specs.Numbers.{lenenc}
 use Rattle.binlog_base.specs.Strings.{lenenc_string}
 use Rattle.binlog_base.specs.Items.{items}
 use Rattle.binlog_base.specs.declared.below.columns.server.Server.{Server}
-use Rattle.binlog_base.specs.Servers.{character_group, enum_or_set_group}
+use Rattle.binlog_base.specs.declared.below.columns.column_type.ColumnType.TheVariants as column
+use Rattle.binlog_base.specs.declared.below.columns.server.Server.TheVariants.{MySql, MariaDb}
+use Rattle.binlog_table.specs.RawTypes.{has_charset}
+use Rattle.binlog_base.specs.Servers.{character_group, enum_or_set_group, numeric_group}
 use Rattle.binlog_table.specs.Lists.{DefaultCharset}
 use Rattle.binlog_table.specs.declared.table_map.optional.columns.Walk.{Walk}
-use Rattle.binlog_table.specs.ColumnTypes.{json_count}
-use Rattle.binlog_table.specs.Fields.{Kept, is_numeric_number, numeric_count}
+use Rattle.binlog_table.specs.ColumnTypes.{json_count, raw_type_of, real_type_of, some_of, real_type}
+use Rattle.binlog_table.specs.Fields.{Kept, is_numeric_number, numeric_count, in_group}
 use Rattle.binlog_table.specs.CharsetsLeft.{CharsetsLeft, row_charset}
-use Rattle.binlog_table.specs.TableColumns.{Column, Parts, column_by, column_then, columns_by, named, is_numeric_at, sign_in, one_more, ordinal_of, charset_by, charset_of_group, type_at, column_at, unless_faulty, table_columns}
+use Rattle.binlog_table.specs.TableColumns.{Column, Parts, column_by, column_then, columns_by, named, is_numeric_at, sign_in, one_more, ordinal_of, charset_by, charset_of_group, type_at, column_at, unless_faulty, table_columns, typed}
 use Rattle.binlog_table.specs.Extracted.{IsStart, list_or, kept_of, field_fault}
-use Rattle.binlog_table.specs.ColumnsLeft.{parts_left, columns_left, Follows, Advances, bits_after_first, bit_here, bits_after, sign_left, type_left}
-use Rattle.binlog_table.specs.Chunks.{chunk_at, chunk_left}
+use Rattle.binlog_table.specs.ColumnsLeft.{chunks_of, parts_left, columns_left, Follows, Advances, bits_after_first, bit_here, bits_after, sign_left, type_left}
+use Rattle.binlog_table.specs.Chunks.{chunk_at, chunk_left, typed_chunk, after_typed, chunk, type_chunk, after_chunk}
 use Rattle.binlog_table.specs.TableMap.{TableMap}
 use Rattle.binlog_table.specs.Lists.{pair_with}
 use Rattle.binlog_table.specs.Keys.{key_items, key_at as key_in}
 use Rattle.binlog_table.specs.KeysLeft.{key_from}
-use Rattle.binlog_table.proofs.KeyByKey.{key_later, keys_of_table}
+use Rattle.binlog_table.proofs.KeyByKey.{key_later, keys_of_table, key_now}
 use Rattle.binlog_table.proofs.CharsetByCharset.{charsets_of_table}
 
 -- ---- columns by their parts
@@ -151,21 +159,131 @@ charset_start server c e d ed list elist s t sc se h j =
       group_start e ed elist se (ordinal_of (enum_or_set_group server) t j),
     ) refl
 
+-- ---- the column that comes next, by its raw type
+
+chunk_first : (raw : ℕ) (types : List ℕ) (m : Option (List ℕ)) (type : ColumnType) → column_type_of raw ≡ Ok type
+    → chunk_left (record { types = raw ∷ types; metadata = m }) 0 ≡ typed_chunk type m
+unfolding chunk
+chunk_first raw types None type h = refl
+chunk_first raw types (Some m) type h = rw h refl
+
+rest_of : (types : List ℕ) (r : Result (List ℕ × List ℕ) Fault) (i : ℕ) → option_and_then (λ m. chunk_at types m i) (after_chunk r Some) ≡ after_chunk r (λ m. chunk_at types m i)
+rest_of types (Ok r) i = refl
+rest_of types (Err e) i = refl
+
+chunk_later : (raw : ℕ) (types : List ℕ) (m : Option (List ℕ)) (type : ColumnType) (i : ℕ) → column_type_of raw ≡ Ok type
+    → chunk_left (record { types = types; metadata = after_typed type m }) i ≡ chunk_left (record { types = raw ∷ types; metadata = m }) (suc i)
+unfolding chunk
+chunk_later raw types None type i h = refl
+chunk_later raw types (Some m) type i h = rw h (rest_of types ((type_chunk type).parse m) i)
+
+-- the type of a number by a table of types, whatever holds a number that is refused
+by_row : (b : Bool) (t : ColumnType) (r : Result ColumnType UnknownColumnType) (s : Result ColumnType Fault) (chunk : Option (List ℕ))
+    → typed (real_type_of (some_of r) chunk) ≡ (s >>= λ x. typed (some_of (real_type x chunk)))
+    → typed (real_type_of (some_of (cond b (Ok t) r)) chunk) ≡ (cond b (Ok t) s >>= λ x. typed (some_of (real_type x chunk)))
+by_row true t r s chunk h = refl
+by_row false t r s chunk h = h
+
+by_table : (rows : List (ℕ × ColumnType)) (n : ℕ) (chunk : Option (List ℕ))
+    → typed (real_type_of (some_of (from_table rows (λ k. record { 0 = k }) n)) chunk) ≡ (from_table rows fault.UnknownColumnType n >>= λ x. typed (some_of (real_type x chunk)))
+by_table [] n chunk = refl
+by_table (row ∷ rows) n chunk = by_row (n == row.0) row.1 _ _ chunk (by_table rows n chunk)
+
+type_first : (raw : ℕ) (chunk : Option (List ℕ)) → typed (real_type_of (raw_type_of (Some raw)) chunk) ≡ (column_type_of raw >>= λ x. typed (some_of (real_type x chunk)))
+type_first raw chunk = by_table column_types raw chunk
+
+-- the metadata that is left
+abbrev pub metadata_of : Walk → Option (List ℕ)
+metadata_of v = option_map (λ m. m.now) v.metadata
+
+chunk_of_next : (v : Walk) (raw : ℕ) (types : List ℕ) (raw_type : ColumnType) → v.types.now ≡ raw ∷ types → column_type_of raw ≡ Ok raw_type
+    → chunk_left (chunks_of v) 0 ≡ typed_chunk raw_type (metadata_of v)
+chunk_of_next v raw types raw_type e known =
+    ap (λ (l : List ℕ). chunk_left (record { types = l; metadata = metadata_of v }) 0) e ∙ chunk_first raw types (metadata_of v) raw_type known
+
+type_of_next : (v : Walk) (raw : ℕ) (types : List ℕ) (raw_type : ColumnType) → v.types.now ≡ raw ∷ types → column_type_of raw ≡ Ok raw_type
+    → type_left v 0 ≡ typed (some_of (real_type raw_type (typed_chunk raw_type (metadata_of v))))
+type_of_next v raw types raw_type e known =
+    let chunk = chunk_of_next v raw types raw_type e known in
+    ap (λ (l : List ℕ). typed (real_type_of (raw_type_of (slice_get l 0)) (chunk_left (chunks_of v) 0))) e ∙
+    ap (λ (c : Option (List ℕ)). typed (real_type_of (raw_type_of (Some raw)) c)) chunk ∙
+    type_first raw (typed_chunk raw_type (metadata_of v)) ∙
+    ap (λ (r : Result ColumnType Fault). r >>= λ x. typed (some_of (real_type x (typed_chunk raw_type (metadata_of v))))) known
+
+numeric_known : (server : Server) (raw : ℕ) (raw_type : ColumnType) → column_type_of raw ≡ Ok raw_type → is_numeric_number server raw ≡ numeric_group server raw_type
+unfolding is_numeric_number
+numeric_known server raw raw_type known = ap (in_group (numeric_group server)) known
+
+-- the parts of the next column, by its raw type
+abbrev pub parts_of_next : Walk → ColumnType → Parts
+parts_of_next v raw_type =
+    let chunk = typed_chunk raw_type (metadata_of v) in
+    let type = typed (some_of (real_type raw_type chunk)) in
+    record {
+      type = λ _. type;
+      chunk = λ _. chunk;
+      sign = λ _. bit_here (numeric_group v.server raw_type) v.signs;
+      charset = λ _. charset_by v.server (row_charset v.characters) (row_charset v.enums) (λ _. type) 0;
+      name = λ _. named (items lenenc_string v.names.bytes) 0;
+      key = λ _. key_from v.column v.keys.keys v.column;
+      json_place = λ _. v.json_place;
+    }
+
+pub column_of_next : (v : Walk) (raw : ℕ) (types : List ℕ) (raw_type : ColumnType) → v.types.now ≡ raw ∷ types → column_type_of raw ≡ Ok raw_type
+    → column_by (parts_left v) 0 ≡ column_by (parts_of_next v raw_type) 0
+unfolding parts_left
+column_of_next v raw types raw_type e known =
+    let type = type_of_next v raw types raw_type e known in
+    column_is (parts_of_next v raw_type) (parts_left v) 0 0 type (chunk_of_next v raw types raw_type e known)
+    (rw (e, numeric_known v.server raw raw_type known) refl)
+    (ap (λ (r : Result ColumnType Fault). charset_by v.server (row_charset v.characters) (row_charset v.enums) (λ _. r) 0) type)
+    refl (key_now v.column v.keys.keys) (omega arith)
+
+-- ---- columns with no character set
+
+pub none_by_metadata : (raw : ColumnType) (chunk : Option (List ℕ)) (t : ColumnType) → real_type raw chunk ≡ Ok t → has_charset raw ≡ false → has_charset t ≡ false
+none_by_metadata column.MYSQL_TYPE_STRING chunk t h none = absurd cc
+none_by_metadata column.MYSQL_TYPE_DATE chunk t h none = let same : column.MYSQL_TYPE_NEWDATE ≡ t = cc in subst (λ (x : ColumnType). has_charset x ≡ false) same refl
+none_by_metadata raw chunk t h none = let same : raw ≡ t = cc in subst (λ (x : ColumnType). has_charset x ≡ false) same none
+
+pub no_character : (server : Server) (t : ColumnType) → has_charset t ≡ false → character_group server t ≡ false
+no_character server column.MYSQL_TYPE_STRING h = absurd cc
+no_character server column.MYSQL_TYPE_VAR_STRING h = absurd cc
+no_character server column.MYSQL_TYPE_VARCHAR h = absurd cc
+no_character server column.MYSQL_TYPE_BLOB h = absurd cc
+no_character server column.MYSQL_TYPE_GEOMETRY h = absurd cc
+no_character server column.MYSQL_TYPE_ENUM h = absurd cc
+no_character server column.MYSQL_TYPE_SET h = absurd cc
+no_character MySql t h = refl
+no_character MariaDb t h = refl
+
+pub no_choice : (server : Server) (t : ColumnType) → has_charset t ≡ false → enum_or_set_group server t ≡ false
+no_choice server column.MYSQL_TYPE_ENUM h = absurd cc
+no_choice server column.MYSQL_TYPE_SET h = absurd cc
+no_choice server t h = refl
+
 -- ---- a walk
 
-pub walk_follows : (v w : Walk) (raw : ℕ) (type : ColumnType) → w.server ≡ v.server → v.types.now ≡ raw ∷ w.types.now → type_left v 0 ≡ Ok type
-    → ((j : ℕ) → chunk_left w.chunks j ≡ chunk_left v.chunks (suc j)) → w.signs ≡ bits_after (is_numeric_number v.server raw) v.signs
+pub walk_follows : (v w : Walk) (raw : ℕ) (raw_type type : ColumnType) → w.server ≡ v.server → v.types.now ≡ raw ∷ w.types.now → column_type_of raw ≡ Ok raw_type
+    → typed (some_of (real_type raw_type (typed_chunk raw_type (metadata_of v)))) ≡ Ok type → metadata_of w ≡ after_typed raw_type (metadata_of v) → w.signs ≡ bits_after (numeric_group v.server raw_type) v.signs
     → Advances (character_group v.server type) (row_charset v.characters) (row_charset w.characters) → Advances (enum_or_set_group v.server type) (row_charset v.enums) (row_charset w.enums)
     → ((j : ℕ) → named (items lenenc_string w.names.bytes) j ≡ named (items lenenc_string v.names.bytes) (suc j))
     → w.column ≡ v.column + 1 → ((i : ℕ) → v.column < i → key_from (suc v.column) w.keys.keys i ≡ key_from v.column v.keys.keys i)
     → w.json_place ≡ v.json_place + cond (eqb raw 245) 1 0 → Follows (parts_left v) (parts_left w)
 unfolding parts_left
-walk_follows v w raw type server types first chunks signs characters enums names column keys json =
-    let types_later : (j : ℕ) → type_left w j ≡ type_left v (suc j) = λ j. rw (types, chunks j) refl in
+walk_follows v w raw raw_type type server types known real metadata signs characters enums names column keys json =
+    let first = type_of_next v raw w.types.now raw_type types known ∙ real in
+    let chunks : (j : ℕ) → chunk_left (chunks_of w) j ≡ chunk_left (chunks_of v) (suc j) = λ j.
+    ap (λ (m : Option (List ℕ)). chunk_left (record { types = w.types.now; metadata = m }) j) metadata ∙ chunk_later raw w.types.now (metadata_of v) raw_type j known ∙
+    ap (λ (l : List ℕ). chunk_left (record { types = l; metadata = metadata_of v }) (suc j)) (sym types) in
+    let types_later : (j : ℕ) → type_left w j ≡ type_left v (suc j) = λ j.
+    ap (λ (c : Option (List ℕ)). typed (real_type_of (raw_type_of (slice_get w.types.now j)) c)) (chunks j) ∙
+    ap (λ (l : List ℕ). typed (real_type_of (raw_type_of (slice_get l (suc j))) (chunk_left (chunks_of v) (suc j)))) (sym types) in
+    let bits = signs ∙ ap (λ (b : Bool). bits_after b v.signs) (sym (numeric_known v.server raw raw_type known)) in
     record {
       type = types_later;
       chunk = chunks;
-      sign = λ j. rw server (sign_later v.server raw w.types.now v.types.now v.signs w.signs types signs j);
+      sign = λ j. rw server (sign_later v.server raw w.types.now v.types.now v.signs w.signs types bits j);
       charset = λ j. rw server (charset_later v.server (row_charset v.characters) (row_charset v.enums) (row_charset w.characters) (row_charset w.enums) (type_left v) (type_left w) type first types_later characters enums j);
       name = names;
       key = λ j. rw column (key_later v.column v.keys.keys w.keys.keys keys j);
@@ -184,15 +302,15 @@ parts_with t k = record {
   json_place = λ i. json_count (take i t.types);
 }
 
-pub walk_start : (w : Walk) (t : TableMap) (k : Kept) → k ≡ kept_of t → w.server ≡ t.server → w.types.now ≡ t.types → w.chunks ≡ record { types = t.types; metadata = Some t.metadata } → w.signs ≡ list_or k.signs
+pub walk_start : (w : Walk) (t : TableMap) (k : Kept) → k ≡ kept_of t → w.server ≡ t.server → w.types.now ≡ t.types → option_map (λ m. m.now) w.metadata ≡ Some t.metadata → w.signs ≡ list_or k.signs
     → IsStart k.default k.charsets w.characters → IsStart k.enum_default k.enum_charsets w.enums → w.names ≡ record { bytes = list_or k.names; taken = 0 }
     → w.keys.keys ≡ key_items (items lenenc (list_or k.simple)) (items (pair_with lenenc) (list_or k.prefixed)) → w.column ≡ 0 → w.json_place ≡ 0
     → columns_left w ≡ columns_by (column_at t) (length t.types)
 unfolding columns_left parts_left column_at
-walk_start w t k is server types chunks signs characters enums names keys column json =
-    let types_same : (j : ℕ) → type_left w j ≡ type_at t j = λ j. rw (types, chunks) refl in
+walk_start w t k is server types metadata signs characters enums names keys column json =
+    let types_same : (j : ℕ) → type_left w j ≡ type_at t j = λ j. rw (types, metadata) refl in
     subst (λ (x : Kept). columns_by (column_by (parts_left w)) (length w.types.now) ≡ columns_by (column_by (parts_with t x)) (length t.types)) is
     (ap (λ (n : ℕ). columns_by (column_by (parts_left w)) n) (ap length types) ∙
-    columns_start (parts_with t k) (parts_left w) (length t.types) types_same (λ j. rw chunks refl) (λ j. rw (server, types, signs) (sign_law t.server t.types (list_or k.signs) j))
+    columns_start (parts_with t k) (parts_left w) (length t.types) types_same (λ j. rw (types, metadata) refl) (λ j. rw (server, types, signs) (sign_law t.server t.types (list_or k.signs) j))
     (λ j. rw server (charset_start t.server w.characters w.enums k.default k.enum_default k.charsets k.enum_charsets (type_left w) (type_at t) characters enums types_same j))
     (λ j. rw names refl) (λ j. rw (column, keys) (keys_of_table _ j)) (λ j. rw (json, types) (omega arith)))

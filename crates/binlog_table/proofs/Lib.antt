@@ -6,3 +6,4 @@ pub mod Strings
 pub mod CharsetByCharset
 pub mod ColumnWalk
 pub mod Bounds
+pub mod TypeTables

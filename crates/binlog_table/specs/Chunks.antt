@@ -101,3 +101,11 @@ pub record ChunksLeft : Type 0 where
 -- the chunk of the column that comes i columns after the next one
 abbrev pub chunk_left : ChunksLeft → ℕ → Option (List ℕ)
 chunk_left left i = option_and_then (λ metadata. chunk_at left.types metadata i) left.metadata
+
+-- the chunk of the next column, by its type and the metadata that is left
+abbrev pub typed_chunk : ColumnType → Option (List ℕ) → Option (List ℕ)
+typed_chunk type metadata = option_and_then (λ m. first_chunk ((type_chunk type).parse m)) metadata
+
+-- the metadata that is left after it
+abbrev pub after_typed : ColumnType → Option (List ℕ) → Option (List ℕ)
+after_typed type metadata = option_and_then (λ m. after_chunk ((type_chunk type).parse m) Some) metadata

@@ -9,7 +9,7 @@ use Rattle.binlog_base.specs.Items.{items}
 use Rattle.binlog_base.specs.Servers.{character_group, enum_or_set_group}
 use Rattle.binlog_table.specs.declared.table_map.optional.columns.Walk.{Walk}
 use Rattle.binlog_table.specs.declared.table_map.optional.columns.TableColumn.{TableColumn}
-use Rattle.binlog_table.specs.Chunks.{chunk_left}
+use Rattle.binlog_table.specs.Chunks.{ChunksLeft, chunk_left}
 use Rattle.binlog_table.specs.ColumnTypes.{raw_type_of, real_type_of, json_count}
 use Rattle.binlog_table.specs.Fields.{is_numeric_number}
 use Rattle.binlog_table.specs.KeysLeft.{key_left}
@@ -47,15 +47,19 @@ sign_left server [] bits j = false
 sign_left server (raw ∷ types) bits zero = bit_here (is_numeric_number server raw) bits
 sign_left server (raw ∷ types) bits (suc j) = sign_left server types (bits_after (is_numeric_number server raw) bits) j
 
+-- the type bytes and the metadata that are left
+abbrev pub chunks_of : Walk → ChunksLeft
+chunks_of w = record { types = w.types.now; metadata = option_map (λ m. m.now) w.metadata }
+
 -- the real type of the column that comes j columns after the next one
 abbrev pub type_left : Walk → ℕ → Result ColumnType Fault
-type_left w j = typed (real_type_of (raw_type_of (slice_get w.types.now j)) (chunk_left w.chunks j))
+type_left w j = typed (real_type_of (raw_type_of (slice_get w.types.now j)) (chunk_left (chunks_of w) j))
 
 -- the parts of the columns that are left, each by how many columns after the next one it comes
 unfoldable pub parts_left : Walk → Parts
 parts_left w = record {
   type = type_left w;
-  chunk = chunk_left w.chunks;
+  chunk = chunk_left (chunks_of w);
   sign = sign_left w.server w.types.now w.signs;
   charset = charset_by w.server (row_charset w.characters) (row_charset w.enums) (type_left w);
   name = named (items lenenc_string w.names.bytes);

@@ -3,6 +3,7 @@ pub mod TableMap
 pub mod TableMapWritten
 pub mod Chunks
 pub mod ColumnTypes
+pub mod RawTypes
 pub mod Lists
 pub mod Variants
 pub mod Fields

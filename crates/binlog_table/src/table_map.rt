@@ -5,6 +5,7 @@ mod column_chunks;
 mod event;
 mod metadata;
 pub mod optional;
+mod raw_type;
 mod strings;
 mod table_id;
 

@@ -4,8 +4,9 @@ mod write;
 
 use super::bad_column_type::BadColumnType;
 use super::column_chunks::ColumnChunks;
-use super::metadata::{column_chunk, is_numeric, real_type};
+use super::metadata::{column_chunk, real_type};
 use super::optional::OptionalMetadataIter;
+use super::raw_type::numeric_count;
 use super::table_id::TableId;
 use binlog_base::below::{
     BareBytes, ColumnType, EofBytes, IntRepr, LeU16, LenEnc, MyDeserialize, ParseBuf, RawBytes,
@@ -248,14 +249,8 @@ impl<'a> TableMapEvent<'a> {
         ensures { result ≡ fields_of self.now }
     {
         let server = self.server;
-        let numeric = self
-            .columns_type
-            .as_bytes()
-            .iter()
-            .filter(|raw| is_numeric(server, **raw))
-            .count();
         OptionalMetadataIter::new(
-            numeric,
+            numeric_count(server, self.columns_type.as_bytes()),
             self.columns_count as usize,
             self.optional_metadata.as_bytes(),
         )
@@ -311,6 +306,13 @@ impl<'a> TableMapEvent<'a> {
         ensures { result.now ≡ self.now.types }
     {
         self.columns_type.as_bytes()
+    }
+
+    // Returns the columns' metadata: the chunks of the columns, in order.
+    pub(crate) fn raw_metadata(&self) -> &[u8]
+        ensures { result.now ≡ self.now.metadata }
+    {
+        self.columns_metadata.as_bytes()
     }
 
     /// Returns a walk over the metadata of the columns, column by column from the first.

@@ -2,13 +2,13 @@
 
 ghost use Rattle.std.specs.Prelude.{◌≡◌, false, ℕ, List, Option, option_map, ◌<◌, length};
 ghost use Rattle.binlog_base.specs.Format.{ParsesAs};
-ghost use Rattle.binlog_table.specs.Chunks.{metadata_len, inner_metadata, array_chunk, chunk, chunk_at};
+ghost use Rattle.binlog_table.specs.Chunks.{metadata_len, inner_metadata, array_chunk, type_chunk, chunk, chunk_at, typed_chunk, after_typed};
 ghost use Rattle.binlog_table.specs.ColumnTypes.{string_type, real_type};
 ghost use Rattle.binlog_base.specs.ColumnTypes.{column_type_of};
-ghost use Rattle.binlog_table.specs.Fields.{is_numeric_number};
 
 use super::bad_column_type::BadColumnType;
-use binlog_base::below::{ColumnType, Constant, IntRepr, ParseBuf, Server, U8};
+use super::raw_type::{Chunk, RawType};
+use binlog_base::below::{ColumnType, Constant, IntRepr, ParseBuf, U8};
 use binlog_base::fault::Fault;
 
 // Returns how many bytes of metadata a column of this type has; 0 for TYPED_ARRAY, whose metadata
@@ -61,6 +61,47 @@ fn eat_array<'a>(buf: &mut ParseBuf<'a>) -> Result<&'a [u8], Fault>
     Ok(&whole[..1 + metadata.len()])
 }
 
+// Takes the chunk of metadata of a column of this type.
+#[inline(always)]
+#[tactic(auto, using(crate::proofs::TypeTables::empty_chunk, crate::proofs::TypeTables::one_byte, crate::proofs::TypeTables::two_bytes, crate::proofs::TypeTables::array))]
+fn eat_chunk_of<'a>(raw_type: RawType, buf: &mut ParseBuf<'a>) -> Result<&'a [u8], Fault>
+    ensures { ParsesAs (λ x. x.now) (type_chunk raw_type) result buf.old.0.now buf.new.0.now }
+{
+    match raw_type.chunk() {
+        Chunk::Empty => Ok(&[]),
+        Chunk::OneByte => buf.eat(1),
+        Chunk::TwoBytes => buf.eat(2),
+        Chunk::Array => eat_array(buf),
+    }
+}
+
+/// Takes the chunk of the next column, which is of this type, from the metadata that is left. `None`
+/// where it can't be read, and after a column whose chunk can't be read.
+#[inline(always)]
+#[tactic(auto, using(crate::proofs::TypeTables::empty_chunk))]
+pub(super) fn take_chunk<'a>(raw_type: RawType, metadata: &mut Option<&'a [u8]>) -> Option<&'a [u8]>
+    ensures chunk { option_map (λ c. c.now) result
+        ≡ typed_chunk raw_type (option_map (λ m. m.now) metadata.old) }
+    ensures left { option_map (λ m. m.now) metadata.new
+        ≡ after_typed raw_type (option_map (λ m. m.now) metadata.old) }
+{
+    let left = (*metadata)?;
+    if let Chunk::Empty = raw_type.chunk() {
+        return Some(&[]);
+    }
+    let mut buf = ParseBuf(left);
+    match eat_chunk_of(raw_type, &mut buf) {
+        Ok(chunk) => {
+            *metadata = Some(buf.0);
+            Some(chunk)
+        }
+        Err(_) => {
+            *metadata = None;
+            None
+        }
+    }
+}
+
 /// Takes the chunk of metadata of a column with this type byte. Fails with `UnexpectedEof` if the
 /// chunk is cut, with `UnknownColumnType` for an unknown type, also inside a TYPED_ARRAY, and with
 /// `Unhandled` for a TYPED_ARRAY of TYPED_ARRAY.
@@ -68,10 +109,7 @@ fn eat_array<'a>(buf: &mut ParseBuf<'a>) -> Result<&'a [u8], Fault>
 pub(super) fn eat_chunk<'a>(raw_type: u8, buf: &mut ParseBuf<'a>) -> Result<&'a [u8], Fault>
     ensures { ParsesAs (λ x. x.now) (chunk raw_type) result buf.old.0.now buf.new.0.now }
 {
-    match ColumnType::from_number(raw_type)? {
-        ColumnType::MYSQL_TYPE_TYPED_ARRAY => eat_array(buf),
-        column_type => buf.eat(metadata_len(column_type)),
-    }
+    eat_chunk_of(RawType::from_number(raw_type)?, buf)
 }
 
 /// Returns the chunk of column `index`, counted from 0, of columns with these type bytes and this
@@ -120,16 +158,5 @@ pub(super) fn real_type(
         ColumnType::MYSQL_TYPE_DATE => Ok(ColumnType::MYSQL_TYPE_NEWDATE),
         ColumnType::MYSQL_TYPE_STRING => string_type(chunk),
         _ => Ok(raw_type),
-    }
-}
-
-/// Returns whether a type byte is the number of a type that is numeric to the server.
-#[tactic(auto, unfolding(crate::specs::Fields::is_numeric_number))]
-pub(super) fn is_numeric(server: Server, raw: u8) -> bool
-    ensures { result ≡ is_numeric_number server raw }
-{
-    match ColumnType::from_number(raw) {
-        Ok(column_type) => server.is_numeric(column_type),
-        Err(_) => false,
     }
 }

@@ -1,15 +1,16 @@
 //! The columns of a table, in one walk over the lists that describe them.
 
-ghost use Rattle.std.specs.Prelude.{◌≡◌, ◌<◌, ◌≤◌, ◌+◌, ◌^◌, ℕ, suc, List, [], ◌∷◌, length, Some, None, Ok, Err, OnOk, IfOk, IfErr, ◌==◌, if◌then◌else◌};
+ghost use Rattle.std.specs.Prelude.{◌≡◌, false, ◌<◌, ◌≤◌, ◌+◌, ◌^◌, ℕ, suc, List, [], ◌∷◌, length, Some, None, Ok, Err, OnOk, IfOk, IfErr, ◌==◌, if◌then◌else◌};
 ghost use Rattle.std.specs.Option.{option_map};
 ghost use Rattle.std.specs.Iterator.{YieldsFirstBy, item_count};
 ghost use Rattle.binlog_base.specs.Items.{items, result_map};
 ghost use Rattle.binlog_base.specs.Strings.{lenenc_string};
 ghost use Rattle.binlog_base.specs.declared.below.columns.column_type.ColumnType.TheVariants.{MYSQL_TYPE_JSON};
 ghost use Rattle.binlog_base.specs.ColumnTypes.{column_number};
-ghost use Rattle.binlog_base.specs.Servers.{character_group, enum_or_set_group};
-ghost use Rattle.binlog_table.specs.ColumnTypes.{raw_type_of, real_type_of};
-ghost use Rattle.binlog_table.specs.Fields.{is_numeric_number, fields};
+ghost use Rattle.binlog_base.specs.Servers.{numeric_group, character_group, enum_or_set_group};
+ghost use Rattle.binlog_table.specs.ColumnTypes.{some_of, real_type};
+ghost use Rattle.binlog_table.specs.RawTypes.{has_charset};
+ghost use Rattle.binlog_table.specs.Fields.{fields};
 ghost use Rattle.binlog_table.specs.CharsetsLeft.{row_charset};
 ghost use Rattle.binlog_table.specs.TableColumns.{typed, named, column_by, columns_by, column_at, table_columns, PassesFirst};
 ghost use Rattle.binlog_table.specs.Extracted.{kept_of, kept_bytes, field_fault, fields_of};
@@ -22,8 +23,8 @@ use super::keys::IterPrimaryKey;
 use super::lists::IterNames;
 use super::names::ColumnName;
 use crate::table_map::TableMapEvent;
-use crate::table_map::column_chunks::ColumnChunks;
-use crate::table_map::metadata::{is_numeric, real_type};
+use crate::table_map::metadata::{real_type, take_chunk};
+use crate::table_map::raw_type::RawType;
 use binlog_base::below::{ColumnType, Server};
 use binlog_base::bits::BitIter;
 use binlog_base::fault::Fault;
@@ -53,7 +54,7 @@ pub struct TableColumn<'a> {
 struct Walk<'a> {
     server: Server,
     types: &'a [u8],
-    chunks: ColumnChunks<'a>,
+    metadata: Option<&'a [u8]>,
     signs: BitIter<'a>,
     characters: IterCharset<'a>,
     enums: IterCharset<'a>,
@@ -64,23 +65,27 @@ struct Walk<'a> {
     fields: u64,
 }
 
-// Returns the real type of a column, by its type byte and its chunk.
+// Returns the real type of a column, by its raw type and its chunk.
 #[inline(always)]
-fn type_of(raw: u8, chunk: Option<&[u8]>) -> Result<ColumnType, Fault>
-    ensures { result ≡ typed
-        (real_type_of (raw_type_of (Some raw)) (option_map (λ c. c.now) chunk.entry)) }
+#[tactic(auto, using(crate::proofs::ColumnWalk::none_by_metadata))]
+fn type_of(raw_type: RawType, chunk: Option<&[u8]>) -> Result<ColumnType, Fault>
+    ensures value { result
+        ≡ typed (some_of (real_type raw_type (option_map (λ c. c.now) chunk.entry))) }
+    ensures charset { IfOk result (λ t. has_charset raw_type ≡ false → has_charset t ≡ false) }
 {
-    let raw_type = ColumnType::try_from(raw)?;
-    Ok(real_type(raw_type, chunk)?)
+    if raw_type.is_real() {
+        return Ok(raw_type.column_type());
+    }
+    Ok(real_type(raw_type.column_type(), chunk)?)
 }
 
 // Returns whether the next column is unsigned. Only a numeric column takes a sign bit.
 #[inline(always)]
-fn next_sign(server: Server, raw: u8, signs: &mut BitIter<'_>) -> bool
-    ensures now { result ≡ bit_here (is_numeric_number server raw) signs.old }
-    ensures left { signs.new ≡ bits_after (is_numeric_number server raw) signs.old }
+fn next_sign(server: Server, raw_type: RawType, signs: &mut BitIter<'_>) -> bool
+    ensures now { result ≡ bit_here (numeric_group server raw_type) signs.old }
+    ensures left { signs.new ≡ bits_after (numeric_group server raw_type) signs.old }
 {
-    if is_numeric(server, raw) {
+    if raw_type.is_numeric(server) {
         signs.next().unwrap_or(false)
     } else {
         false
@@ -104,14 +109,17 @@ fn next_name<'a>(names: &mut IterNames<'a>) -> Result<Option<ColumnName<'a>>, Fa
     }
 }
 
-// Takes the character set of the next column, by its type; 0 where it has none.
+// Takes the character set of the next column, by its types; 0 where it has none.
 #[inline(always)]
+#[tactic(auto, using(crate::proofs::ColumnWalk::no_character, crate::proofs::ColumnWalk::no_choice))]
 fn next_charset(
     server: Server,
+    raw_type: RawType,
     column_type: ColumnType,
     characters: &mut IterCharset<'_>,
     enums: &mut IterCharset<'_>,
 ) -> Result<u16, Fault>
+    requires charset { has_charset raw_type ≡ false → has_charset column_type ≡ false }
     requires characters_left { characters.old.ordinal + 1 < 2 ^ 64 }
     requires enums_left { enums.old.ordinal + 1 < 2 ^ 64 }
     ensures now { result
@@ -126,7 +134,9 @@ fn next_charset(
         characters.new.taken characters.new.room }
     ensures enums_spent { Spends enums.old.taken enums.old.room enums.new.taken enums.new.room }
 {
-    if server.is_character(column_type) {
+    if !raw_type.has_charset() {
+        Ok(0)
+    } else if server.is_character(column_type) {
         characters.next_in_row()
     } else if server.is_enum_or_set(column_type) {
         enums.next_in_row()
@@ -165,11 +175,13 @@ fn next_column<'a>(walk: &mut Walk<'a>) -> Result<TableColumn<'a>, Fault>
     walk.types = types;
     let index = walk.column;
     walk.column += 1;
-    let metadata = walk.chunks.next_chunk();
-    let column_type = type_of(*raw, metadata)?;
-    let unsigned = next_sign(walk.server, *raw, &mut walk.signs);
+    let raw_type = RawType::from_number(*raw)?;
+    let metadata = take_chunk(raw_type, &mut walk.metadata);
+    let column_type = type_of(raw_type, metadata)?;
+    let unsigned = next_sign(walk.server, raw_type, &mut walk.signs);
     let charset = next_charset(
         walk.server,
+        raw_type,
         column_type,
         &mut walk.characters,
         &mut walk.enums,
@@ -207,7 +219,7 @@ fn walk_of<'a>(
     Walk {
         server: table.server(),
         types,
-        chunks: table.column_chunks(),
+        metadata: Some(table.raw_metadata()),
         signs: kept.iter_signedness(),
         characters: kept.iter_charset(),
         enums: kept.iter_enum_and_set_charset(),

@@ -4,7 +4,7 @@ use Rattle.binlog_table.proofs.table_map.optional.columns.walk_of.Goals as goal
 
 pub returns-clause-columns : goal.returns-clause-columns
 returns-clause-columns c = λ kept types.
-    walk_start _ c.args.table.now c.args.kept.now kept (search rules) types c.column_chunks.ensures c.iter_signedness.ensures c.iter_charset.ensures.start
+    walk_start _ c.args.table.now c.args.kept.now kept (search rules) types (search rules) c.iter_signedness.ensures c.iter_charset.ensures.start
     c.iter_enum_and_set_charset.ensures.start c.iter_column_name.ensures c.iter_primary_key.ensures.keys (search rules) (search rules)
 
 pub returns-clause-none : goal.returns-clause-none

@@ -241,6 +241,7 @@ impl<'a> IterCharset<'a> {
     }
 
     // Returns the character set of the next column of the group; `None` where it has none.
+    #[inline(always)]
     #[tactic(auto, using(crate::proofs::CharsetByCharset::taken_now, crate::proofs::CharsetByCharset::taken_later, crate::proofs::CharsetByCharset::passed_now, crate::proofs::CharsetByCharset::passed_later, crate::proofs::CharsetByCharset::pair_fault, crate::proofs::CharsetByCharset::list_fault, crate::proofs::CharsetByCharset::listed_now, crate::proofs::CharsetByCharset::listed_later))]
     fn turn(&mut self) -> Result<Option<u16>, Fault>
         requires { self.old.ordinal < u64.MAX }
@@ -278,6 +279,7 @@ impl<'a> IterCharset<'a> {
 
     // Returns the character set that the next column of the group has in a row: 0 where it has
     // none.
+    #[inline(always)]
     #[tactic(auto, using(crate::proofs::CharsetByCharset::row_now, crate::proofs::CharsetByCharset::row_later))]
     pub(crate) fn next_in_row(&mut self) -> Result<u16, Fault>
         requires { self.old.ordinal < u64.MAX }

@@ -1,11 +1,12 @@
 //! Reads the images of rows, by a plan that is made once for an event.
 
-ghost use Rattle.std.specs.Prelude.{◌≡◌, ◌≤◌, ◌<◌, ◌+◌, ◌^◌, ◌++◌, ◌∷◌, [], false, IfOk, IfErr, map, drop, length, slice_index_or};
+ghost use Rattle.std.specs.Prelude.{◌≡◌, ◌≤◌, ◌<◌, ◌+◌, ◌^◌, ◌++◌, ◌∷◌, [], false, IfOk, IfErr, OnOk, map, drop, length, slice_index_or};
 ghost use Rattle.std.specs.Option.{option_map};
 ghost use Rattle.binlog_base.specs.declared.fault.Fault.TheVariants as Fault;
 ghost use Rattle.binlog_base.specs.Format.{Parses, ParsesAs, OrMemory};
 ghost use Rattle.binlog_base.specs.Items.{result_map};
 ghost use Rattle.binlog_table.specs.ColumnsLeft.{seen_column};
+ghost use Rattle.binlog_table.specs.TableColumns.{passed};
 ghost use Rattle.mysql_binlog_rows.specs.Cells.{cell_of};
 ghost use Rattle.binlog_base.specs.Values.{column_flags_of};
 ghost use Rattle.mysql_binlog_rows.specs.Images.{default_name, row_flags};
@@ -155,6 +156,18 @@ fn next_column<'a>(walk: &mut TableColumns<'a>) -> Result<TableColumn<'a>, Fault
     }
 }
 
+// Passes over the next column of a table, or returns its fault; `NoColumnType` after the last column.
+#[inline(always)]
+fn pass_column(walk: &mut TableColumns<'_>) -> Result<(), Fault>
+    ensures column { result ≡ passed (first_column walk.old.columns) }
+    ensures rest { walk.new.columns ≡ after_first walk.old.columns }
+    ensures steps { OnOk result (walk.old.steps + 1 ≤ walk.new.steps) }
+    ensures grows { walk.old.steps ≤ walk.new.steps }
+    ensures most { walk.new.most ≤ walk.old.most + 1 }
+{
+    walk.skip_column().unwrap_or(Err(Fault::NoColumnType))
+}
+
 // Returns the index of a JSON column among the JSON columns of the table; `None` for any other
 // column.
 fn json_place_of(column: &TableColumn<'_>) -> Option<usize>
@@ -197,19 +210,22 @@ fn plan_columns(
     let mut walked = 0;
     let mut fault = None;
     for index in 0..present.len() {
-        match next_column(walk) {
-            Err(e) => {
-                fault = Some(e);
-                break;
-            }
-            Ok(column) => {
-                walked += 1;
-                if is_set(present, index) {
+        if is_set(present, index) {
+            match next_column(walk) {
+                Err(e) => {
+                    fault = Some(e);
+                    break;
+                }
+                Ok(column) => {
                     add_column(&mut columns, index, &column)?;
                     slots.push(slot_of(&column))?;
                 }
             }
+        } else if let Err(e) = pass_column(walk) {
+            fault = Some(e);
+            break;
         }
+        walked += 1;
     }
     Ok(Planned {
         slots,

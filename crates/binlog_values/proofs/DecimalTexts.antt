@@ -1,12 +1,13 @@
 -- The decimals of texts, and trimmed decimals.
-use Rattle.std.proofs.Common.{◌≡◌, ℕ, zero, suc, ◌+◌, ◌-◌, ◌<◌, ◌≤◌, Bool, true, false, cond, List, [], ◌∷◌, ◌++◌, length, take, drop, refl, sym, ap, subst, ◌∙◌, arith}
-use Rattle.std.specs.Prelude.{◌&&◌, ◌==◌, nat_lt, nat_le}
+use Rattle.std.proofs.Common.{◌≡◌, ℕ, zero, suc, ◌+◌, ◌-◌, ◌<◌, ◌≤◌, Bool, true, false, cond, List, [], ◌∷◌, ◌++◌, length, take, drop, Some, refl, sym, ap, ap₂, subst, ◌∙◌, arith}
+use Rattle.std.specs.Prelude.{◌&&◌, ◌==◌, not, nat_lt, nat_le}
 use Rattle.std.specs.List.{list_all, before_first, after_first}
 use Rattle.std.specs.Int.Digits.{AllBelowBase}
 use Rattle.std.proofs.lemmas.Bool.{ltb-true, leb-true}
-use Rattle.std.proofs.lemmas.List.{length-append, length-map}
+use Rattle.std.proofs.lemmas.List.{length-append, length-map, map-append}
+use Rattle.std.proofs.Math.Seq.{take-append_seam, drop-append_seam}
 use Rattle.binlog_values.specs.Decimals.{DecimalView, IsDecimal, integer_groups, without_zero_groups, trimmed_decimal, zero_decimal}
-use Rattle.binlog_values.specs.DecimalText.{is_digit, is_point, digits_of, are_digits, decimal_with, signed_decimal, decimal_of_text, without_leading_zeros, has_minus, without_sign}
+use Rattle.binlog_values.specs.DecimalText.{is_digit, is_zero, is_point, digits_of, are_digits, decimal_with, signed_decimal, decimal_of_text, without_leading_zeros, has_minus, without_sign}
 use Rattle.binlog_values.specs.Lemmas.PackedDecimals.{view_of}
 use Rattle.binlog_values.proofs.DecimalSteps.{below-drop}
 
@@ -39,6 +40,20 @@ digits-decimal negative before after integer fraction h is as_well =
       subst (AllBelowBase 10) (sym as_well) (below-digits_of after (all_back is_digit before after b.0)),
       omega (arith, some, length-append before after, ap length is, ap length as_well, length-map before (λ (c : ℕ). c - 48), length-map after (λ (c : ℕ). c - 48)),
     )
+
+-- digits in one list, those before the point first
+pub digits-cut : (before after digits : List ℕ) → digits ≡ digits_of (before ++ after) → (take (length before) digits ≡ digits_of before) × (drop (length before) digits ≡ digits_of after) × (length before ≤ length digits)
+digits-cut before after digits is =
+    let parts : digits ≡ digits_of before ++ digits_of after = is ∙ map-append (λ (c : ℕ). c - 48) before after in
+    let long : length (digits_of before) ≡ length before = length-map before (λ (c : ℕ). c - 48) in (
+      ap₂ (λ (n : ℕ) (l : List ℕ). take n l) (sym long) parts ∙ take-append_seam (digits_of before) (digits_of after),
+      ap₂ (λ (n : ℕ) (l : List ℕ). drop n l) (sym long) parts ∙ drop-append_seam (digits_of before) (digits_of after),
+      omega (arith, long, length-append (digits_of before) (digits_of after), ap length parts),
+    )
+
+pub decimal-is : (minus negative : Bool) (before after integer fraction : List ℕ) → are_digits before after ≡ true → negative ≡ (minus && not (list_all is_zero (before ++ after))) → integer ≡ digits_of before → fraction ≡ digits_of after
+    → decimal_with minus before after ≡ Some (record { negative = negative; integer = integer; fraction = fraction })
+decimal-is minus negative before after integer fraction h sign front back = rw (h, sign, front, back) refl
 
 pub text-is : (bytes text body before after : List ℕ) (minus : Bool) → text ≡ without_leading_zeros bytes → minus ≡ has_minus text → body ≡ without_sign text → before ≡ before_first is_point body → after ≡ after_first is_point body → decimal_with minus before after ≡ decimal_of_text bytes
 unfolding decimal_of_text

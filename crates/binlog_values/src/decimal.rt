@@ -1,6 +1,6 @@
 //! Decimal numbers of MySQL: the packed DECIMAL format and their text.
 
-ghost use Rattle.std.specs.Prelude.{◌≡◌, ◌≤◌, ◌+◌, ◌-◌, length, IfOk};
+ghost use Rattle.std.specs.Prelude.{◌≡◌, ◌≤◌, ◌+◌, ◌-◌, length, take, drop, IfOk};
 ghost use Rattle.binlog_values.specs.Decimals.{DecimalView, IsDecimal, packed_size, zero_decimal};
 
 mod group;
@@ -47,11 +47,12 @@ pub const POWERS_10: [Digit; 10] = [
 
 /// A decimal number: a sign, and the digits before and after the point, at least one digit in all.
 /// Zeros at the start and at the end are part of the value.
-#[derive(Debug, Drop)]
+#[derive(Drop)]
 pub struct Decimal {
     negative: bool,
-    integer: Vec<u8>,
-    fraction: Vec<u8>,
+    // How many of the digits are before the point.
+    before: usize,
+    digits: Vec<u8>,
 }
 
 impl Model for Decimal {
@@ -59,15 +60,16 @@ impl Model for Decimal {
 
     ghost view = { λ d. record {
       negative = d.negative;
-      integer = d.integer.items;
-      fraction = d.fraction.items;
+      integer = take d.before d.digits.items;
+      fraction = drop d.before d.digits.items;
     } };
 
     ghost invariant = { λ d.
-        IsDecimal (record {
+        (d.before ≤ length d.digits.items)
+        × IsDecimal (record {
           negative = d.negative;
-          integer = d.integer.items;
-          fraction = d.fraction.items;
+          integer = take d.before d.digits.items;
+          fraction = drop d.before d.digits.items;
         }) };
 }
 
@@ -77,11 +79,11 @@ impl Decimal {
     pub fn default(alloc: Global) -> Result<Decimal, AllocError>
         ensures { IfOk result (λ d. d ≡ zero_decimal) }
     {
-        let integer = vec![in alloc; 0u8]?;
+        let digits = vec![in alloc; 0u8]?;
         Ok(Decimal {
             negative: false,
-            integer,
-            fraction: Vec::new(alloc),
+            before: 1,
+            digits,
         })
     }
 
@@ -96,7 +98,7 @@ impl Decimal {
     pub fn bin_size(&self) -> usize
         ensures { result ≡ packed_size (length self.now.integer) (length self.now.fraction) }
     {
-        digits_size(self.integer.len()) + digits_size(self.fraction.len())
+        digits_size(self.before) + digits_size(self.digits.len() - self.before)
     }
 }
 

@@ -1,6 +1,6 @@
 //! Counts zeros among digits, and writes digits as text.
 
-ghost use Rattle.std.specs.Prelude.{◌≡◌, ◌≤◌, ◌+◌, ◌==◌, length, map};
+ghost use Rattle.std.specs.Prelude.{◌≡◌, ◌≤◌, ◌+◌, ◌-◌, ◌==◌, length, map};
 ghost use Rattle.std.specs.List.{flat_map, list_all, take_while};
 ghost use Rattle.std.specs.Fmt.{WritesOnOk, decimal};
 ghost use Rattle.std.specs.Int.Digits.{AllBelowBase};
@@ -33,6 +33,15 @@ pub(crate) fn make_characters(digits: &mut [u8])
 {
     for digit in digits.iter_mut() {
         *digit += b'0';
+    }
+}
+
+// Replaces each character by its digit.
+pub(crate) fn make_digits(characters: &mut [u8])
+    ensures { characters.new ≡ map (λ c. c - 48) characters.old }
+{
+    for character in characters.iter_mut() {
+        *character = character.saturating_sub(b'0');
     }
 }
 

@@ -67,12 +67,14 @@ impl<'a> Lent<'a> {
     pub fn to_decimal(&self, alloc: Global) -> Result<Decimal, AllocError>
         ensures { IfOk result (λ d. d ≡ self.now) }
     {
-        let integer = Vec::from_slice(alloc, self.integer)?;
-        let fraction = Vec::from_slice(alloc, self.fraction)?;
+        let before = self.integer.len();
+        let mut digits = Vec::with_capacity(alloc, before + self.fraction.len())?;
+        digits.extend_from_slice(self.integer)?;
+        digits.extend_from_slice(self.fraction)?;
         Ok(Decimal {
             negative: self.negative,
-            integer,
-            fraction,
+            before,
+            digits,
         })
     }
 }
@@ -82,10 +84,11 @@ impl Decimal {
     pub(super) fn lent(&self) -> Lent<'_>
         ensures { result ≡ self.now }
     {
+        let (integer, fraction) = self.digits.split_at(self.before);
         Lent {
             negative: self.negative,
-            integer: &self.integer,
-            fraction: &self.fraction,
+            integer,
+            fraction,
         }
     }
 }

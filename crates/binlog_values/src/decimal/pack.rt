@@ -129,11 +129,12 @@ impl Decimal {
         ensures digits { AreDigits result }
         ensures bytes { groups_left result ≡ packed_bytes self.now }
     {
+        let (integer, fraction) = self.digits.split_at(self.before);
         Groups {
             negative: self.negative,
             first: true,
-            integer: &self.integer,
-            fraction: &self.fraction,
+            integer,
+            fraction,
         }
     }
 

@@ -1,6 +1,6 @@
 //! Reads decimals from text.
 
-ghost use Rattle.std.specs.Prelude.{◌≡◌, ◌<◌, ◌++◌, length, IfOk, IfSome, Err};
+ghost use Rattle.std.specs.Prelude.{◌≡◌, ◌<◌, ◌++◌, ◌&&◌, not, length, IfOk, IfSome, Err};
 ghost use Rattle.std.specs.List.{list_all, before_first, after_first, position};
 ghost use Rattle.std.specs.Str.{IsUtf8, trim};
 ghost use Rattle.binlog_values.specs.declared.decimal.parse.ParseDecimalError.TheVariants as refusal;
@@ -8,7 +8,7 @@ ghost use Rattle.binlog_values.specs.DecimalText.{are_digits, decimal_of_text, d
 ghost use Rattle.binlog_values.specs.DecimalText.{ReadsText};
 
 use super::Decimal;
-use crate::digits::{all_zeros, leading_zeros};
+use crate::digits::{all_zeros, leading_zeros, make_digits};
 use std::alloc::{AllocError, Global};
 use thiserror::Error;
 
@@ -91,14 +91,22 @@ fn are_zeros(before: &[u8], after: &[u8]) -> bool
     all_zeros(before, b'0') && all_zeros(after, b'0')
 }
 
-// Returns the digits as numbers from 0 to 9.
-fn digits_of(alloc: Global, text: &[u8]) -> Result<Vec<u8>, AllocError>
-    ensures { IfOk result (λ digits. digits.items ≡ digits_of text.now) }
+// Returns whether a decimal with these digits before and after the point is negative: there is a
+// minus, and some digit isn't 0.
+fn keeps_minus(minus: bool, before: &[u8], after: &[u8]) -> bool
+    ensures { result ≡ (minus && not (list_all is_zero (before.now ++ after.now))) }
 {
-    let mut digits = Vec::with_capacity(alloc, text.len())?;
-    for byte in text {
-        digits.push(byte.saturating_sub(b'0'))?;
-    }
+    minus && !are_zeros(before, after)
+}
+
+// Returns the digits of both texts as numbers from 0 to 9.
+fn digits_of(alloc: Global, before: &[u8], after: &[u8]) -> Result<Vec<u8>, AllocError>
+    ensures { IfOk result (λ digits. digits.items ≡ digits_of (before.now ++ after.now)) }
+{
+    let mut digits = Vec::with_capacity(alloc, before.len() + after.len())?;
+    digits.extend_from_slice(before)?;
+    digits.extend_from_slice(after)?;
+    make_digits(digits.as_mut_slice());
     Ok(digits)
 }
 
@@ -115,13 +123,12 @@ fn decimal_with(
     if !are_digits(before, after) {
         return Err(ParseDecimalError::Invalid);
     }
-    let negative = minus && !are_zeros(before, after);
-    let integer = digits_of(alloc, before)?;
-    let fraction = digits_of(alloc, after)?;
+    let negative = keeps_minus(minus, before, after);
+    let digits = digits_of(alloc, before, after)?;
     Ok(Decimal {
         negative,
-        integer,
-        fraction,
+        before: before.len(),
+        digits,
     })
 }
 

@@ -56,3 +56,15 @@ impl fmt::Display for Decimal {
         self.lent().fmt(f)
     }
 }
+
+/// Shows the sign, and the digits before the point and after it as lists.
+impl fmt::Debug for Decimal {
+    fn fmt<W: fmt::Write>(&self, f: &mut fmt::Formatter<W>) -> fmt::Result {
+        let decimal = self.lent();
+        f.debug_struct("Decimal")
+            .field("negative", &decimal.negative)
+            .field("integer", &decimal.integer)
+            .field("fraction", &decimal.fraction)
+            .finish()
+    }
+}

@@ -158,3 +158,45 @@ unfolding packed_bytes
 ordered_as_numbers a b is other i f =
     masked_order a.negative b.negative (plain a) (plain b) (value_of a) (value_of b) (omega (arith, length-plain a, length-plain b, i, f)) (some-plain a is) (below-plain a) (below-plain b) (low-plain a is) (low-plain b other)
     (plain_order a b is other i f) (plain_order b a other is (sym i) (sym f))
+
+-- ---- decimals with the same counts of digits are compared by their digits
+
+-- the order of digits by their signs; a negative decimal has the greater digits first
+abbrev pub by_digits : Bool → List ℕ → Bool → List ℕ → Ordering
+by_digits false ds false es = order ds es
+by_digits true ds true es = order es ds
+by_digits true ds false es = Less
+by_digits false ds true es = Greater
+
+signed_as_digits : (p q : Bool) (m n : ℕ) (ds es : List ℕ) → nat_cmp m n ≡ order ds es → nat_cmp n m ≡ order es ds → by_digits p ds q es ≡ signed_order p m q n
+signed_as_digits false false m n ds es h k = sym h
+signed_as_digits true true m n ds es h k = sym k
+signed_as_digits true false m n ds es h k = refl
+signed_as_digits false true m n ds es h k = refl
+
+ordered_as_digits : (a b : DecimalView) → IsDecimal a → IsDecimal b → length a.integer ≡ length b.integer → length a.fraction ≡ length b.fraction
+    → by_digits a.negative (a.integer ++ a.fraction) b.negative (b.integer ++ b.fraction) ≡ slice_cmp nat_cmp (packed_bytes a) (packed_bytes b)
+ordered_as_digits a b is other i f =
+    let ds = a.integer ++ a.fraction in
+    let es = b.integer ++ b.fraction in
+    let long : length ds ≡ length es = omega (arith, length-append a.integer a.fraction, length-append b.integer b.fraction, i, f) in
+    let low = below-append 10 a.integer a.fraction is.0 is.1 in
+    let lower = below-append 10 b.integer b.fraction other.0 other.1 in
+    signed_as_digits a.negative b.negative (value_of a) (value_of b) ds es (digits_order 10 ds es long low lower) (digits_order 10 es ds (sym long) lower low)
+    ∙ sym (ordered_as_numbers a b is other i f)
+
+-- a decimal by its digits, of which so many are before the point
+abbrev cut : Bool → ℕ → List ℕ → DecimalView
+cut negative before digits = record { negative = negative; integer = take before digits; fraction = drop before digits }
+
+-- p and q are the signs; a and b are the decimals as contracts see them
+pub compared_by_digits : (p q s t : Bool) (m n : ℕ) (ds es : List ℕ) (a b : DecimalView) → cut s m ds ≡ a → cut t n es ≡ b → IsDecimal (cut s m ds) → IsDecimal (cut t n es)
+    → length a.integer ≡ length b.integer → length a.fraction ≡ length b.fraction → s ≡ p → t ≡ q
+    → by_digits p ds q es ≡ slice_cmp nat_cmp (packed_bytes a) (packed_bytes b)
+compared_by_digits p q s t m n ds es a b one two is other i f sign signs =
+    let before : length (take m ds) ≡ length (take n es) = ap (λ (d : DecimalView). length d.integer) one ∙ i ∙ sym (ap (λ (d : DecimalView). length d.integer) two) in
+    let after : length (drop m ds) ≡ length (drop n es) = ap (λ (d : DecimalView). length d.fraction) one ∙ f ∙ sym (ap (λ (d : DecimalView). length d.fraction) two) in
+    ap₂ (λ (x y : Bool). by_digits x ds y es) (sym sign) (sym signs)
+    ∙ ap₂ (λ (xs ys : List ℕ). by_digits s xs t ys) (sym (take-append-drop m ds)) (sym (take-append-drop n es))
+    ∙ ordered_as_digits (cut s m ds) (cut t n es) is other before after
+    ∙ ap₂ (λ (x y : DecimalView). slice_cmp nat_cmp (packed_bytes x) (packed_bytes y)) one two

@@ -1,6 +1,6 @@
 //! Compares decimals by their packed bytes.
 
-ghost use Rattle.std.specs.Prelude.{Some, refl};
+ghost use Rattle.std.specs.Prelude.{◌≡◌, length, Some, refl};
 ghost use Rattle.std.specs.Ordering.{nat_cmp};
 ghost use Rattle.std.specs.Cmp.{on_per, on_equiv, on_po, on_total, partial_equiv_from_equiv};
 ghost use Rattle.std.specs.Cmp.Lexicographic.{pointwise, slice_cmp, nat_list_eq_equiv, nat_list_cmp_total, texts_ties, texts_po};
@@ -19,6 +19,28 @@ impl PartialEq for Decimal {
 
     fn eq(&self, other: &Decimal) -> bool {
         self.cmp(other).is_eq()
+    }
+}
+
+impl Decimal {
+    // Compares decimals that have as many digits before the point, and as many after it: by their
+    // signs, and then by their digits.
+    fn cmp_digits(&self, other: &Decimal) -> Ordering
+        requires before { length self.now.integer ≡ length other.now.integer }
+        requires after { length self.now.fraction ≡ length other.now.fraction }
+        ensures { result ≡ slice_cmp nat_cmp (packed_bytes self.now) (packed_bytes other.now) }
+    {
+        if !self.negative {
+            if other.negative {
+                Ordering::Greater
+            } else {
+                self.digits.cmp(&other.digits)
+            }
+        } else if other.negative {
+            other.digits.cmp(&self.digits)
+        } else {
+            Ordering::Less
+        }
     }
 }
 
@@ -51,6 +73,9 @@ impl Ord for Decimal {
     ghost matches_eq = { λ x y. texts_ties (packed_bytes x) (packed_bytes y) };
 
     fn cmp(&self, other: &Decimal) -> Ordering {
+        if self.before == other.before && self.digits.len() == other.digits.len() {
+            return self.cmp_digits(other);
+        }
         self.packed_bytes().cmp(other.packed_bytes())
     }
 }

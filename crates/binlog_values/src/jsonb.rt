@@ -11,6 +11,7 @@ mod parse;
 mod scalar;
 mod stack;
 mod strings;
+mod text;
 mod types;
 mod value;
 

@@ -9,13 +9,13 @@ ghost use Rattle.binlog_values.specs.JsonbParsed.{is_simple};
 
 use super::dom::{JsonNumber, JsonScalar};
 use super::opaque::JsonOpaque;
+use super::text::text_of;
 use super::value::Value;
 use crate::decimal::Decimal;
 use crate::time::MysqlTime;
 use binlog_base::below::{ColumnType, ParseBuf};
 use binlog_base::fault::Fault;
 use byteorder::{ByteOrder, LittleEndian};
-use simdutf8::basic::from_utf8;
 use std::alloc::Global;
 
 // Returns the packed number in the first eight bytes.
@@ -61,9 +61,9 @@ fn opaque_scalar(alloc: Global, field_type: ColumnType, bytes: &[u8]) -> Result<
 fn string_scalar(alloc: Global, bytes: &[u8]) -> Result<JsonScalar, Fault>
     ensures { GivesScalar result (text_scalar bytes.now) }
 {
-    match from_utf8(bytes) {
-        Ok(text) => Ok(JsonScalar::String(String::from_str(alloc, text)?)),
-        Err(_) => Err(Fault::InvalidUtf8),
+    match text_of(bytes) {
+        Some(text) => Ok(JsonScalar::String(String::from_str(alloc, text)?)),
+        None => Err(Fault::InvalidUtf8),
     }
 }
 

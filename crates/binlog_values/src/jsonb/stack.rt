@@ -16,9 +16,9 @@ use super::container::{Container, Node};
 use super::dom::{JsonContainer, JsonDom};
 use super::parse::position_in_limit;
 use super::scalar::scalar_of;
+use super::text::text_of;
 use super::value::Value;
 use binlog_base::fault::Fault;
-use simdutf8::basic::from_utf8;
 use std::alloc::Global;
 use std::collections::BTreeMap;
 use std::mem;
@@ -32,9 +32,9 @@ fn key_text(alloc: Global, key: &[u8]) -> Result<String, Fault>
     ensures text { IfOk result (λ text. string_bytes text ≡ utf8_lossy key.now) }
     ensures memory { IfErr result (λ f. f ≡ Memory) }
 {
-    match from_utf8(key) {
-        Ok(text) => Ok(String::from_str(alloc, text)?),
-        Err(_) => Ok(String::from_utf8_lossy(alloc, key)?),
+    match text_of(key) {
+        Some(text) => Ok(String::from_str(alloc, text)?),
+        None => Ok(String::from_utf8_lossy(alloc, key)?),
     }
 }
 

@@ -57,8 +57,8 @@ impl Collected {
         }
     }
 
-    // Adds an entry.
-    #[inline(always)]
+    // Adds an entry. Not inlined, so that the map's insertion is inlined here.
+    #[inline(never)]
     fn add(&mut self, alloc: Global, key: &[u8], value: JsonDom) -> Result<(), Fault>
         ensures entry { OnOk result ((c : Frame) (front : Branches) (t : Tree)
             → IsCollected self.old c front

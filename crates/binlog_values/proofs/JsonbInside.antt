@@ -76,13 +76,6 @@ is_container type.JSONB_TYPE_SMALL_ARRAY = true
 is_container type.JSONB_TYPE_LARGE_ARRAY = true
 is_container _ = false
 
-pub not_container : (t : JsonbType) → (t ≡ type.JSONB_TYPE_SMALL_OBJECT → ⊥) → (t ≡ type.JSONB_TYPE_LARGE_OBJECT → ⊥) → (t ≡ type.JSONB_TYPE_SMALL_ARRAY → ⊥) → (t ≡ type.JSONB_TYPE_LARGE_ARRAY → ⊥) → is_container t ≡ false
-not_container type.JSONB_TYPE_SMALL_OBJECT a b c d = absurd (a refl)
-not_container type.JSONB_TYPE_LARGE_OBJECT a b c d = absurd (b refl)
-not_container type.JSONB_TYPE_SMALL_ARRAY a b c d = absurd (c refl)
-not_container type.JSONB_TYPE_LARGE_ARRAY a b c d = absurd (d refl)
-not_container _ a b c d = refl
-
 -- a value of any other type is a scalar
 pub value_is_scalar : (t : JsonbType) (x : List ℕ) (v : JsonbValue) (left : List ℕ) → is_container t ≡ false → (value t).parse x ≡ Ok (v, left) → IsScalar v
 unfolding value

@@ -1,20 +1,23 @@
 //! Containers of any kind, and what is read of their entries.
 
-ghost use Rattle.std.specs.Prelude.{◌≡◌, ◌≤◌, ◌<◌, length, IfOk, IfErr, MatchOption, Ok};
+ghost use Rattle.std.specs.Prelude.{◌≡◌, ◌≤◌, ◌<◌, length, IfOk, IfErr, Ok};
 ghost use Rattle.binlog_base.specs.Format.{ParsesAs};
 ghost use Rattle.binlog_base.specs.Items.{result_map};
-ghost use Rattle.binlog_values.specs.JsonbValues.{value, nested, element_at};
+ghost use Rattle.binlog_values.specs.JsonbValues.{scalar, literal_value, opaque_value, value, element_at};
 ghost use Rattle.binlog_values.specs.JsonbViews.{view_of};
 ghost use Rattle.binlog_values.specs.JsonbTrees.{entry_key};
 ghost use Rattle.binlog_values.specs.JsonbHeaders.{IsWhole};
-ghost use Rattle.binlog_values.specs.JsonbContainers.{frame, node_view, IsScalar, IsNode};
+ghost use Rattle.binlog_values.specs.JsonbContainers.{frame, lent_scalar, node_view};
 ghost use Rattle.binlog_values.specs.JsonbVisits.{IsEntryFault};
 
 use super::complex::Lent;
 use super::format::{Array, ComplexType, Large, Object, Small, StorageFormat};
-use super::types::JsonbType;
-use super::value::Value;
-use binlog_base::below::ParseBuf;
+use super::types::{JsonbType, LiteralType};
+use super::value::{Value, read_byte};
+use binlog_base::below::{
+    BytesRepr, ColumnType, Constant, IntRepr, LeI16, LeI32, LeI64, LeU16, LeU32, LeU64, ParseBuf,
+    VarLen,
+};
 use binlog_base::fault::Fault;
 
 // A container of one of the four kinds.
@@ -26,11 +29,48 @@ pub(super) enum Container<'a> {
     LargeObject(Lent<'a, Large, Object>),
 }
 
+// A scalar, over bytes that it borrows.
+#[derive(Clone, Copy)]
+pub(super) enum LentScalar<'a> {
+    Null,
+    Bool(bool),
+    I16(i16),
+    U16(u16),
+    I32(i32),
+    U32(u32),
+    I64(i64),
+    U64(u64),
+    F64(u64),
+    Text(&'a [u8]),
+    Opaque(ColumnType, &'a [u8]),
+}
+
 // The value of an entry.
 #[derive(Drop)]
 pub(super) enum Node<'a> {
     Container(Container<'a>),
-    Scalar(Value<'a>),
+    Scalar(LentScalar<'a>),
+}
+
+// Reads a literal.
+fn read_literal<'a>(buf: &mut ParseBuf<'a>) -> Result<LentScalar<'a>, Fault>
+    ensures { ParsesAs (λ s. scalar (lent_scalar s)) literal_value result buf.old.0.now buf.new.0.now }
+{
+    let number = read_byte(buf)?;
+    match LiteralType::try_from(number)? {
+        LiteralType::JSONB_NULL_LITERAL => Ok(LentScalar::Null),
+        LiteralType::JSONB_TRUE_LITERAL => Ok(LentScalar::Bool(true)),
+        LiteralType::JSONB_FALSE_LITERAL => Ok(LentScalar::Bool(false)),
+    }
+}
+
+// Reads an opaque value.
+fn read_opaque<'a>(buf: &mut ParseBuf<'a>) -> Result<LentScalar<'a>, Fault>
+    ensures { ParsesAs (λ s. scalar (lent_scalar s)) opaque_value result buf.old.0.now buf.new.0.now }
+{
+    let field_type = ColumnType::from_number(read_byte(buf)?)?;
+    let bytes = <VarLen as BytesRepr>::deserialize((), buf)?;
+    Ok(LentScalar::Opaque(field_type, bytes))
 }
 
 impl<'a> Node<'a> {
@@ -38,17 +78,63 @@ impl<'a> Node<'a> {
     #[tactic(auto, unfolding(crate::specs::JsonbValues::value))]
     #[inline(always)]
     fn read(value_type: JsonbType, buf: &mut ParseBuf<'a>) -> Result<Node<'a>, Fault>
-        ensures value { ParsesAs node_view (value value_type) result buf.old.0.now buf.new.0.now }
-        ensures node { IfOk result IsNode }
+        ensures { ParsesAs node_view (value value_type) result buf.old.0.now buf.new.0.now }
     {
-        let container = match value_type {
-            JsonbType::JSONB_TYPE_SMALL_ARRAY => Container::SmallArray(Lent::read(buf)?),
-            JsonbType::JSONB_TYPE_LARGE_ARRAY => Container::LargeArray(Lent::read(buf)?),
-            JsonbType::JSONB_TYPE_SMALL_OBJECT => Container::SmallObject(Lent::read(buf)?),
-            JsonbType::JSONB_TYPE_LARGE_OBJECT => Container::LargeObject(Lent::read(buf)?),
-            _ => return Ok(Node::Scalar(Value::read(value_type, buf)?)),
+        let value = match value_type {
+            JsonbType::JSONB_TYPE_SMALL_ARRAY => {
+                return Ok(Node::Container(Container::SmallArray(Lent::read(buf)?)));
+            }
+            JsonbType::JSONB_TYPE_LARGE_ARRAY => {
+                return Ok(Node::Container(Container::LargeArray(Lent::read(buf)?)));
+            }
+            JsonbType::JSONB_TYPE_SMALL_OBJECT => {
+                return Ok(Node::Container(Container::SmallObject(Lent::read(buf)?)));
+            }
+            JsonbType::JSONB_TYPE_LARGE_OBJECT => {
+                return Ok(Node::Container(Container::LargeObject(Lent::read(buf)?)));
+            }
+            JsonbType::JSONB_TYPE_LITERAL => read_literal(buf)?,
+            JsonbType::JSONB_TYPE_INT16 => LentScalar::I16(LeI16::deserialize(buf)?),
+            JsonbType::JSONB_TYPE_UINT16 => LentScalar::U16(LeU16::deserialize(buf)?),
+            JsonbType::JSONB_TYPE_INT32 => LentScalar::I32(LeI32::deserialize(buf)?),
+            JsonbType::JSONB_TYPE_UINT32 => LentScalar::U32(LeU32::deserialize(buf)?),
+            JsonbType::JSONB_TYPE_INT64 => LentScalar::I64(LeI64::deserialize(buf)?),
+            JsonbType::JSONB_TYPE_UINT64 => LentScalar::U64(LeU64::deserialize(buf)?),
+            JsonbType::JSONB_TYPE_DOUBLE => LentScalar::F64(LeU64::deserialize(buf)?),
+            JsonbType::JSONB_TYPE_STRING => {
+                LentScalar::Text(<VarLen as BytesRepr>::deserialize((), buf)?)
+            }
+            JsonbType::JSONB_TYPE_OPAQUE => read_opaque(buf)?,
         };
-        Ok(Node::Container(container))
+        Ok(Node::Scalar(value))
+    }
+
+    // Returns a value over its bytes.
+    pub fn of(value: &'a Value<'_>) -> Node<'a>
+        ensures { node_view result ≡ view_of value.entry.now }
+    {
+        let lent = match value {
+            Value::SmallArray(inner) => return Node::Container(Container::SmallArray(inner.lent())),
+            Value::LargeArray(inner) => return Node::Container(Container::LargeArray(inner.lent())),
+            Value::SmallObject(inner) => {
+                return Node::Container(Container::SmallObject(inner.lent()));
+            }
+            Value::LargeObject(inner) => {
+                return Node::Container(Container::LargeObject(inner.lent()));
+            }
+            Value::Null => LentScalar::Null,
+            Value::Bool(value) => LentScalar::Bool(*value),
+            Value::I16(number) => LentScalar::I16(*number),
+            Value::U16(number) => LentScalar::U16(*number),
+            Value::I32(number) => LentScalar::I32(*number),
+            Value::U32(number) => LentScalar::U32(*number),
+            Value::I64(number) => LentScalar::I64(*number),
+            Value::U64(number) => LentScalar::U64(*number),
+            Value::F64(bits) => LentScalar::F64(*bits),
+            Value::String(text) => LentScalar::Text(text.str_raw()),
+            Value::Opaque(value) => LentScalar::Opaque(value.value_type(), value.data_raw()),
+        };
+        Node::Scalar(lent)
     }
 }
 
@@ -69,8 +155,7 @@ impl<'a, T: StorageFormat, U: ComplexType> Lent<'a, T, U> {
     #[tactic(auto, unfolding(crate::specs::JsonbValues::element))]
     fn node(&self, pos: u32) -> Result<Node<'a>, Fault>
         requires { pos < self.now.count }
-        ensures value { result_map node_view result ≡ element_at self.now pos }
-        ensures node { IfOk result IsNode }
+        ensures { result_map node_view result ≡ element_at self.now pos }
     {
         let typed = self.typed_at(pos)?;
         Node::read(typed.value_type, &mut ParseBuf(typed.bytes))
@@ -81,7 +166,6 @@ impl<'a, T: StorageFormat, U: ComplexType> Lent<'a, T, U> {
         requires { pos < self.now.count }
         ensures key { IfOk result (λ e. entry_key self.now pos ≡ Ok e.0.now) }
         ensures value { IfOk result (λ e. element_at self.now pos ≡ Ok (node_view e.1)) }
-        ensures node { IfOk result (λ e. IsNode e.1) }
         ensures fault { IfErr result
             (λ f. IsEntryFault f (entry_key self.now pos) (element_at self.now pos)) }
     {
@@ -91,20 +175,6 @@ impl<'a, T: StorageFormat, U: ComplexType> Lent<'a, T, U> {
 }
 
 impl<'a> Container<'a> {
-    // Returns the container that a value is, over the value's bytes; `None` for a scalar.
-    pub fn of(value: &'a Value<'_>) -> Option<Container<'a>>
-        ensures { MatchOption result (IsScalar (view_of value.entry.now))
-            (λ c. view_of value.entry.now ≡ nested (frame c)) }
-    {
-        match value {
-            Value::SmallArray(container) => Some(Container::SmallArray(container.lent())),
-            Value::LargeArray(container) => Some(Container::LargeArray(container.lent())),
-            Value::SmallObject(container) => Some(Container::SmallObject(container.lent())),
-            Value::LargeObject(container) => Some(Container::LargeObject(container.lent())),
-            _ => None,
-        }
-    }
-
     pub fn is_array(&self) -> bool
         ensures { result ≡ (frame self.now).is_array }
     {
@@ -145,7 +215,6 @@ impl<'a> Container<'a> {
         requires { pos < (frame self.now).count }
         ensures key { IfOk result (λ e. entry_key (frame self.now) pos ≡ Ok e.0.now) }
         ensures value { IfOk result (λ e. element_at (frame self.now) pos ≡ Ok (node_view e.1)) }
-        ensures node { IfOk result (λ e. IsNode e.1) }
         ensures fault { IfErr result (λ f. IsEntryFault f (entry_key (frame self.now) pos)
             (element_at (frame self.now) pos)) }
     {

@@ -6,7 +6,7 @@ ghost use Rattle.binlog_values.specs.JsonbValues.{element_at};
 ghost use Rattle.binlog_values.specs.JsonbViews.{view_of};
 ghost use Rattle.binlog_values.specs.JsonbTrees.{entry_key};
 ghost use Rattle.binlog_values.specs.JsonbDocuments.{document_of, found};
-ghost use Rattle.binlog_values.specs.JsonbContainers.{frame, node_view, IsNode};
+ghost use Rattle.binlog_values.specs.JsonbContainers.{frame, node_view};
 ghost use Rattle.binlog_values.specs.JsonbVisits.{IsEntryFault};
 ghost use Rattle.binlog_values.specs.JsonbParsed.{Parsed};
 
@@ -29,7 +29,6 @@ fn position<'a>(
     ensures counted { counter.new ≡ counter.old + 1 }
     ensures key { IfOk result (λ e. entry_key (frame container.now) pos ≡ Ok e.0.now) }
     ensures value { IfOk result (λ e. element_at (frame container.now) pos ≡ Ok (node_view e.1)) }
-    ensures node { IfOk result (λ e. IsNode e.1) }
     ensures fault { IfErr result (λ f. IsEntryFault f (entry_key (frame container.now) pos)
         (element_at (frame container.now) pos)) }
 {
@@ -53,7 +52,6 @@ pub(super) fn position_in_limit<'a>(
     ensures found { result_map (λ e. e.0.now) result ≡ found limit counter.new
         (entry_key (frame container.now) pos) (document_of (element_at (frame container.now) pos)) }
     ensures value { IfOk result (λ e. element_at (frame container.now) pos ≡ Ok (node_view e.1)) }
-    ensures node { IfOk result (λ e. IsNode e.1) }
 {
     let entry = position(container, pos, counter)?;
     if *counter > limit {
@@ -67,12 +65,12 @@ fn read_value(alloc: Global, value: &Value<'_>, counter: &mut u64) -> Result<Jso
     requires { counter.old ≡ 0 }
     ensures { Parsed (view_of value.now) result counter.new }
 {
-    match Container::of(value) {
-        Some(root) => {
+    match Node::of(value) {
+        Node::Container(root) => {
             let limit = root.len() as u64 / 3;
             read_container(alloc, root, limit, counter)
         }
-        None => Ok(JsonDom::Scalar(scalar_of(alloc, value)?)),
+        Node::Scalar(scalar) => Ok(JsonDom::Scalar(scalar_of(alloc, scalar)?)),
     }
 }
 

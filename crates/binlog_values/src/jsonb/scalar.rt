@@ -1,16 +1,16 @@
 //! Scalars of a tree.
 
 ghost use Rattle.std.specs.Prelude.{◌≡◌, true, IsOk};
-ghost use Rattle.binlog_values.specs.JsonbViews.{view_of};
+ghost use Rattle.binlog_values.specs.JsonbValues.{scalar};
 ghost use Rattle.binlog_values.specs.JsonbTrees.{packed_number, opaque_scalar, text_scalar};
-ghost use Rattle.binlog_values.specs.JsonbContainers.{IsScalar};
+ghost use Rattle.binlog_values.specs.JsonbContainers.{lent_scalar};
 ghost use Rattle.binlog_values.specs.JsonbDoms.{GivesScalar, IsScalarOf};
 ghost use Rattle.binlog_values.specs.JsonbParsed.{is_simple};
 
+use super::container::LentScalar;
 use super::dom::{JsonNumber, JsonScalar};
 use super::opaque::JsonOpaque;
 use super::text::text_of;
-use super::value::Value;
 use crate::decimal::Decimal;
 use crate::time::MysqlTime;
 use binlog_base::below::{ColumnType, ParseBuf};
@@ -67,26 +67,24 @@ fn string_scalar(alloc: Global, bytes: &[u8]) -> Result<JsonScalar, Fault>
     }
 }
 
-// Returns the scalar that a value is in a tree.
+// Returns what a scalar is in a tree.
 #[tactic(auto, unfolding(crate::specs::JsonbTrees::tree_scalar))]
 #[inline(always)]
-pub(super) fn scalar_of(alloc: Global, value: &Value<'_>) -> Result<JsonScalar, Fault>
-    requires { IsScalar (view_of value.now) }
-    ensures scalar { IsScalarOf result (view_of value.now) }
-    ensures simple { is_simple (view_of value.now) ≡ true → IsOk result }
+pub(super) fn scalar_of(alloc: Global, value: LentScalar<'_>) -> Result<JsonScalar, Fault>
+    ensures scalar { IsScalarOf result (scalar (lent_scalar value.entry)) }
+    ensures simple { is_simple (scalar (lent_scalar value.entry)) ≡ true → IsOk result }
 {
     match value {
-        Value::Null => Ok(JsonScalar::Null),
-        Value::Bool(value) => Ok(JsonScalar::Boolean(*value)),
-        Value::I16(number) => Ok(JsonScalar::Number(JsonNumber::Int(i64::from(*number)))),
-        Value::U16(number) => Ok(JsonScalar::Number(JsonNumber::Uint(u64::from(*number)))),
-        Value::I32(number) => Ok(JsonScalar::Number(JsonNumber::Int(i64::from(*number)))),
-        Value::U32(number) => Ok(JsonScalar::Number(JsonNumber::Uint(u64::from(*number)))),
-        Value::I64(number) => Ok(JsonScalar::Number(JsonNumber::Int(*number))),
-        Value::U64(number) => Ok(JsonScalar::Number(JsonNumber::Uint(*number))),
-        Value::F64(bits) => Ok(JsonScalar::Number(JsonNumber::Double(*bits))),
-        Value::String(text) => string_scalar(alloc, text.str_raw()),
-        Value::Opaque(value) => opaque_scalar(alloc, value.value_type(), value.data_raw()),
-        _ => unreachable!(),
+        LentScalar::Null => Ok(JsonScalar::Null),
+        LentScalar::Bool(value) => Ok(JsonScalar::Boolean(value)),
+        LentScalar::I16(number) => Ok(JsonScalar::Number(JsonNumber::Int(i64::from(number)))),
+        LentScalar::U16(number) => Ok(JsonScalar::Number(JsonNumber::Uint(u64::from(number)))),
+        LentScalar::I32(number) => Ok(JsonScalar::Number(JsonNumber::Int(i64::from(number)))),
+        LentScalar::U32(number) => Ok(JsonScalar::Number(JsonNumber::Uint(u64::from(number)))),
+        LentScalar::I64(number) => Ok(JsonScalar::Number(JsonNumber::Int(number))),
+        LentScalar::U64(number) => Ok(JsonScalar::Number(JsonNumber::Uint(number))),
+        LentScalar::F64(bits) => Ok(JsonScalar::Number(JsonNumber::Double(bits))),
+        LentScalar::Text(text) => string_scalar(alloc, text),
+        LentScalar::Opaque(field_type, bytes) => opaque_scalar(alloc, field_type, bytes),
     }
 }

@@ -3,21 +3,19 @@
 ghost use Rattle.std.specs.Prelude.{◌≡◌, ◌<◌, ◌+◌, ◌^◌, ◌≤◌, ℕ, Ok, OnOk, IfOk, IfErr, string_bytes};
 ghost use Rattle.std.specs.Str.Lossy.{utf8_lossy};
 ghost use Rattle.binlog_base.specs.declared.fault.Fault.TheVariants.{Memory};
-ghost use Rattle.binlog_values.specs.JsonbValues.{Frame, nested};
+ghost use Rattle.binlog_values.specs.JsonbValues.{Frame, scalar, nested};
 ghost use Rattle.binlog_values.specs.JsonbTrees.{Tree, node, Branches, no_branches, branch};
 ghost use Rattle.binlog_values.specs.JsonbDocuments.{document_of};
-ghost use Rattle.binlog_values.specs.JsonbViews.{view_of};
-ghost use Rattle.binlog_values.specs.JsonbContainers.{frame, IsScalar};
+ghost use Rattle.binlog_values.specs.JsonbContainers.{frame, lent_scalar};
 ghost use Rattle.binlog_values.specs.JsonbVisits.{visit, append};
 ghost use Rattle.binlog_values.specs.JsonbDoms.{IsTree, Meets};
 ghost use Rattle.binlog_values.specs.JsonbStack.{IsOpen, IsCollected};
 
-use super::container::{Container, Node};
+use super::container::{Container, LentScalar, Node};
 use super::dom::{JsonContainer, JsonDom};
 use super::parse::position_in_limit;
 use super::scalar::scalar_of;
 use super::text::text_of;
-use super::value::Value;
 use binlog_base::fault::Fault;
 use std::alloc::Global;
 use std::collections::BTreeMap;
@@ -127,12 +125,11 @@ pub(super) struct Waiting<'a> {
 
 // Returns a scalar as a tree.
 #[inline(always)]
-fn scalar_dom(alloc: Global, scalar: Value<'_>) -> Result<JsonDom, Fault>
-    requires { IsScalar (view_of scalar) }
+fn scalar_dom(alloc: Global, value: LentScalar<'_>) -> Result<JsonDom, Fault>
     ensures { (limit levels n : ℕ) → Meets IsTree result n
-        (visit limit levels n (document_of (Ok (view_of scalar.entry)))) }
+        (visit limit levels n (document_of (Ok (scalar (lent_scalar value.entry))))) }
 {
-    Ok(JsonDom::Scalar(scalar_of(alloc, &scalar)?))
+    Ok(JsonDom::Scalar(scalar_of(alloc, value)?))
 }
 
 // Reads a container whole, with at most `limit` values; `counter` counts the positions that were

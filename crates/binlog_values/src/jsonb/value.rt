@@ -42,7 +42,7 @@ pub enum Value<'a> {
 }
 
 // Reads a byte.
-fn read_byte(buf: &mut ParseBuf<'_>) -> Result<u8, Fault>
+pub(super) fn read_byte(buf: &mut ParseBuf<'_>) -> Result<u8, Fault>
     ensures { ParsesAs (λ n. n) (little_endian 1) result buf.old.0.now buf.new.0.now }
 {
     <u8 as IntRepr>::deserialize(buf)

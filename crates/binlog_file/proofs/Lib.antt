@@ -2,6 +2,7 @@ pub mod Remainders
 pub mod CrcTables
 pub mod Words
 pub mod Reading
+pub mod TablesLeft
 pub mod Collected
 pub mod Rest
 pub mod Changed

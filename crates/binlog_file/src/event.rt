@@ -1,6 +1,6 @@
 //! The events of a file, and how one is read.
 
-ghost use Rattle.std.specs.Prelude.{◌≡◌, ◌-◌, ◌<◌, ◌++◌, ℕ, List, true, false, nat_eq, None, Some, Ok, Err, IfOk, IfErr, length, take, drop};
+ghost use Rattle.std.specs.Prelude.{◌≡◌, ◌↔◌, ◌-◌, ◌<◌, ◌++◌, ℕ, List, true, false, nat_eq, None, Some, Ok, Err, IfOk, IfErr, IfSome, IsTrue, length, take, drop};
 ghost use Rattle.std.specs.Option.{option_map};
 ghost use Rattle.binlog_base.specs.Format.{Parses, ParsesAs, ReadsAs, within, all_of, map_value, map_fault};
 ghost use Rattle.binlog_table.specs.TableMap.{table_map_of};
@@ -11,6 +11,7 @@ ghost use Rattle.binlog_file.specs.Crc32.{crc32};
 ghost use Rattle.binlog_file.specs.Events as Spec;
 ghost use Rattle.binlog_file.specs.Tables.{ends_statement, has_end_flag};
 ghost use Rattle.binlog_file.specs.Stored.{is_there};
+ghost use Rattle.binlog_file.specs.TableBodies.{ReadsTable};
 
 use crate::crc::crc32_of_both;
 use crate::description::FormatDescriptionEvent;
@@ -52,7 +53,7 @@ impl<'a> Raw<'a> {
         Raw { head, header, rest }
     }
 
-    fn header(&self) -> BinlogEventHeader
+    pub(crate) fn header(&self) -> BinlogEventHeader
         ensures { result ≡ self.now.header }
     {
         self.header
@@ -76,6 +77,13 @@ impl<'a> Raw<'a> {
         ensures { result ≡ Spec.is_description self.now }
     {
         self.header.event_type() == 0x0f
+    }
+
+    // Returns whether the event is a table map event.
+    pub(crate) fn is_table(&self) -> bool
+        ensures { IsTrue result ↔ (self.now.header.event_type ≡ 0x13) }
+    {
+        self.header.event_type() == 0x13
     }
 
     // Returns whether the event is neither a format description nor a table map event.
@@ -120,7 +128,7 @@ impl BinlogEventFooter {
 
 /// The body of an event, and what the event ends with.
 #[derive(Drop)]
-struct Parts<'a> {
+pub(crate) struct Parts<'a> {
     body: &'a [u8],
     footer: BinlogEventFooter,
 }
@@ -131,6 +139,15 @@ impl<'a> Model for Parts<'a> {
     ghost Value = { Spec.Parts };
 
     ghost view = { λ p. record { body = p.body.now; checksum = p.footer.checksum } };
+}
+
+impl<'a> Parts<'a> {
+    // Returns the body.
+    pub(crate) fn body(&self) -> &'a [u8]
+        ensures { result.now ≡ self.now.body }
+    {
+        self.body
+    }
 }
 
 // Takes n bytes of an event.
@@ -194,7 +211,7 @@ fn after(n: usize, bytes: &[u8]) -> &[u8]
 }
 
 // Returns whether the event ends with a checksum.
-fn has_checksum(in_force: &Option<FormatDescriptionEvent<'_>>, raw: &Raw<'_>) -> bool
+pub(crate) fn has_checksum(in_force: &Option<FormatDescriptionEvent<'_>>, raw: &Raw<'_>) -> bool
     ensures { result ≡ Spec.has_checksum in_force.now raw.now }
 {
     if raw.is_description() {
@@ -248,7 +265,7 @@ fn summed<'a>(raw: &Raw<'_>, found: u32, body: &'a [u8]) -> Result<Parts<'a>, Ev
 
 // Returns the body, and the checksum after it if there is one.
 #[tactic(auto, unfolding(crate::specs::Events::parts_of))]
-fn parts_of<'a>(has_checksum: bool, raw: &Raw<'a>) -> Result<Parts<'a>, EventError>
+pub(crate) fn parts_of<'a>(has_checksum: bool, raw: &Raw<'a>) -> Result<Parts<'a>, EventError>
     ensures { result ≡ Spec.parts_of has_checksum raw.now }
 {
     if !has_checksum {
@@ -276,10 +293,14 @@ pub struct Event<'a> {
     rows: Option<RowsEventCtx>,
     description: Option<FormatDescriptionEvent<'a>>,
     table: Option<TableMapEvent<'a>>,
+    // That of table map events, if the event is one, else 0.
+    post_header_len: u8,
 }
 
 impl<'a> Model for Event<'a> {
+    ghost use Rattle.std.specs.Prelude.{IfSome, Ok};
     ghost use Rattle.binlog_file.specs.Events as Spec;
+    ghost use Rattle.binlog_file.specs.TableBodies.{ReadsTable};
 
     ghost Value = { Spec.Event };
 
@@ -292,6 +313,9 @@ impl<'a> Model for Event<'a> {
       description = e.description;
       table = e.table;
     } };
+
+    ghost invariant = { λ e. IfSome e.table
+        (λ t. ReadsTable t.server e.post_header_len e.body.now (Ok t)) };
 }
 
 // Reads a format description event from all bytes of its body.
@@ -314,17 +338,18 @@ fn described<'a>(
         rows: None,
         description: Some(description),
         table: None,
+        post_header_len: 0,
     })
 }
 
 // Reads a server's table map event from all bytes of its body.
-fn read_table<'a>(
+pub(crate) fn read_table<'a>(
     server: Server,
     post_header_len: u8,
     body: &'a [u8],
 ) -> Result<TableMapEvent<'a>, EventError>
-    ensures { (x : List ℕ) → Parses
-        (map_fault (all_of body.now (table_map_of server post_header_len)) error.TableMap) result x x }
+    ensures reads { ReadsTable server post_header_len body.now result }
+    ensures server { IfOk result (λ t. t.server ≡ server) }
 {
     match TableMapEvent::deserialize(post_header_len, &mut ParseBuf(body)) {
         Ok(table) => Ok(table.with_server(server)),
@@ -345,11 +370,8 @@ fn with_table<'a>(
         (Spec.with_table position header parts.entry)) result x x }
 {
     let Parts { body, footer } = parts;
-    let table = read_table(
-        description.server(),
-        description.post_header_len(0x13),
-        body,
-    )?;
+    let post_header_len = description.post_header_len(0x13);
+    let table = read_table(description.server(), post_header_len, body)?;
     Ok(Event {
         position,
         header,
@@ -358,6 +380,7 @@ fn with_table<'a>(
         rows: None,
         description: None,
         table: Some(table),
+        post_header_len,
     })
 }
 
@@ -560,6 +583,7 @@ fn after_description<'a>(
             rows: rows_ctx(description, event_type),
             description: None,
             table: None,
+            post_header_len: 0,
         })
     } else {
         Err(EventError::NotSupported(event_type))
@@ -635,6 +659,13 @@ impl<'a> Event<'a> {
         ensures { option_map (λ t. t.now) result ≡ self.now.table }
     {
         self.table.as_ref()
+    }
+
+    // Returns the post-header length that the event was read by, if it is a table map event.
+    pub(crate) fn post_header_len(&self) -> u8
+        ensures { IfSome self.now.table (λ t. ReadsTable t.server result self.now.body (Ok t)) }
+    {
+        self.post_header_len
     }
 
     /// Returns the format description event that the event is, if it is one.

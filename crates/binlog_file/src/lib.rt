@@ -18,4 +18,5 @@ pub mod reader;
 pub mod source_changes;
 mod stored;
 pub mod tables;
+mod unread;
 mod version;

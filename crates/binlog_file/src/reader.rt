@@ -5,6 +5,8 @@ ghost use Rattle.std.specs.Option.{option_map};
 ghost use Rattle.std.specs.Io.KnownBytes.{Consumes, IsAtEnd};
 ghost use Rattle.binlog_file.specs.Events.{after, is_plain};
 ghost use Rattle.binlog_file.specs.Taken.{TakesRaw};
+ghost use Rattle.binlog_file.specs.TableBodies.{event_with};
+ghost use Rattle.std.specs.Rc.{rc_value};
 ghost use Rattle.binlog_file.specs.Stream as Spec;
 ghost use Rattle.binlog_file.specs.Readers.{kept_by, reading_of};
 ghost use Rattle.binlog_file.specs.Checkpoints.{checkpoint, checkpoint_of};
@@ -14,9 +16,11 @@ use crate::error::{EventError, FileError};
 use crate::event::{Event, Glance, PlainEvent, Raw, header_of, rest_len};
 use crate::stored::StoredEvents;
 use crate::tables::TableMaps;
+use crate::unread::UnreadTable;
 use binlog_base::below::{Failed, Source};
 use binlog_table::table_map::TableMapEvent;
 use std::alloc::{AllocError, Global};
+use std::rc::Rc;
 
 /// How many bytes are asked of a source at most.
 const PIECE: usize = 4096;
@@ -171,6 +175,23 @@ impl Kept {
         Ok(())
     }
 
+    // Takes what a table map event of these bytes says.
+    fn take_table(
+        &mut self,
+        event: &UnreadTable<'_>,
+        table: Rc<TableMapEvent<'static>>,
+        raw: &Raw<'_>,
+    ) -> Result<(), AllocError>
+        requires { event.now.header.event_type ≡ 0x13 }
+        ensures { OnOk result (kept_by self.new ≡ Spec.kept_after (kept_by self.old)
+            (raw.now.head ++ raw.now.rest) (event_with event.now (rc_value table.entry))) }
+    {
+        self.stored.take_table(self.tables.ended(), raw)?;
+        self.tables.take_table(table)?;
+        self.position = self.position.saturating_add(u64::from(event.event_size()));
+        Ok(())
+    }
+
     // Returns the bytes of a checkpoint.
     fn checkpoint(&self, alloc: Global) -> Result<Vec<u8>, AllocError>
         ensures { IfOk result (λ c. c.items ≡ checkpoint_of (kept_by self.now)) }
@@ -209,6 +230,18 @@ fn take_plain<'b>(kept: &mut Kept, raw: &Raw<'b>) -> Result<Glance<'b>, EventErr
     Ok(event.glance())
 }
 
+// Takes a table map event of these bytes, and returns a glance at it.
+fn take_table<'b>(alloc: Global, kept: &mut Kept, raw: &Raw<'b>) -> Result<Glance<'b>, EventError>
+    requires { raw.now.header.event_type ≡ 0x13 }
+    ensures { TakesRaw (kept_by kept.old) raw.now result (kept_by kept.new) }
+{
+    let in_force = lend(&kept.description);
+    let event = UnreadTable::of_raw(kept.position, &in_force, raw)?;
+    let table = event.table(alloc, &mut kept.tables)?;
+    kept.take_table(&event, table, raw)?;
+    Ok(event.glance())
+}
+
 // Takes an event of these bytes, and returns a glance at it.
 fn take_other<'b>(alloc: Global, kept: &mut Kept, raw: &Raw<'b>) -> Result<Glance<'b>, EventError>
     ensures { TakesRaw (kept_by kept.old) raw.now result (kept_by kept.new) }
@@ -225,6 +258,8 @@ fn take_glance<'b>(alloc: Global, kept: &mut Kept, raw: &Raw<'b>) -> Result<Glan
 {
     if raw.is_plain() {
         take_plain(kept, raw)
+    } else if raw.is_table() {
+        take_table(alloc, kept, raw)
     } else {
         take_other(alloc, kept, raw)
     }

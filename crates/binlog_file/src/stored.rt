@@ -157,6 +157,17 @@ impl StoredEvents {
         }
     }
 
+    // Stores a table map event of these bytes. `ended`: a statement ended with the event before.
+    pub(crate) fn take_table(&mut self, ended: bool, raw: &Raw<'_>) -> Result<(), AllocError>
+        ensures description { OnOk result (self.new.description ≡ self.old.description) }
+        ensures gtid { OnOk result (self.new.gtid ≡ self.old.gtid) }
+        ensures tables { OnOk result (self.new.tables ≡ (if ended then [] else self.old.tables)
+            ++ (raw.now.head ++ raw.now.rest)) }
+    {
+        give_up(&mut self.tables, ended);
+        append(&mut self.tables, raw)
+    }
+
     // Returns the table map events that the next event finds.
     fn tables_found(&self, ended: bool) -> &[u8]
         ensures { result.now ≡ (if ended then [] else self.now.tables) }

@@ -1,33 +1,104 @@
 //! The table map events in force.
 
-ghost use Rattle.std.specs.Prelude.{◌≡◌, ◌≤◌, ◌<◌, ℕ, false, None, OnOk, IfOk, IfSome};
+ghost use Rattle.std.specs.Prelude.{◌≡◌, ◌≤◌, ◌<◌, ◌⊎◌, ℕ, false, Ok, Err, None, OnOk, IfOk, IfErr, IfSome};
 ghost use Rattle.std.specs.Option.{option_map};
 ghost use Rattle.std.specs.BTreeMap.{btree_map_len};
 ghost use Rattle.std.specs.Rc.{rc_value};
+ghost use Rattle.binlog_file.specs.Stream.{IsOutside};
 ghost use Rattle.binlog_file.specs.Tables.{no_tables, with_table, found, given_up, ends_statement, in_force_after};
+ghost use Rattle.binlog_file.specs.TableBodies.{ReadsTable};
 ghost use Rattle.binlog_file.specs.TableMaps.{in_maps, held_by};
 
-use crate::event::{Event, PlainEvent};
+use crate::error::EventError;
+use crate::event::{Event, PlainEvent, read_table};
+use binlog_base::below::{Server, same_bytes};
 use binlog_table::table_map::TableMapEvent;
+use byteorder::{ByteOrder, LittleEndian};
 use std::alloc::{AllocError, Global};
 use std::collections::BTreeMap;
+use std::marker::Model;
 use std::rc::Rc;
 
 /// How many table map events are kept at most past the end of their statements.
 const MOST_KEPT: usize = 1024;
 
-/// How many bytes the bodies of the kept events have at most, unless there is one alone.
-const MOST_BYTES: usize = 1 << 22;
+/// How many bytes the kept events take at most: their bodies, and their parts, which are copies of
+/// as many bytes.
+const MOST_BYTES: usize = 1 << 20;
+
+/// How many bytes the body of an event has at most that is kept past the end of its statement.
+const MOST_BODY: usize = 1 << 16;
+
+/// A table map event, the bytes of its body, and what they were read by.
+#[derive(Drop)]
+struct KeptTable {
+    server: Server,
+    post_header_len: u8,
+    body: Vec<u8>,
+    table: Rc<TableMapEvent<'static>>,
+}
+
+impl Model for KeptTable {
+    ghost use Rattle.std.specs.Prelude.{Ok};
+    ghost use Rattle.std.specs.Rc.{rc_value};
+    ghost use Rattle.binlog_file.specs.TableBodies as Spec;
+
+    ghost Value = { Spec.KeptTable };
+
+    ghost view = { λ k. record {
+      server = k.server;
+      post_header_len = k.post_header_len;
+      body = k.body.items;
+      table = rc_value k.table;
+    } };
+
+    ghost invariant = { λ k. Spec.ReadsTable k.server k.post_header_len k.body.items
+        (Ok (rc_value k.table)) };
+}
+
+impl KeptTable {
+    // Returns the table map event, if it is that of a body: if that has the same bytes, and is read
+    // by the same layout.
+    fn shared(
+        &self,
+        server: Server,
+        post_header_len: u8,
+        body: &[u8],
+    ) -> Result<Option<Rc<TableMapEvent<'static>>>, AllocError>
+        ensures { IfOk result
+            (λ o. IfSome o (λ t. ReadsTable server post_header_len body.now (Ok (rc_value t)))) }
+    {
+        if self.server == server
+            && self.post_header_len == post_header_len
+            && same_bytes(&self.body, body)
+        {
+            Ok(Some(self.table.clone()?))
+        } else {
+            Ok(None)
+        }
+    }
+}
+
+// Returns the key under which the table map event of a body is kept: six bytes, which begin with
+// the table id.
+fn key_of(body: &[u8]) -> u64 {
+    if body.len() < 8 {
+        return 0;
+    }
+    LittleEndian::read_u64(body) & 0xffff_ffff_ffff
+}
 
 /// The table map events in force, one for each table id. They own their bytes.
 ///
-/// A server writes the same table map event again before each statement. So up to 1,024 of them, of
-/// 4 MiB together, are kept past the end of their statements, and one that comes again is not copied
-/// again.
+/// A server writes the same table map event again before each statement. So up to 1,024 of them are
+/// kept past the end of their statements, with their bodies, and one whose body comes again is
+/// neither read nor copied again. They take up to 1 MiB together, and none has a body above 64 KiB.
 #[derive(Drop)]
 pub struct TableMaps {
-    tables: BTreeMap<u64, Rc<TableMapEvent<'static>>>,
-    kept: BTreeMap<u64, Rc<TableMapEvent<'static>>>,
+    // Most statements change one table: theirs takes no node of a map.
+    first: Option<Rc<TableMapEvent<'static>>>,
+    others: BTreeMap<u64, Rc<TableMapEvent<'static>>>,
+    kept: BTreeMap<u64, KeptTable>,
     kept_bytes: usize,
     ended: bool,
 }
@@ -39,7 +110,8 @@ impl TableMaps {
         ensures ended { result.ended ≡ false }
     {
         TableMaps {
-            tables: BTreeMap::new(alloc),
+            first: None,
+            others: BTreeMap::new(alloc),
             kept: BTreeMap::new(alloc),
             kept_bytes: 0,
             ended: false,
@@ -50,7 +122,12 @@ impl TableMaps {
     pub fn get_tme(&self, table_id: u64) -> Option<&TableMapEvent<'static>>
         ensures { option_map (λ t. t.now) result ≡ in_maps self.now table_id }
     {
-        match self.tables.get(&table_id) {
+        if let Some(first) = &self.first {
+            if first.table_id() == table_id {
+                return Some(first.as_ref());
+            }
+        }
+        match self.others.get(&table_id) {
             Some(table) => Some(table.as_ref()),
             None => None,
         }
@@ -63,6 +140,15 @@ impl TableMaps {
         self.ended
     }
 
+    // Gives up all tables.
+    fn clear(&mut self)
+        ensures tables { (id : ℕ) → in_maps self.new id ≡ None }
+        ensures ended { self.new.ended ≡ self.old.ended }
+    {
+        self.first = None;
+        self.others.clear();
+    }
+
     // Gives up all tables if the event before was the last of its statement, or this one is a format
     // description event.
     fn give_up(&mut self, event: &Event<'_>)
@@ -71,7 +157,7 @@ impl TableMaps {
         ensures ended { self.new.ended ≡ ends_statement event.now }
     {
         if self.ended || event.description().is_some() {
-            self.tables.clear();
+            self.clear();
         }
         self.ended = event.ends_statement();
     }
@@ -85,76 +171,142 @@ impl TableMaps {
         ensures ended { self.new.ended ≡ ends_statement event.now }
     {
         if self.ended {
-            self.tables.clear();
+            self.clear();
         }
         self.ended = event.ends_statement();
     }
 
-    // Returns the kept table map event that is the same as this one.
+    // Puts a table map event in force, in place of one with the same table id.
+    fn put(&mut self, table: Rc<TableMapEvent<'static>>) -> Result<(), AllocError>
+        ensures tables { OnOk result ((id : ℕ) → in_maps self.new id
+            ≡ with_table (in_maps self.old) (rc_value table.entry) id) }
+        ensures ended { self.new.ended ≡ self.old.ended }
+    {
+        let table_id = table.table_id();
+        if let Some(first) = &self.first {
+            if first.table_id() != table_id {
+                self.others.insert(table_id, table)?;
+                return Ok(());
+            }
+        }
+        self.first = Some(table);
+        Ok(())
+    }
+
+    // Returns the kept table map event of a body.
     fn kept_as(
         &self,
-        table: &TableMapEvent<'_>,
+        server: Server,
+        post_header_len: u8,
+        body: &[u8],
     ) -> Result<Option<Rc<TableMapEvent<'static>>>, AllocError>
-        ensures { IfOk result (λ o. IfSome o (λ t. rc_value t ≡ table.now)) }
+        ensures { IfOk result
+            (λ o. IfSome o (λ t. ReadsTable server post_header_len body.now (Ok (rc_value t)))) }
     {
-        match self.kept.get(&table.table_id()) {
-            Some(kept) if kept.as_ref() == table => Ok(Some(kept.clone()?)),
-            _ => Ok(None),
+        match self.kept.get(&key_of(body)) {
+            Some(kept) => kept.shared(server, post_header_len, body),
+            None => Ok(None),
         }
     }
 
     // Gives up all kept events if there is no room for one more, of so many bytes.
-    fn make_room(&mut self, len: usize)
-        ensures tables { self.new.tables ≡ self.old.tables }
-        ensures ended { self.new.ended ≡ self.old.ended }
+    fn make_room(&mut self, size: usize)
+        ensures held { held_by self.new ≡ held_by self.old }
         ensures few { btree_map_len self.new.kept < MOST_KEPT }
     {
-        let sum = self.kept_bytes.saturating_add(len);
+        let sum = self.kept_bytes.saturating_add(size);
         if self.kept.len() >= MOST_KEPT || sum > MOST_BYTES {
             self.kept.clear();
-            self.kept_bytes = len;
+            self.kept_bytes = size;
         } else {
             self.kept_bytes = sum;
         }
     }
 
-    // Keeps a copy of a table map event of so many bytes, and returns it.
+    // Copies a table map event that is that of a body, and keeps the copy if the body isn't too
+    // long.
     fn keep(
         &mut self,
         alloc: Global,
+        server: Server,
+        post_header_len: u8,
+        body: &[u8],
         table: &TableMapEvent<'_>,
-        len: usize,
     ) -> Result<Rc<TableMapEvent<'static>>, AllocError>
-        ensures kept { IfOk result (λ t. rc_value t ≡ table.now) }
-        ensures tables { self.new.tables ≡ self.old.tables }
-        ensures ended { self.new.ended ≡ self.old.ended }
-        ensures few { btree_map_len self.new.kept ≤ MOST_KEPT }
-    {
-        self.make_room(len);
-        let copy = Rc::new(alloc, table.clone(alloc)?.into_owned(alloc)?)?;
-        self.kept.insert(table.table_id(), copy.clone()?)?;
-        Ok(copy)
-    }
-
-    // Holds a table map event of so many bytes in place of one with the same table id.
-    fn insert(
-        &mut self,
-        alloc: Global,
-        table: &TableMapEvent<'_>,
-        len: usize,
-    ) -> Result<(), AllocError>
-        ensures tables { OnOk result
-            ((id : ℕ) → in_maps self.new id ≡ with_table (in_maps self.old) table.now id) }
-        ensures ended { self.new.ended ≡ self.old.ended }
+        requires { ReadsTable server post_header_len body.now (Ok table.now) }
+        ensures copied { IfOk result (λ t. rc_value t ≡ table.now) }
+        ensures held { held_by self.new ≡ held_by self.old }
         ensures few { btree_map_len self.old.kept ≤ MOST_KEPT
             → btree_map_len self.new.kept ≤ MOST_KEPT }
     {
-        let shared = match self.kept_as(table)? {
-            Some(kept) => kept,
-            None => self.keep(alloc, table, len)?,
+        let copy = Rc::new(alloc, table.clone(alloc)?.into_owned(alloc)?)?;
+        if body.len() > MOST_BODY {
+            return Ok(copy);
+        }
+        let kept = KeptTable {
+            server,
+            post_header_len,
+            body: Vec::from_slice(alloc, body)?,
+            table: copy.clone()?,
         };
-        self.tables.insert(table.table_id(), shared)?;
-        Ok(())
+        self.make_room(2 * body.len());
+        self.kept.insert(key_of(body), kept)?;
+        Ok(copy)
+    }
+
+    // Returns the table map event of a body, a kept one where there is one.
+    pub(crate) fn table_of(
+        &mut self,
+        alloc: Global,
+        server: Server,
+        post_header_len: u8,
+        body: &[u8],
+    ) -> Result<Rc<TableMapEvent<'static>>, EventError>
+        ensures ok { IfOk result (λ t. ReadsTable server post_header_len body.now (Ok (rc_value t))) }
+        ensures err { IfErr result
+            (λ e. IsOutside e ⊎ ReadsTable server post_header_len body.now (Err e)) }
+        ensures held { held_by self.new ≡ held_by self.old }
+    {
+        if let Some(kept) = self.kept_as(server, post_header_len, body)? {
+            return Ok(kept);
+        }
+        let table = read_table(server, post_header_len, body)?;
+        Ok(self.keep(alloc, server, post_header_len, body, &table)?)
+    }
+
+    // Returns a table map event that is that of a body, a kept one where there is one.
+    fn shared(
+        &mut self,
+        alloc: Global,
+        post_header_len: u8,
+        body: &[u8],
+        table: &TableMapEvent<'_>,
+    ) -> Result<Rc<TableMapEvent<'static>>, AllocError>
+        requires { ReadsTable table.now.server post_header_len body.now (Ok table.now) }
+        ensures same { IfOk result (λ t. rc_value t ≡ table.now) }
+        ensures held { held_by self.new ≡ held_by self.old }
+        ensures few { btree_map_len self.old.kept ≤ MOST_KEPT
+            → btree_map_len self.new.kept ≤ MOST_KEPT }
+    {
+        let server = table.server();
+        match self.kept_as(server, post_header_len, body)? {
+            Some(kept) => Ok(kept),
+            None => self.keep(alloc, server, post_header_len, body, table),
+        }
+    }
+
+    // Takes a table map event that was not taken from an `Event`. All tables before it are given up
+    // if a statement ended with the event before.
+    pub(crate) fn take_table(&mut self, table: Rc<TableMapEvent<'static>>) -> Result<(), AllocError>
+        ensures tables { OnOk result ((id : ℕ) → in_maps self.new id
+            ≡ with_table (found (in_maps self.old) self.old.ended) (rc_value table.entry) id) }
+        ensures ended { self.new.ended ≡ false }
+    {
+        if self.ended {
+            self.clear();
+        }
+        self.ended = false;
+        self.put(table)
     }
 
     /// Takes what an event says of tables: a table map event is in force from then on. All tables
@@ -168,7 +320,10 @@ impl TableMaps {
         self.give_up(event);
         match event.table() {
             None => Ok(()),
-            Some(table) => self.insert(alloc, table, event.body().len()),
+            Some(table) => {
+                let shared = self.shared(alloc, event.post_header_len(), event.body(), table)?;
+                self.put(shared)
+            }
         }
     }
 }

@@ -1,0 +1,38 @@
+use Rattle.std.proofs.Common.{◌≡◌, ◌++◌, Option, Result, Ok, Err, sym, subst, ap, ◌∙◌, inl, inr}
+use Rattle.std.specs.Rc.{rc_value}
+use Rattle.std.specs.Result.{IsErrAnd}
+use Rattle.binlog_file.specs.declared.error.EventError.{EventError}
+use Rattle.binlog_file.specs.Description.{Description}
+use Rattle.binlog_file.specs.Events.{Raw, Glance, event_of_raw}
+use Rattle.binlog_file.specs.Tables.{InForce}
+use Rattle.binlog_file.specs.TableBodies.{event_with, LeavesTable}
+use Rattle.binlog_file.specs.Stream.{Kept, kept, kept_after}
+use Rattle.binlog_file.specs.Taken.{TakesRaw}
+use Rattle.binlog_file.specs.Readers.{kept_by}
+use Rattle.binlog_file.specs.TableMaps.{held_by}
+use Rattle.binlog_file.proofs.reader.take_table.Goals as goal
+
+-- an error that is handed on
+handed_on : (k l : Kept) (r : Raw) (result : Result Glance EventError) (e : EventError) → IsErrAnd result (λ d. d ≡ e) → TakesRaw k r (Err e) l → TakesRaw k r result l
+handed_on k l r (Ok g) e is h = absurd is
+handed_on k l r (Err d) e is h = subst (λ (x : EventError). TakesRaw k r (Err x) l) (sym is) h
+
+pub returns-in_err-table : goal.returns-in_err-table
+returns-in_err-table c =
+    let k = kept_by c.args.kept.now in
+    let e = c.in_err-table.field-0.0 in
+    let left = subst (λ (d : Option Description). LeavesTable (event_of_raw k.at d c.args.raw.now) (Ok c.in_ok-event.event)) c.lend-in_force.ensures c.in_ok-event.ensures.leaves in
+    let l = kept k.at k.description (held_by c.table.new.tables) k.stored in
+    handed_on k l c.args.raw.now c.from_residual-in_err-table.result e c.from_residual-in_err-table.ensures.1 (elim c.in_err-table.ensures.err [
+      | inl outside ↦ inl outside
+      | inr refused ↦ inr (left.1 e refused)
+    ])
+
+pub returns : goal.returns
+returns c =
+    let k = kept_by c.args.kept.now in
+    let u = c.in_ok-event.event in
+    let t = rc_value c.in_ok-table.table in
+    let left = subst (λ (d : Option Description). LeavesTable (event_of_raw k.at d c.args.raw.now) (Ok u)) c.lend-in_force.ensures c.in_ok-event.ensures.leaves in
+    let same = ap (λ (s : InForce). kept_after (kept k.at k.description s k.stored) (c.args.raw.now.head ++ c.args.raw.now.rest) (event_with u t)) c.table.ensures.held in
+    (event_with u t, c.glance.ensures t, left.0 t c.in_ok-table.ensures.ok, c.in_ok-take_table.ensures ∙ same)

@@ -8,6 +8,7 @@ pub mod Rest
 pub mod Changed
 pub mod Followed
 pub mod Held
+pub mod Filled
 pub mod RawRead
 pub mod EventRead
 pub mod Sized

@@ -1,6 +1,6 @@
 //! Reading events one at a time from a source of bytes.
 
-ghost use Rattle.std.specs.Prelude.{◌≡◌, ◌≤◌, ◌<◌, ◌++◌, ◌↔◌, ◌⊎◌, false, true, Ok, None, length, OnOk, IfOk, IfErr, IsErr, IsTrue};
+ghost use Rattle.std.specs.Prelude.{◌≡◌, ◌≤◌, ◌<◌, ◌+◌, ◌++◌, ◌↔◌, ◌⊎◌, ℕ, false, true, Ok, None, length, take, slice_range, OnOk, IfOk, IfErr, IsErr, IsTrue};
 ghost use Rattle.std.specs.Option.{option_map};
 ghost use Rattle.std.specs.Io.KnownBytes.{Consumes, IsAtEnd};
 ghost use Rattle.binlog_file.specs.Events.{after, is_plain};
@@ -28,9 +28,9 @@ const PIECE: usize = 4096;
 /// The bytes of an event that was read. It is used for one event after the other.
 #[derive(Drop)]
 pub struct EventBuffer {
+    // The bytes are at the start of each of them. What follows is left from longer events.
     head: Vec<u8>,
     rest: Vec<u8>,
-    piece: [u8; PIECE],
 }
 
 impl EventBuffer {
@@ -39,7 +39,6 @@ impl EventBuffer {
         EventBuffer {
             head: Vec::new(alloc),
             rest: Vec::new(alloc),
-            piece: [0; PIECE],
         }
     }
 
@@ -48,48 +47,79 @@ impl EventBuffer {
         ensures ok { IfOk result (λ x. Spec.Fills n (S.remaining source.old) (S.remaining source.new) x.now) }
         ensures err { IfErr result (λ e. Spec.IsOutside e) }
     {
-        fill(source, &mut self.piece, &mut self.head, n)?;
-        Ok(&self.head)
+        fill(source, &mut self.head, n)
     }
 }
 
-// Takes at most so many bytes of the source: none only if none are left.
-fn read_piece<'p, S: Source>(
+// Takes bytes of the source into the part between two indices, from its start on. Returns how many:
+// none only if none are left.
+fn read_between<S: Source>(
     source: &mut S,
-    piece: &'p mut [u8; PIECE],
-    most: usize,
-) -> Result<&'p [u8], Failed>
-    ensures taken { IfOk result (λ x. Consumes (S.remaining source.old) (S.remaining source.new) x.now) }
-    ensures fits { IfOk result (λ x. length x.now ≤ most) }
-    ensures ends { IfOk result (λ x. length x.now ≡ 0 → 0 < most → IsAtEnd (S.remaining source.new)) }
+    bytes: &mut [u8],
+    from: usize,
+    to: usize,
+) -> Result<usize, Failed>
+    requires order { from ≤ to }
+    requires within { to ≤ length bytes.old }
+    ensures fits { IfOk result (λ n. from + n ≤ to) }
+    ensures before { IfOk result (λ n. take from bytes.new ≡ take from bytes.old) }
+    ensures taken { IfOk result (λ n. Consumes (S.remaining source.old) (S.remaining source.new)
+        (slice_range bytes.new from (from + n))) }
+    ensures ends { IfOk result (λ n. n ≡ 0 → from < to → IsAtEnd (S.remaining source.new)) }
 {
-    let room = most.min(PIECE);
-    let n = source.read_some(&mut piece[..room])?;
-    Ok(&piece[..n])
+    source.read_some(&mut bytes[from..to])
 }
 
-// Takes n bytes of the source into a buffer, or all that are left if they are fewer. The buffer
-// grows as the bytes come, so it takes no memory for bytes that the source hasn't.
-fn fill<S: Source>(
-    source: &mut S,
-    piece: &mut [u8; PIECE],
-    buffer: &mut Vec<u8>,
-    n: usize,
-) -> Result<(), EventError>
-    ensures ok { OnOk result (Spec.Fills n (S.remaining source.old) (S.remaining source.new) buffer.new.items) }
-    ensures err { IfErr result (λ e. Spec.IsOutside e) }
+// Makes a buffer longer with zeros, if it is shorter.
+fn make_len(buffer: &mut Vec<u8>, len: usize) -> Result<(), AllocError>
+    ensures long { OnOk result (len ≤ length buffer.new.items) }
+    ensures front { OnOk result ((k : ℕ) → k ≤ length buffer.old.items
+        → take k buffer.new.items ≡ take k buffer.old.items) }
 {
-    buffer.clear();
-    let mut left = n;
-    while left > 0 {
-        let bytes = read_piece(source, piece, left)?;
-        if bytes.is_empty() {
-            return Ok(());
-        }
-        buffer.extend_from_slice(bytes)?;
-        left -= bytes.len();
+    if buffer.len() < len {
+        buffer.resize(len, 0)?;
     }
     Ok(())
+}
+
+// Takes n bytes of the source to the start of a buffer, or all that are left if they are fewer.
+// Returns how many. The buffer grows as the bytes come, so it takes no memory for bytes that the
+// source hasn't.
+fn fill_front<S: Source>(
+    source: &mut S,
+    buffer: &mut Vec<u8>,
+    n: usize,
+) -> Result<usize, EventError>
+    ensures ok { IfOk result (λ len. Spec.Fills n (S.remaining source.old) (S.remaining source.new)
+        (take len buffer.new.items)) }
+    ensures within { IfOk result (λ len. len ≤ length buffer.new.items) }
+    ensures err { IfErr result (λ e. Spec.IsOutside e) }
+{
+    let mut len = 0;
+    while len < n {
+        let to = len + (n - len).min(PIECE);
+        make_len(buffer, to)?;
+        let count = read_between(source, buffer, len, to)?;
+        if count == 0 {
+            return Ok(len);
+        }
+        len += count;
+    }
+    Ok(len)
+}
+
+// Takes n bytes of the source into a buffer, or all that are left if they are fewer, and returns
+// them.
+fn fill<'b, S: Source>(
+    source: &mut S,
+    buffer: &'b mut Vec<u8>,
+    n: usize,
+) -> Result<&'b [u8], EventError>
+    ensures ok { IfOk result (λ x. Spec.Fills n (S.remaining source.old) (S.remaining source.new) x.now) }
+    ensures err { IfErr result (λ e. Spec.IsOutside e) }
+{
+    let len = fill_front(source, buffer, n)?;
+    Ok(&buffer[..len])
 }
 
 // Takes the bytes of the next event; nothing if no bytes are left.
@@ -99,20 +129,20 @@ fn take_raw<'b, S: Source>(
 ) -> Result<Option<Raw<'b>>, EventError>
     ensures { Spec.RawGives (S.remaining source.old) result (S.remaining source.new) }
 {
-    fill(source, &mut buffer.piece, &mut buffer.head, 19)?;
-    if buffer.head.is_empty() {
+    let head = fill(source, &mut buffer.head, 19)?;
+    if head.is_empty() {
         return Ok(None);
     }
-    if buffer.head.len() < 19 {
-        return Err(EventError::Cut((19 - buffer.head.len()) as u64));
+    if head.len() < 19 {
+        return Err(EventError::Cut((19 - head.len()) as u64));
     }
-    let header = header_of(&buffer.head)?;
+    let header = header_of(head)?;
     let n = rest_len(&header)?;
-    fill(source, &mut buffer.piece, &mut buffer.rest, n)?;
-    if buffer.rest.len() < n {
-        return Err(EventError::Cut((n - buffer.rest.len()) as u64));
+    let rest = fill(source, &mut buffer.rest, n)?;
+    if rest.len() < n {
+        return Err(EventError::Cut((n - rest.len()) as u64));
     }
-    Ok(Some(Raw::new(&buffer.head, header, &buffer.rest)))
+    Ok(Some(Raw::new(head, header, rest)))
 }
 
 /// What a reader keeps between events.

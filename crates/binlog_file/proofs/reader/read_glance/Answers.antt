@@ -1,4 +1,4 @@
-use Rattle.std.proofs.Common.{Ok, Err, Some, Option, subst}
+use Rattle.std.proofs.Common.{Ok, Option, subst}
 use Rattle.binlog_file.specs.Events.{Raw}
 use Rattle.binlog_file.specs.Stream.{RawGives}
 use Rattle.binlog_file.specs.Readers.{kept_by}

@@ -1,4 +1,4 @@
-use Rattle.std.proofs.Common.{◌≡◌, ℕ, Option, Some, sym, ap, ◌∙◌}
+use Rattle.std.proofs.Common.{◌≡◌, Option, Some, sym, ap, ◌∙◌}
 use Rattle.std.specs.Rc.{rc_value}
 use Rattle.binlog_table.specs.TableMap.{TableMap}
 use Rattle.binlog_file.specs.Tables.{InForce, found}

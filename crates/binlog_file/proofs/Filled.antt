@@ -14,5 +14,5 @@ pub one_more_part : (first mid last : Option (List ℕ)) (from count : ℕ) (old
 one_more_part first mid last from count old new before same part =
     let end : from + ((from + count) - from) ≡ from + count = omega arith in
     let joined : take from old ++ slice_range new from (from + count) ≡ take (from + count) new =
-        ap (λ (l : List ℕ). l ++ slice_range new from (from + count)) (sym same) ∙ sym (take-add from ((from + count) - from) new) ∙ ap (λ (n : ℕ). take n new) end in
+    ap (λ (l : List ℕ). l ++ slice_range new from (from + count)) (sym same) ∙ sym (take-add from ((from + count) - from) new) ∙ ap (λ (n : ℕ). take n new) end in
     subst (Consumes first last) joined (Consumes-trans first mid last (take from old) (slice_range new from (from + count)) before part)

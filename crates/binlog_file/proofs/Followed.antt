@@ -5,9 +5,11 @@ use Rattle.binlog_file.specs.declared.error.EventError.{EventError}
 use Rattle.binlog_file.specs.declared.error.EventError.TheVariants as error
 use Rattle.binlog_file.specs.declared.error.FileError.{FileError}
 use Rattle.binlog_file.specs.Description.{Description}
-use Rattle.binlog_file.specs.Events.{Event, Place, NextGives, Shrinks, Steps, AreLeft, AreEvents, is_binlog, no_binlog}
+use Rattle.binlog_file.specs.Events.{Event, Glance, glance_of, origin_of, Place, NextGives, Shrinks, AreLeft, AreEvents, is_binlog, no_binlog}
 use Rattle.binlog_file.specs.Tables.{InForce, in_force_after, nothing_in_force}
-use Rattle.binlog_file.specs.Changes.{Wanted, Change, Given, EventGives, GoesOn, AreChanges, AreChangesOfFile, Spot, spot, first_spot, Left, Follows, IsMemory, ChangeGives, TakeGives, listed, at_position, count, most_left}
+use Rattle.binlog_file.specs.Glances.{GlanceSteps}
+use Rattle.mysql_binlog_rows.specs.declared.rows_event.event.RowsEventCtx.{RowsEventCtx}
+use Rattle.binlog_file.specs.Changes.{Wanted, Change, Given, nothing, Gives, EventGives, GoesOn, AreChanges, AreChangesOfFile, Spot, spot, first_spot, Left, Follows, IsMemory, ChangeGives, TakeGives, listed, at_position, count, most_left}
 use Rattle.binlog_file.proofs.Rest.{rest_of}
 
 goes_on : (Later : List Change → Type 0) (at : ℕ) (c : Option Change) (err : Option EventError) (cs : List Change) (out : Option FileError) → err ≡ None → Later cs → GoesOn Later at c err (listed c ++ cs) out
@@ -98,16 +100,31 @@ lessened : (p q : Place) (item : Result Event FileError) (s : InForce) (new : Sp
 lessened p q (Ok e) s new h same = omega (arith, h, ap (λ (r : Place). length r.left) same, count_most new.pending)
 lessened p q (Err e) s new h same = omega (arith, h.0, ap length h.1, ap (λ (r : Place). length r.left) same, count_most new.pending)
 
--- an item of the events is taken
-pub onward : (O : EventError → Type 0) (w : Wanted) (old here : Spot) (p q : Place) (s : InForce) (pending : Option FileError) (item : Result Event FileError) (c : Option Change) (new : Spot)
-    → TakeGives O w old None here → spot p s pending ≡ here → pending ≡ None → Steps p (Some item) q
-    → ((r : Place) → NextGives r (Some item) q → TakeGives O w (spot r s None) c new) → new.place ≡ q
-    → TakeGives O w old c new × (most_left new < most_left here)
-onward O w old here p q s pending item c new first same none steps takes kept =
+-- an event that holds no rows
+pub nothing_taken : (O : EventError → Type 0) (w : Wanted) (s t : InForce) (p q r : Place) (g : Glance) (e : Event) (c : Option Change) (pending : Option FileError) → g ≡ glance_of e → g.rows ≡ None → NextGives p (Some (Ok e)) q
+    → t ≡ in_force_after s e → c ≡ None → pending ≡ None → (pending ≡ None → r ≡ q) → TakeGives O w (spot p s None) c (spot r t pending)
+nothing_taken O w s t p q r g e c pending is none gives kept no_change no_error on =
+    let no_rows : e.rows ≡ None = ap (λ (x : Glance). x.rows) (sym is) ∙ none in
+    let here : EventGives w (in_force_after s e).tables e nothing = subst (λ (o : Option RowsEventCtx). Gives w (in_force_after s e).tables (origin_of e) o e.body nothing) (sym no_rows) refl in
+    event_taken O w s t p q r e nothing c pending gives here kept no_change no_error on
+
+-- a glance at an event is taken, or the error in place of it
+pub glance_onward : (w : Wanted) (old here : Spot) (p q : Place) (s t : InForce) (pending : Option FileError) (item : Result Glance FileError) (c : Option Change) (new : Spot)
+    → TakeGives IsMemory w old None here → spot p s pending ≡ here → pending ≡ None → GlanceSteps p s (Some item) q t
+    → ((r : Place) (u : InForce) → GlanceSteps r u (Some item) q t → TakeGives IsMemory w (spot r u None) c new) → new.place ≡ q
+    → TakeGives IsMemory w old c new × (most_left new < most_left here)
+glance_onward w old here p q s t pending item c new first same none steps takes kept =
     let is : here ≡ spot p s None = sym same ∙ ap (spot p s) none in (
-      step_on O w old p s c new (subst (λ (h : Spot). TakeGives O w old None h) is first) (takes p steps.gives),
-      subst (λ (h : Spot). most_left new < most_left h) (sym is) (lessened p q item s new steps.shrinks kept),
+      step_on IsMemory w old p s c new (subst (λ (h : Spot). TakeGives IsMemory w old None h) is first) (takes p s steps),
+      subst (λ (h : Spot). most_left new < most_left h) (sym is) (fewer item steps),
     )
+  where
+    fewer : (i : Result Glance FileError) → GlanceSteps p s (Some i) q t → most_left new < most_left (spot p s None)
+    fewer (Ok g) h = lessened p q (Ok h.0) s new h.2.shrinks kept
+    fewer (Err e) h = elim h [
+      | inl steps ↦ lessened p q (Err e) s new steps.shrinks kept
+      | inr memory ↦ omega (arith, memory.1, ap length memory.2, ap (λ (r : Place). length r.left) kept, count_most new.pending)
+    ]
 
 pub change_given : (O : EventError → Type 0) (w : Wanted) (old : Spot) (c : Change) (new : Spot) → TakeGives O w old (Some c) new → Follows w old (c ∷ []) new
 change_given O w old c new h = elim h [ inl f ↦ f | inr m ↦ absurd cc ]

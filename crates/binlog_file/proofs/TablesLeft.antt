@@ -3,6 +3,7 @@ use Rattle.std.proofs.Common.{◌≡◌, ℕ, List, [], Ok, sym, ap, ◌∙◌}
 use Rattle.binlog_base.specs.declared.below.columns.server.Server.{Server}
 use Rattle.binlog_table.specs.TableMap.{TableMap}
 use Rattle.binlog_file.specs.TableBodies.{ReadsTable}
+use Rattle.binlog_file.specs.Tables.{InForce}
 
 pub same_table : (server : Server) (n : ℕ) (body : List ℕ) (t u : TableMap) → ReadsTable server n body (Ok t) → ReadsTable server n body (Ok u) → t ≡ u
 same_table server n body t u p q =
@@ -11,3 +12,7 @@ same_table server n body t u p q =
     let second : TableMap × List ℕ = (u, []) in
     let pairs : first ≡ second = cc in
     ap (λ (r : TableMap × List ℕ). r.0) pairs
+
+-- the same tables are in force
+pub held_as : (a b : InForce) → ((id : ℕ) → a.tables id ≡ b.tables id) → a.ended ≡ b.ended → a ≡ b
+held_as a b same ended = λ i. record { tables = λ id. same id i; ended = ended i }

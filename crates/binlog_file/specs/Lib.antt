@@ -9,6 +9,7 @@ pub mod Tables
 pub mod TableBodies
 pub mod TableMaps
 pub mod Changes
+pub mod Glances
 pub mod Walks
 pub mod Stream
 pub mod Readers

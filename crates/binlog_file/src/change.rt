@@ -8,7 +8,7 @@ ghost use Rattle.binlog_file.specs.Changes as Spec;
 
 use crate::choice::Choice;
 use crate::error::EventError;
-use crate::event::{Event, Glance};
+use crate::event::Glance;
 use crate::origin::Origin;
 use crate::plans::KeptPlans;
 use crate::tables::TableMaps;
@@ -268,26 +268,5 @@ pub(crate) fn glance_gives<'a, C: Choice>(
             ctx,
             glance.body,
         ),
-    }
-}
-
-/// Returns what an event gives.
-pub(crate) fn event_gives<'a, C: Choice>(
-    alloc: Global,
-    choice: &C,
-    plans: &mut KeptPlans,
-    tables: &TableMaps,
-    event: &Event<'a>,
-) -> Result<Given<'a>, Fault>
-    ensures given { IfOk result
-        (λ g. Spec.EventGives (C.wanted choice.now) (in_maps tables.now) event.now g) }
-    ensures err { IfErr result (λ e. e ≡ Fault.Memory) }
-{
-    match event.rows_ctx() {
-        None => Ok(nothing()),
-        Some(ctx) => {
-            let (origin, body) = (event.origin(), event.body());
-            body_gives(alloc, choice, plans, tables, origin, ctx, body)
-        }
     }
 }

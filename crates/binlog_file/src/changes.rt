@@ -4,39 +4,22 @@ ghost use Rattle.std.specs.Prelude.{◌≡◌, ◌≢◌, List, ℕ, true, false
 ghost use Rattle.std.specs.Option.{option_map};
 ghost use Rattle.binlog_base.specs.declared.fault.Fault.TheVariants as Fault;
 ghost use Rattle.binlog_file.specs.declared.error.EventError.TheVariants as EventError;
-ghost use Rattle.binlog_file.specs.Events.{Place, NextGives, is_binlog, no_binlog};
-ghost use Rattle.binlog_file.specs.Tables.{in_force_after};
+ghost use Rattle.binlog_file.specs.Events.{Event, Place, NextGives, glance_of, is_binlog, no_binlog};
+ghost use Rattle.binlog_file.specs.Glances.{GlanceSteps};
+ghost use Rattle.binlog_file.specs.Tables.{InForce, in_force_after};
 ghost use Rattle.binlog_file.specs.TableMaps.{held_by};
 ghost use Rattle.binlog_file.specs.Changes as Spec;
 ghost use Rattle.binlog_file.specs.Walks.{spot_of};
 
-use crate::change::{Change, Given, event_gives};
+use crate::change::{Change, glance_gives};
 use crate::choice::Choice;
 use crate::error::{EventError, FileError};
-use crate::event::Event;
+use crate::event::Glance;
 use crate::events::Events;
 use crate::plans::KeptPlans;
 use crate::tables::TableMaps;
-use binlog_base::fault::Fault;
 use binlog_table::table_map::TableMapEvent;
 use std::alloc::{AllocError, Global};
-
-// Takes what an event says of tables, and returns what it gives.
-fn read_change<'a, C: Choice>(
-    alloc: Global,
-    choice: &C,
-    plans: &mut KeptPlans,
-    tables: &mut TableMaps,
-    event: &Event<'a>,
-) -> Result<Given<'a>, Fault>
-    ensures tables { OnOk result (held_by tables.new ≡ in_force_after (held_by tables.old) event.now) }
-    ensures given { IfOk result (λ g. Spec.EventGives (C.wanted choice.now)
-        (in_force_after (held_by tables.old) event.now).tables event.now g) }
-    ensures err { IfErr result (λ e. e ≡ Fault.Memory) }
-{
-    tables.take(alloc, event)?;
-    event_gives(alloc, choice, plans, tables, event)
-}
 
 /// Where a reading of changes is: the events that are left, the tables in force, the plans that are
 /// kept, and the error with which it ends, if it does.
@@ -108,20 +91,27 @@ pub(crate) fn at_position(position: u64, error: Option<EventError>) -> Option<Fi
     error.map(|error| FileError { position, error })
 }
 
-// Takes an event: returns its change, and keeps the error with which the reading ends, if it does.
-fn take_event<'a, C: Choice>(
+// Takes an event that was read: returns its change, and keeps the error with which the reading ends,
+// if it does.
+fn take_glance<'a, C: Choice>(
     alloc: Global,
     choice: &C,
     walk: &mut Walk<'a>,
-    event: &Event<'a>,
+    glance: Glance<'a>,
 ) -> Option<Change<'a>>
-    ensures takes { (p : Place) → NextGives p (Some (Ok event.now)) walk.old.events
-        → Spec.TakeGives Spec.IsMemory (C.wanted choice.now) (Spec.spot p (held_by walk.old.tables) None)
+    ensures takes { (e : Event) (p : Place) (s : InForce) → glance.entry ≡ glance_of e
+        → NextGives p (Some (Ok e)) walk.old.events → held_by walk.old.tables ≡ in_force_after s e
+        → Spec.TakeGives Spec.IsMemory (C.wanted choice.now) (Spec.spot p s None)
         result (spot_of walk.new) }
     ensures events { walk.new.events ≡ walk.old.events }
 {
-    let position = event.position();
-    match read_change(alloc, choice, &mut walk.plans, &mut walk.tables, event) {
+    // Most events hold no rows, and give nothing.
+    if glance.rows.is_none() {
+        walk.pending = None;
+        return None;
+    }
+    let position = glance.origin.position;
+    match glance_gives(alloc, choice, &mut walk.plans, &walk.tables, glance) {
         Ok(given) => {
             let (change, error) = given.into_parts();
             walk.pending = at_position(position, error);
@@ -134,21 +124,22 @@ fn take_event<'a, C: Choice>(
     }
 }
 
-// Takes an item of the events: returns its change, and keeps the error with which the reading ends,
-// if it does.
+// Takes a glance at the next event, or the error in place of it: returns the event's change, and keeps
+// the error with which the reading ends, if it does.
 fn take_item<'a, C: Choice>(
     alloc: Global,
     choice: &C,
     walk: &mut Walk<'a>,
-    item: Result<Event<'a>, FileError>,
+    item: Result<Glance<'a>, FileError>,
 ) -> Option<Change<'a>>
-    ensures takes { (p : Place) → NextGives p (Some item.entry) walk.old.events
-        → Spec.TakeGives Spec.IsMemory (C.wanted choice.now) (Spec.spot p (held_by walk.old.tables) None)
+    ensures takes { (p : Place) (s : InForce)
+        → GlanceSteps p s (Some item.entry) walk.old.events (held_by walk.old.tables)
+        → Spec.TakeGives Spec.IsMemory (C.wanted choice.now) (Spec.spot p s None)
         result (spot_of walk.new) }
     ensures events { walk.new.events ≡ walk.old.events }
 {
     match item {
-        Ok(event) => take_event(alloc, choice, walk, &event),
+        Ok(glance) => take_glance(alloc, choice, walk, glance),
         Err(error) => {
             walk.pending = Some(error);
             None
@@ -168,7 +159,7 @@ fn next_change<'a, C: Choice>(
         if let Some(error) = walk.end() {
             return Some(Err(error));
         }
-        let item = walk.events.next()?;
+        let item = walk.events.glance(alloc, &mut walk.tables)?;
         if let Some(change) = take_item(alloc, choice, walk, item) {
             return Some(Ok(change));
         }

@@ -186,7 +186,7 @@ pub(crate) fn header_of(head: &[u8]) -> Result<BinlogEventHeader, EventError>
 
 // Takes the bytes of an event.
 #[tactic(auto, unfolding(crate::specs::Events::raw_event))]
-fn read_raw<'a>(buf: &mut ParseBuf<'a>) -> Result<Raw<'a>, EventError>
+pub(crate) fn read_raw<'a>(buf: &mut ParseBuf<'a>) -> Result<Raw<'a>, EventError>
     ensures { Parses Spec.raw_event result buf.old.0.now buf.new.0.now }
 {
     let head = take(19, buf)?;
@@ -673,6 +673,16 @@ impl<'a> Event<'a> {
         ensures { option_map (λ d. d.now) result ≡ self.now.description }
     {
         self.description.as_ref()
+    }
+
+    // Returns the format description event that the event is, if it is one.
+    pub(crate) fn description_again(&self) -> Option<FormatDescriptionEvent<'a>>
+        ensures { result ≡ self.now.description }
+    {
+        match self.description() {
+            Some(description) => Some(description.again()),
+            None => None,
+        }
     }
 
     // Returns whether the event is a format description event.

@@ -1,13 +1,18 @@
 //! The iterator over the events of a file.
 
-ghost use Rattle.std.specs.Prelude.{◌≡◌, ◌≤◌, ◌+◌, ℕ, List, [], IfOk, IfErr, length};
+ghost use Rattle.std.specs.Prelude.{◌≡◌, ◌⊎◌, ◌≤◌, ◌+◌, ℕ, List, [], IfOk, IfErr, length};
 ghost use Rattle.binlog_base.specs.Format.{SpellsPrefix};
 ghost use Rattle.binlog_file.specs.Events as Spec;
+ghost use Rattle.binlog_file.specs.Changes.{IsMemory};
+ghost use Rattle.binlog_file.specs.Glances.{SeesAt, GlanceSteps};
+ghost use Rattle.binlog_file.specs.TableMaps.{held_by};
 
 use crate::description::FormatDescriptionEvent;
 use crate::error::{EventError, FileError};
-use crate::event::Event;
+use crate::event::{Event, Glance, read_raw};
 use crate::file::{MAGIC, no_binlog};
+use crate::seen::{Seen, see};
+use crate::tables::TableMaps;
 use binlog_base::below::ParseBuf;
 use std::alloc::{AllocError, Global};
 use std::marker::Model;
@@ -80,8 +85,65 @@ impl<'a> Iterator for Events<'a> {
     }
 }
 
+/// What is seen of the event at the start of some bytes, and the bytes after it.
+#[derive(Drop)]
+struct SeenAt<'a> {
+    seen: Seen<'a>,
+    left: &'a [u8],
+}
+
+// Takes what the event at the start of the bytes says of tables.
+fn see_at<'a>(
+    alloc: Global,
+    position: u64,
+    in_force: &Option<FormatDescriptionEvent<'a>>,
+    tables: &mut TableMaps,
+    bytes: &'a [u8],
+) -> Result<SeenAt<'a>, EventError>
+    ensures ok { IfOk result (λ r. SeesAt position in_force.now (held_by tables.old) bytes.now r.seen
+        r.left.now (held_by tables.new)) }
+    ensures err { IfErr result (λ e. IsMemory e ⊎ (Spec.event position in_force.now).refuses bytes.now e) }
+{
+    let mut buf = ParseBuf(bytes);
+    let raw = read_raw(&mut buf)?;
+    let seen = see(alloc, position, in_force, tables, &raw)?;
+    Ok(SeenAt { seen, left: buf.0 })
+}
+
 impl<'a> Events<'a> {
     ghost use Rattle.std.specs.Prelude.{◌≡◌, true, false, None, drop};
+
+    // Takes the next event, and what it says of tables. Returns a glance at it.
+    pub(crate) fn glance(
+        &mut self,
+        alloc: Global,
+        tables: &mut TableMaps,
+    ) -> Option<Result<Glance<'a>, FileError>>
+        ensures { GlanceSteps self.old (held_by tables.old) result self.new (held_by tables.new) }
+    {
+        if self.left.is_empty() {
+            return None;
+        }
+        match see_at(alloc, self.position, &self.in_force, tables, self.left) {
+            Ok(SeenAt { seen, left }) => {
+                let Seen {
+                    glance,
+                    description,
+                } = seen;
+                self.position += (self.left.len() - left.len()) as u64;
+                self.left = left;
+                if description.is_some() {
+                    self.in_force = description;
+                }
+                Some(Ok(glance))
+            }
+            Err(error) => {
+                let position = self.position;
+                self.left = &[];
+                Some(Err(FileError { position, error }))
+            }
+        }
+    }
 
     // Gives up the bytes that are left.
     pub(crate) fn stop(&mut self)

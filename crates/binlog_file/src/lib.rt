@@ -15,6 +15,7 @@ pub mod laws;
 pub mod origin;
 mod plans;
 pub mod reader;
+mod seen;
 pub mod source_changes;
 mod stored;
 pub mod tables;

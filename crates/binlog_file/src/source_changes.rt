@@ -95,6 +95,11 @@ fn take<C: Choice>(
     ensures kept { kept_in walk.new ≡ kept_in walk.old }
     ensures on { walk.new.pending ≡ None → walk.new.reader.is_over ≡ walk.old.reader.is_over }
 {
+    // Most events hold no rows, and give nothing.
+    if glance.rows.is_none() {
+        walk.pending = None;
+        return None;
+    }
     let position = glance.origin.position;
     match owned_gives(alloc, choice, walk, glance) {
         Ok(given) => {

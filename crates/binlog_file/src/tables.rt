@@ -4,7 +4,7 @@ ghost use Rattle.std.specs.Prelude.{◌≡◌, ◌≤◌, ◌<◌, ◌⊎◌, �
 ghost use Rattle.std.specs.Option.{option_map};
 ghost use Rattle.std.specs.BTreeMap.{btree_map_len};
 ghost use Rattle.std.specs.Rc.{rc_value};
-ghost use Rattle.binlog_file.specs.Stream.{IsOutside};
+ghost use Rattle.binlog_file.specs.Changes.{IsMemory};
 ghost use Rattle.binlog_file.specs.Tables.{no_tables, with_table, found, given_up, ends_statement, in_force_after};
 ghost use Rattle.binlog_file.specs.TableBodies.{ReadsTable};
 ghost use Rattle.binlog_file.specs.TableMaps.{in_maps, held_by};
@@ -264,7 +264,7 @@ impl TableMaps {
     ) -> Result<Rc<TableMapEvent<'static>>, EventError>
         ensures ok { IfOk result (λ t. ReadsTable server post_header_len body.now (Ok (rc_value t))) }
         ensures err { IfErr result
-            (λ e. IsOutside e ⊎ ReadsTable server post_header_len body.now (Err e)) }
+            (λ e. IsMemory e ⊎ ReadsTable server post_header_len body.now (Err e)) }
         ensures held { held_by self.new ≡ held_by self.old }
     {
         if let Some(kept) = self.kept_as(server, post_header_len, body)? {
@@ -295,8 +295,8 @@ impl TableMaps {
         }
     }
 
-    // Takes a table map event that was not taken from an `Event`. All tables before it are given up
-    // if a statement ended with the event before.
+    // Takes a table map event. All tables before it are given up if a statement ended with the event
+    // before it.
     pub(crate) fn take_table(&mut self, table: Rc<TableMapEvent<'static>>) -> Result<(), AllocError>
         ensures tables { OnOk result ((id : ℕ) → in_maps self.new id
             ≡ with_table (found (in_maps self.old) self.old.ended) (rc_value table.entry) id) }

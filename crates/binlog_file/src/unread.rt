@@ -4,7 +4,7 @@ ghost use Rattle.std.specs.Prelude.{◌≡◌, ◌⊎◌, Ok, Err, IfOk, IfErr};
 ghost use Rattle.std.specs.Rc.{rc_value};
 ghost use Rattle.binlog_table.specs.TableMap.{TableMap};
 ghost use Rattle.binlog_file.specs.Events.{event_of_raw, glance_of};
-ghost use Rattle.binlog_file.specs.Stream.{IsOutside};
+ghost use Rattle.binlog_file.specs.Changes.{IsMemory};
 ghost use Rattle.binlog_file.specs.TableBodies.{ReadsTable, event_with, LeavesTable};
 ghost use Rattle.binlog_file.specs.TableMaps.{held_by};
 
@@ -77,7 +77,7 @@ impl<'a> UnreadTable<'a> {
     ) -> Result<Rc<TableMapEvent<'static>>, EventError>
         ensures ok { IfOk result (λ t. ReadsTable self.now.server self.now.post_header_len
             self.now.parts.body (Ok (rc_value t))) }
-        ensures err { IfErr result (λ e. IsOutside e ⊎ ReadsTable self.now.server
+        ensures err { IfErr result (λ e. IsMemory e ⊎ ReadsTable self.now.server
             self.now.post_header_len self.now.parts.body (Err e)) }
         ensures held { held_by tables.new ≡ held_by tables.old }
     {

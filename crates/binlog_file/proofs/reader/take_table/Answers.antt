@@ -24,7 +24,7 @@ returns-in_err-table c =
     let left = subst (λ (d : Option Description). LeavesTable (event_of_raw k.at d c.args.raw.now) (Ok c.in_ok-event.event)) c.lend-in_force.ensures c.in_ok-event.ensures.leaves in
     let l = kept k.at k.description (held_by c.table.new.tables) k.stored in
     handed_on k l c.args.raw.now c.from_residual-in_err-table.result e c.from_residual-in_err-table.ensures.1 (elim c.in_err-table.ensures.err [
-      | inl outside ↦ inl outside
+      | inl memory ↦ inl (inr memory)
       | inr refused ↦ inr (left.1 e refused)
     ])
 

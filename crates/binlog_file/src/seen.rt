@@ -1,0 +1,104 @@
+//! What a reading of changes in memory sees of an event.
+
+ghost use Rattle.std.specs.Prelude.{◌≡◌, true};
+ghost use Rattle.binlog_file.specs.Events.{is_plain};
+ghost use Rattle.binlog_file.specs.Glances.{SeesRaw};
+ghost use Rattle.binlog_file.specs.TableMaps.{held_by};
+
+use crate::description::FormatDescriptionEvent;
+use crate::error::EventError;
+use crate::event::{Event, Glance, PlainEvent, Raw};
+use crate::tables::TableMaps;
+use crate::unread::UnreadTable;
+use std::alloc::Global;
+use std::marker::Model;
+
+/// A glance at an event, and the format description event that the event is, if it is one.
+#[derive(Drop)]
+pub(crate) struct Seen<'a> {
+    pub(crate) glance: Glance<'a>,
+    pub(crate) description: Option<FormatDescriptionEvent<'a>>,
+}
+
+impl<'a> Model for Seen<'a> {
+    ghost use Rattle.binlog_file.specs.Glances as Spec;
+
+    ghost Value = { Spec.Seen };
+
+    ghost view = { λ s. record { glance = s.glance; description = s.description } };
+}
+
+// Takes the tables of a plain event of these bytes.
+fn see_plain<'a>(
+    position: u64,
+    in_force: &Option<FormatDescriptionEvent<'_>>,
+    tables: &mut TableMaps,
+    raw: &Raw<'a>,
+) -> Result<Seen<'a>, EventError>
+    requires { is_plain raw.now ≡ true }
+    ensures { SeesRaw position in_force.now (held_by tables.old) raw.now result (held_by tables.new) }
+{
+    let event = PlainEvent::of_raw(position, in_force, raw)?;
+    tables.take_plain(&event);
+    Ok(Seen {
+        glance: event.glance(),
+        description: None,
+    })
+}
+
+// Takes the table of a table map event of these bytes.
+fn see_table<'a>(
+    alloc: Global,
+    position: u64,
+    in_force: &Option<FormatDescriptionEvent<'_>>,
+    tables: &mut TableMaps,
+    raw: &Raw<'a>,
+) -> Result<Seen<'a>, EventError>
+    requires { raw.now.header.event_type ≡ 0x13 }
+    ensures { SeesRaw position in_force.now (held_by tables.old) raw.now result (held_by tables.new) }
+{
+    let event = UnreadTable::of_raw(position, in_force, raw)?;
+    let table = event.table(alloc, tables)?;
+    tables.take_table(table)?;
+    Ok(Seen {
+        glance: event.glance(),
+        description: None,
+    })
+}
+
+// Takes the tables of an event of these bytes.
+fn see_other<'a>(
+    alloc: Global,
+    position: u64,
+    in_force: &Option<FormatDescriptionEvent<'_>>,
+    tables: &mut TableMaps,
+    raw: &Raw<'a>,
+) -> Result<Seen<'a>, EventError>
+    ensures { SeesRaw position in_force.now (held_by tables.old) raw.now result (held_by tables.new) }
+{
+    let event = Event::of_raw(position, in_force, raw)?;
+    tables.take(alloc, &event)?;
+    Ok(Seen {
+        glance: event.glance(),
+        description: event.description_again(),
+    })
+}
+
+/// Takes what the event of these bytes says of tables, after the description that is in force.
+pub(crate) fn see<'a>(
+    alloc: Global,
+    position: u64,
+    in_force: &Option<FormatDescriptionEvent<'_>>,
+    tables: &mut TableMaps,
+    raw: &Raw<'a>,
+) -> Result<Seen<'a>, EventError>
+    ensures { SeesRaw position in_force.now (held_by tables.old) raw.now result (held_by tables.new) }
+{
+    if raw.is_plain() {
+        see_plain(position, in_force, tables, raw)
+    } else if raw.is_table() {
+        see_table(alloc, position, in_force, tables, raw)
+    } else {
+        see_other(alloc, position, in_force, tables, raw)
+    }
+}

@@ -264,6 +264,7 @@ fn summed<'a>(raw: &Raw<'_>, found: u32, body: &'a [u8]) -> Result<Parts<'a>, Ev
 }
 
 // Returns the body, and the checksum after it if there is one.
+#[inline(always)]
 #[tactic(auto, unfolding(crate::specs::Events::parts_of))]
 pub(crate) fn parts_of<'a>(has_checksum: bool, raw: &Raw<'a>) -> Result<Parts<'a>, EventError>
     ensures { result ≡ Spec.parts_of has_checksum raw.now }
@@ -494,6 +495,7 @@ fn plain_event<'a>(
 
 impl<'a> PlainEvent<'a> {
     // Reads the event of these bytes, after the description that is in force.
+    #[inline(always)]
     pub(crate) fn of_raw(
         position: u64,
         in_force: &Option<FormatDescriptionEvent<'_>>,

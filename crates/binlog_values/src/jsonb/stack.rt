@@ -55,8 +55,8 @@ impl Collected {
         }
     }
 
-    // Adds an entry. Not inlined, so that the map's insertion is inlined here.
-    #[inline(never)]
+    // Adds an entry.
+    #[inline(always)]
     fn add(&mut self, alloc: Global, key: &[u8], value: JsonDom) -> Result<(), Fault>
         ensures entry { OnOk result ((c : Frame) (front : Branches) (t : Tree)
             → IsCollected self.old c front

@@ -26,7 +26,7 @@ appended (Err e) old mid new a b all h k is = tt
 
 -- ---- groups before and after the point
 
-integer_parts : (count : ℕ) (bytes group nines : List ℕ) → length bytes ≡ digits_size count → group ≡ take (group_width (count % 9)) bytes → nines ≡ drop (group_width (count % 9)) bytes → (group ++ nines ≡ bytes) × (length group ≡ group_width (count % 9)) × (length nines / 4 ≡ count / 9)
+pub integer_parts : (count : ℕ) (bytes group nines : List ℕ) → length bytes ≡ digits_size count → group ≡ take (group_width (count % 9)) bytes → nines ≡ drop (group_width (count % 9)) bytes → (group ++ nines ≡ bytes) × (length group ≡ group_width (count % 9)) × (length nines / 4 ≡ count / 9)
 integer_parts count bytes group nines long is after =
     let w = group_width (count % 9) in
     let within : w ≤ length bytes = omega arith in

@@ -31,10 +31,10 @@ zeros_of ds = prefix_len (λ d. d == 0) ds
 abbrev pub kept_of : List ℕ → List ℕ
 kept_of ds = drop (min (1 + zeros_of ds) (length ds)) (0 ∷ ds)
 
-zero_more : (ds : List ℕ) → zeros_of (0 ∷ ds) ≡ 1 + zeros_of ds
+pub zero_more : (ds : List ℕ) → zeros_of (0 ∷ ds) ≡ 1 + zeros_of ds
 zero_more ds = refl
 
-no_zeros : (d : ℕ) (ds : List ℕ) → zeros_of (suc d ∷ ds) ≡ 0
+pub no_zeros : (d : ℕ) (ds : List ℕ) → zeros_of (suc d ∷ ds) ≡ 0
 no_zeros d ds = rw (eqb-suc-zero d) refl
 
 not_zeros : (d g : ℕ) (ds : List ℕ) → all_zeros (take (suc g) (suc d ∷ ds)) ≡ false
@@ -43,7 +43,7 @@ not_zeros d g ds = rw (eqb-suc-zero d) refl
 both : {b : Bool} → b ≡ true → b ≡ false → ⊥
 both p q = cc
 
-one_less : (ds : List ℕ) → kept_of (0 ∷ ds) ≡ kept_of ds
+pub one_less : (ds : List ℕ) → kept_of (0 ∷ ds) ≡ kept_of ds
 one_less ds =
     let count : min (1 + zeros_of (0 ∷ ds)) (length (0 ∷ ds)) ≡ suc (min (1 + zeros_of ds) (length ds)) = omega (arith, zero_more ds) in
     ap (λ (n : ℕ). drop n (0 ∷ 0 ∷ ds)) count

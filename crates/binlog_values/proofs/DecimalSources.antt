@@ -7,7 +7,7 @@ use Rattle.std.proofs.lemmas.List.{length-append, take_at, drop_at}
 use Rattle.binlog_base.specs.declared.fault.Fault.{Fault}
 use Rattle.binlog_base.specs.declared.fault.Fault.TheVariants as fault
 use Rattle.binlog_base.specs.declared.fault.Fault.TheVariants.{DecimalScale}
-use Rattle.binlog_base.specs.Format.{Format, Parses, OrMemory, ◌>>=◌, no_bytes, refusal, sequence, map_value}
+use Rattle.binlog_base.specs.Format.{Format, Parses, ParsesAs, OrMemory, ◌>>=◌, no_bytes, refusal, sequence, map_value}
 use Rattle.binlog_base.specs.Numbers.{big_endian}
 use Rattle.binlog_base.specs.Widths.{IsOfWidth}
 use Rattle.binlog_base.specs.Lemmas.Widths.{map_value_is_of_width, choice_is_of_width}
@@ -162,3 +162,11 @@ text_read precision scale n m x y more t h count after is within some long =
     let same : (text precision scale).parse x ≡ Ok (t, []) = sym (ap₂ (λ (j k : ℕ). (text j k).parse y) count after ∙ ap (text precision scale).parse is) ∙ h in
     ap (λ (r : Result (DecimalView × List ℕ) Fault). r >>= texted) ((decimal_of_width precision scale false within some).whole x more long)
     ∙ with_rest ((packed_decimal precision scale false).parse x) t [] more same
+
+-- a text that was read from all of these bytes, where more follow them
+pub text_of_front : {X : Type 0} (view : X → List ℕ) (r : Result X Fault) (precision scale n m : ℕ) (x more all : List ℕ) → OrMemory r (ParsesAs view (text n m) r x []) → n ≡ precision → m ≡ scale → all ≡ x ++ more → scale ≤ precision → 0 < precision → length x ≡ packed_size (precision - scale) scale
+    → OrMemory r (ParsesAs view (text precision scale) r all more)
+text_of_front view (Ok v) precision scale n m x more all h count after is within some long =
+    ap (text precision scale).parse is ∙ text_read precision scale n m x x more (view v) h count after refl within some long
+text_of_front view (Err e) precision scale n m x more all h count after is within some long = λ other.
+    ap (text precision scale).parse is ∙ text_refused precision scale n m x x more e (h other) count after refl within some long

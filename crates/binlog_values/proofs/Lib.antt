@@ -7,6 +7,7 @@ pub mod DecimalTexts
 pub mod DecimalPrinting
 pub mod DecimalPutting
 pub mod DecimalShown
+pub mod DecimalNumbers
 pub mod DecimalRanges
 pub mod DecimalSources
 pub mod DecimalGrammar

@@ -2,6 +2,7 @@
 pub mod DecimalGroups
 pub mod DecimalMasks
 pub mod PackedDecimals
+pub mod Places
 pub mod JsonbValues
 pub mod JsonDiffs
 pub mod JsonEquality

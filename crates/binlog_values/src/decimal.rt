@@ -10,6 +10,7 @@ mod order;
 mod pack;
 mod parse;
 mod read;
+mod short;
 mod show;
 mod text;
 mod unpack;

@@ -2,33 +2,12 @@
 use Rattle.std.specs.Prelude.{replicate, decimal, unsigned_abs}
 use Rattle.std.specs.Int.{is_negative}
 use Rattle.std.specs.Fmt.{sign_text, signed_decimal}
-use Rattle.std.proofs.Common.{◌≡◌, ℕ, ◌+◌, ◌-◌, ◌<◌, ◌≤◌, ◌^◌, ℤ, pos, negsuc, Bool, true, false, cond, List, ◌∷◌, ◌++◌, length, take, drop, set, min, suc, [], ◌/◌, ◌%◌, int_eq, sym, ap, ◌∙◌, append-nil, append_assoc, arith}
+use Rattle.std.proofs.Common.{◌≡◌, ℕ, ◌+◌, ◌-◌, ◌<◌, ◌≤◌, ◌^◌, ℤ, pos, negsuc, Bool, true, false, cond, List, ◌∷◌, ◌++◌, length, take, drop, set, min, suc, [], ◌/◌, ◌%◌, int_eq, sym, ap, ◌∙◌, append-nil, arith}
 use Rattle.std.proofs.lemmas.Bool.{le-ltb}
 use Rattle.std.proofs.lemmas.Fmt.{decimal_step, decimal_digit}
-use Rattle.std.proofs.lemmas.List.{length-append, drop_all, take-append-drop, drop-append-le, take-take, take-replicate, drop-replicate, length-replicate, drop-set, take_rest}
+use Rattle.std.proofs.lemmas.List.{length-append, drop_all, drop-set, take_rest}
+use Rattle.binlog_values.specs.Lemmas.Places.{AtEnd, padded}
 use Rattle.mysql_binlog_rows.specs.Cells.{places_text, timestamp_text}
-
--- The digits are written up to the end of the zeros: those before the digits are left.
-pub record AtEnd (new old digits : List ℕ) (at end : ℕ) : Type 0 where
-  pub long : at + length digits ≡ end
-  pub written : drop at new ≡ digits ++ drop end old
-  pub before : take at new ≡ take at old
-  pub zeros : take end old ≡ replicate end 48
-
-pub zeros_left : (new old digits : List ℕ) (at end start : ℕ) → AtEnd new old digits at end → start ≤ at → take start new ≡ replicate start 48
-zeros_left new old digits at end start a le =
-    sym (take-take start at new le) ∙ ap (take start) a.before ∙ take-take start at old le
-    ∙ sym (take-take start end old (omega (arith, le, a.long))) ∙ ap (take start) a.zeros ∙ take-replicate start end 48 (omega (arith, le, a.long))
-
--- from before the digits on are as many zeros, the digits, and what is after them
-padded : (new old digits : List ℕ) (at end start : ℕ) → AtEnd new old digits at end → start ≤ at → drop start new ≡ (replicate (at - start) 48 ++ digits) ++ drop end old
-padded new old digits at end start a le =
-    let front : take at new ≡ replicate at 48 = zeros_left new old digits at end at a (omega arith) in
-    let whole : new ≡ replicate at 48 ++ (digits ++ drop end old) = sym (take-append-drop at new) ∙ ap (λ (t : List ℕ). t ++ drop at new) front ∙ ap (λ (t : List ℕ). replicate at 48 ++ t) a.written in
-    ap (drop start) whole
-    ∙ drop-append-le start (replicate at 48) (digits ++ drop end old) (omega (arith, le, length-replicate {A = ℕ} at 48))
-    ∙ ap (λ (t : List ℕ). t ++ (digits ++ drop end old)) (drop-replicate start at 48)
-    ∙ sym (append_assoc (replicate (at - start) 48) digits (drop end old))
 
 pub unsigned_places : (new old : List ℕ) (z : ℤ) (places at end start : ℕ) → is_negative z ≡ false → AtEnd new old (decimal (unsigned_abs z)) at end → start ≡ min at (end - places) → places ≤ end
     → drop start new ≡ places_text places z ++ drop end old

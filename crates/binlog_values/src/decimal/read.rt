@@ -14,7 +14,8 @@ ghost use Rattle.binlog_values.specs.DecimalText.{decimal_text};
 
 use super::group::digits_size;
 use super::lent::Lent;
-use super::text::{MAX_TEXT, put_text};
+use super::short::{MAX_FRACTION, MAX_INTEGER, short_text};
+use super::text::long_text;
 use super::unpack::unpack;
 use super::{DIG_PER_DEC, Decimal};
 use crate::digits::all_zeros;
@@ -75,7 +76,7 @@ impl OfWidth for Count {
 // byte counts. Below it is a bound of the bytes that these digits take in packed form.
 const MAX_PRECISION: usize = 255;
 
-const MAX_SIZE: usize = 128;
+pub(super) const MAX_SIZE: usize = 128;
 
 impl Decimal {
     // Reads a decimal from all of these packed bytes, and overwrites them. There is room for exactly
@@ -216,13 +217,12 @@ impl Decimal {
         if precision == 0 {
             return Ok(vec![in alloc; b'0']?);
         }
-        let (digits, scale) = (usize::from(precision), usize::from(scale));
-        let size = digits_size(digits - scale) + digits_size(scale);
-        let mut bytes = [0; MAX_SIZE];
-        let mut room = [0; MAX_TEXT];
-        let packed = &mut bytes[..size];
-        packed.copy_from_slice(buf.eat(size)?);
-        let text = put_text(packed, digits - scale, scale, &mut room)?;
-        Ok(Vec::from_slice(alloc, text)?)
+        let (integer, fraction) = (usize::from(precision - scale), usize::from(scale));
+        let packed = buf.eat(digits_size(integer) + digits_size(fraction))?;
+        if integer <= MAX_INTEGER && fraction <= MAX_FRACTION {
+            short_text(alloc, packed, integer, fraction)
+        } else {
+            long_text(alloc, packed, integer, fraction)
+        }
     }
 }

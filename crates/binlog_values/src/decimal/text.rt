@@ -2,18 +2,20 @@
 
 ghost use Rattle.std.specs.Prelude.{◌≡◌, ◌≤◌, ◌<◌, ◌+◌, ◌++◌, false, [], length, drop, replicate, slice_index};
 ghost use Rattle.std.specs.Int.Digits.{AllBelowBase};
-ghost use Rattle.binlog_base.specs.Format.{ParsesAs, map_value};
+ghost use Rattle.binlog_base.specs.Format.{ParsesAs, OrMemory, map_value};
 ghost use Rattle.binlog_values.specs.Decimals.{packed_size, trimmed_decimal};
 ghost use Rattle.binlog_values.specs.PackedDecimals.{packed_decimal};
 ghost use Rattle.binlog_values.specs.DecimalText.{decimal_text, fraction_digits_text};
 
+use super::read::MAX_SIZE;
 use super::unpack::unpack;
 use crate::digits::{leading_zeros, make_characters};
 use binlog_base::fault::Fault;
+use std::alloc::Global;
 
 // The most bytes that the text of a decimal takes, where its precision has one byte: a minus, a zero,
 // the point and the digits.
-pub(super) const MAX_TEXT: usize = 258;
+const MAX_TEXT: usize = 258;
 
 // Makes characters of a zero and the digits before the point, which begin at index 1 of `before`, and
 // puts a minus before those that are shown, if there is one. Returns where the text begins.
@@ -44,7 +46,7 @@ fn put_integer(negative: bool, before: &mut [u8], fraction: &[u8]) -> usize
 // Reads a decimal from all of these packed bytes, which are overwritten, and returns its text, which
 // is put into the room.
 #[tactic(auto, unfolding(crate::specs::PackedDecimals::packed_decimal))]
-pub(super) fn put_text<'a>(
+fn put_text<'a>(
     packed: &mut [u8],
     integer: usize,
     fraction: usize,
@@ -65,4 +67,25 @@ pub(super) fn put_text<'a>(
     point.fill(b'.');
     make_characters(after);
     Ok(&room[start..2 + integer + usize::from(fraction > 0) + fraction])
+}
+
+// Reads a decimal from all of these packed bytes, and returns its text.
+pub(super) fn long_text(
+    alloc: Global,
+    packed: &[u8],
+    integer: usize,
+    fraction: usize,
+) -> Result<Vec<u8>, Fault>
+    requires digits { (0 < integer + fraction) × (integer + fraction ≤ 255) }
+    requires size { length packed.now ≡ packed_size integer fraction }
+    ensures { OrMemory result (ParsesAs (λ text. text.items)
+        (map_value (packed_decimal (integer + fraction) fraction false) decimal_text)
+        result packed.now []) }
+{
+    let mut bytes = [0; MAX_SIZE];
+    let mut room = [0; MAX_TEXT];
+    let copy = &mut bytes[..packed.len()];
+    copy.copy_from_slice(packed);
+    let text = put_text(copy, integer, fraction, &mut room)?;
+    Ok(Vec::from_slice(alloc, text)?)
 }

@@ -3,7 +3,8 @@ use Rattle.std.proofs.Common.{rules, arith, ◌≡◌, ◌≤◌, ◌-◌, ◌++
 use Rattle.std.specs.Int.{is_negative}
 use Rattle.std.proofs.lemmas.Fmt.{length-decimal-le}
 use Rattle.std.proofs.lemmas.List.{take-set}
-use Rattle.mysql_binlog_rows.proofs.Places.{AtEnd, zeros_left, unsigned_places, signed_places}
+use Rattle.binlog_values.specs.Lemmas.Places.{AtEnd, zeros_left}
+use Rattle.mysql_binlog_rows.proofs.Places.{unsigned_places, signed_places}
 use Rattle.mysql_binlog_rows.proofs.value.times.put_places.Goals as goal
 
 pub write_digits-digits-requires : goal.write_digits-digits-requires

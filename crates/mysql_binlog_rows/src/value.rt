@@ -115,6 +115,9 @@ impl<'a> TryFrom<BinlogValue<'a>> for Value {
 }
 
 /// Reads a plain cell whose bytes have this form.
+// Whatever makes a `Value` is inlined, so that its fields stay in registers until they are put where
+// the cell belongs.
+#[inline(always)]
 #[tactic(auto, unfolding(crate::specs::Cells::plain_by))]
 pub(crate) fn read_plain(
     alloc: Global,
@@ -131,12 +134,14 @@ pub(crate) fn read_plain(
         PlainForm::Timestamp => read_timestamp(buf),
         PlainForm::Time => read_time(buf),
         PlainForm::Datetime => read_datetime(buf),
-        PlainForm::Year => read_year(alloc, buf),
+        PlainForm::Year => Ok(Value::Bytes(read_year(alloc, buf)?)),
         PlainForm::Date => read_date(buf),
-        PlainForm::Timestamp2(decimals) => read_timestamp2(alloc, decimals, buf),
+        PlainForm::Timestamp2(decimals) => Ok(Value::Bytes(read_timestamp2(alloc, decimals, buf)?)),
         PlainForm::Datetime2(decimals) => read_datetime2(decimals, buf),
         PlainForm::Time2(decimals) => read_time2(decimals, buf),
-        PlainForm::Decimal(precision, scale) => read_decimal(alloc, precision, scale, buf),
+        PlainForm::Decimal(precision, scale) => {
+            Ok(Value::Bytes(read_decimal(alloc, precision, scale, buf)?))
+        }
         PlainForm::Fixed(len) => read_fixed(alloc, len, buf),
         PlainForm::Text(width) => read_text(alloc, width, buf),
         PlainForm::Variant(width) => read_variant(width, buf),

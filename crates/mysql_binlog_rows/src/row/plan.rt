@@ -7,7 +7,7 @@ ghost use Rattle.binlog_base.specs.Format.{Parses, ParsesAs, OrMemory};
 ghost use Rattle.binlog_base.specs.Items.{result_map};
 ghost use Rattle.binlog_table.specs.ColumnsLeft.{seen_column};
 ghost use Rattle.binlog_table.specs.TableColumns.{passed};
-ghost use Rattle.mysql_binlog_rows.specs.Cells.{cell_of};
+ghost use Rattle.mysql_binlog_rows.specs.Cells.{cell_of, json_cell};
 ghost use Rattle.binlog_base.specs.Values.{column_flags_of};
 ghost use Rattle.mysql_binlog_rows.specs.Images.{default_name, row_flags};
 ghost use Rattle.mysql_binlog_rows.specs.Plans.{column_in, json_place_of, slot_of, first_column, after_first, planned_from, plan_of, planned_options, planned_image, is_partial_slot, slot_cell, slot_cells};
@@ -359,7 +359,20 @@ fn is_partial(slot: &Slot, partials: &BitView<'_>) -> bool
     }
 }
 
+// Reads a JSON cell, and copies its bytes. Not inlined, so that other cells stay in registers.
+#[inline(never)]
+fn read_owned_json(
+    alloc: Global,
+    partial: bool,
+    buf: &mut ParseBuf<'_>,
+) -> Result<BinlogValue<'static>, Fault>
+    ensures { OrMemory result (ParsesAs cell_of (json_cell partial) result buf.old.0.now buf.new.0.now) }
+{
+    Ok(read_json(alloc, partial, buf)?.into_owned(alloc)?)
+}
+
 // Returns NULL if the null bit is set, and reads the cell otherwise.
+#[inline(always)]
 #[tactic(auto, unfolding(crate::specs::Plans::slot_cell, crate::specs::Cells::cell_by))]
 fn read_nullable_cell(
     alloc: Global,
@@ -376,6 +389,9 @@ fn read_nullable_cell(
     }
     match slot.form? {
         Form::Plain(form) => Ok(BinlogValue::Value(read_plain(alloc, form, buf)?)),
-        Form::Json => Ok(read_json(alloc, is_partial(slot, partials), buf)?.into_owned(alloc)?),
+        Form::Json => {
+            let value = read_owned_json(alloc, is_partial(slot, partials), buf)?;
+            Ok(value)
+        }
     }
 }

@@ -12,6 +12,7 @@ use binlog_base::fault::Fault;
 use std::alloc::{AllocError, Global};
 
 // Copies the bytes into a value.
+#[inline(always)]
 fn bytes_of(alloc: Global, bytes: &[u8]) -> Result<Value, AllocError>
     ensures { IfOk result (λ value. plain_of value ≡ Bytes bytes.now) }
 {
@@ -19,6 +20,7 @@ fn bytes_of(alloc: Global, bytes: &[u8]) -> Result<Value, AllocError>
 }
 
 // Reads `len` bytes.
+#[inline(always)]
 #[tactic(auto, unfolding(crate::specs::Cells::fixed_bytes))]
 pub(super) fn read_fixed(alloc: Global, len: usize, buf: &mut ParseBuf<'_>) -> Result<Value, Fault>
     ensures { OrMemory result (ParsesAs plain_of (fixed_bytes len) result buf.old.0.now buf.new.0.now) }
@@ -28,6 +30,7 @@ pub(super) fn read_fixed(alloc: Global, len: usize, buf: &mut ParseBuf<'_>) -> R
 }
 
 // Reads a little-endian length of `width` bytes, and then as many bytes as it says.
+#[inline(always)]
 #[tactic(auto, unfolding(crate::specs::Cells::text))]
 fn read_slice<'a>(width: Width, buf: &mut ParseBuf<'a>) -> Result<&'a [u8], Fault>
     ensures { ParsesAs (λ x. x.now) (text (bytes_in width)) result buf.old.0.now buf.new.0.now }
@@ -37,6 +40,7 @@ fn read_slice<'a>(width: Width, buf: &mut ParseBuf<'a>) -> Result<&'a [u8], Faul
 }
 
 // Reads a little-endian length of `width` bytes, and copies as many bytes as it says into a value.
+#[inline(always)]
 #[tactic(auto, unfolding(crate::specs::Cells::text_cell))]
 pub(super) fn read_text(alloc: Global, width: Width, buf: &mut ParseBuf<'_>) -> Result<Value, Fault>
     ensures { OrMemory result (ParsesAs plain_of (text_cell (bytes_in width)) result buf.old.0.now

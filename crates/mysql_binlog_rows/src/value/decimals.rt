@@ -1,16 +1,16 @@
 //! Reads the cells of decimals.
 
 ghost use Rattle.binlog_base.specs.Format.{ParsesAs, OrMemory};
-ghost use Rattle.binlog_base.specs.Values.{plain_of};
+ghost use Rattle.binlog_base.specs.Values.{Bytes};
 ghost use Rattle.mysql_binlog_rows.specs.Cells.{decimal_cell};
 
-use binlog_base::below::{ParseBuf, Value};
+use binlog_base::below::ParseBuf;
 use binlog_base::fault::Fault;
 use binlog_values::decimal::Decimal;
 use std::alloc::Global;
 
-// Reads a NEWDECIMAL of this precision and scale, in the packed DECIMAL format, as text. Not
-// inlined, so that a profiler can count the instructions of a cell.
+// Reads a NEWDECIMAL of this precision and scale, in the packed DECIMAL format, as text, whose bytes
+// the cell has. Not inlined, so that a profiler can count the instructions of a cell.
 #[inline(never)]
 #[tactic(auto, unfolding(crate::specs::Cells::decimal_cell))]
 pub(super) fn read_decimal(
@@ -18,10 +18,10 @@ pub(super) fn read_decimal(
     precision: u8,
     scale: u8,
     buf: &mut ParseBuf<'_>,
-) -> Result<Value, Fault>
-    ensures { OrMemory result (ParsesAs plain_of (decimal_cell precision scale) result buf.old.0.now
-        buf.new.0.now) }
+) -> Result<Vec<u8>, Fault>
+    ensures { OrMemory result (ParsesAs (λ text. Bytes text.items) (decimal_cell precision scale)
+        result buf.old.0.now buf.new.0.now) }
 {
     let text = Decimal::read_text(alloc, buf, precision, scale)?;
-    Ok(Value::Bytes(text))
+    Ok(text)
 }

@@ -14,6 +14,7 @@ use binlog_base::fault::Fault;
 
 // Reads a little-endian number of `width` bytes, without a sign. In each arm the compiler knows the
 // width, so that reading takes a few instructions.
+#[inline(always)]
 pub(super) fn read_unsigned(width: Width, buf: &mut ParseBuf<'_>) -> Result<u32, Fault>
     ensures { Parses (little_endian (bytes_in width)) result buf.old.0.now buf.new.0.now }
 {
@@ -26,6 +27,7 @@ pub(super) fn read_unsigned(width: Width, buf: &mut ParseBuf<'_>) -> Result<u32,
 }
 
 // Reads a little-endian number of `width` bytes in two's complement.
+#[inline(always)]
 fn read_signed(width: Width, buf: &mut ParseBuf<'_>) -> Result<i32, Fault>
     ensures { Parses (signed_little_endian (bytes_in width)) result buf.old.0.now buf.new.0.now }
 {
@@ -38,6 +40,7 @@ fn read_signed(width: Width, buf: &mut ParseBuf<'_>) -> Result<i32, Fault>
 }
 
 // Reads a TINY, SHORT, INT24 or LONG: a little-endian integer of `width` bytes.
+#[inline(always)]
 #[tactic(auto, unfolding(crate::specs::Cells::integer))]
 pub(super) fn read_integer(
     width: Width,
@@ -55,6 +58,7 @@ pub(super) fn read_integer(
 }
 
 // Reads a LONGLONG: a little-endian integer of eight bytes.
+#[inline(always)]
 #[tactic(auto, unfolding(crate::specs::Cells::long_integer))]
 pub(super) fn read_long_integer(unsigned: bool, buf: &mut ParseBuf<'_>) -> Result<Value, Fault>
     ensures { ParsesAs plain_of (long_integer unsigned) result buf.old.0.now buf.new.0.now }
@@ -68,6 +72,7 @@ pub(super) fn read_long_integer(unsigned: bool, buf: &mut ParseBuf<'_>) -> Resul
 }
 
 // Reads a FLOAT: its 32 bits, as a little-endian number.
+#[inline(always)]
 #[tactic(auto, unfolding(crate::specs::Cells::float_bits))]
 pub(super) fn read_float(buf: &mut ParseBuf<'_>) -> Result<Value, Fault>
     ensures { ParsesAs plain_of float_bits result buf.old.0.now buf.new.0.now }
@@ -77,6 +82,7 @@ pub(super) fn read_float(buf: &mut ParseBuf<'_>) -> Result<Value, Fault>
 }
 
 // Reads a DOUBLE: its 64 bits, as a little-endian number.
+#[inline(always)]
 #[tactic(auto, unfolding(crate::specs::Cells::double_bits))]
 pub(super) fn read_double(buf: &mut ParseBuf<'_>) -> Result<Value, Fault>
     ensures { ParsesAs plain_of double_bits result buf.old.0.now buf.new.0.now }
@@ -86,6 +92,7 @@ pub(super) fn read_double(buf: &mut ParseBuf<'_>) -> Result<Value, Fault>
 }
 
 // Reads the number of an ENUM value, a little-endian number of `width` bytes.
+#[inline(always)]
 #[tactic(auto, unfolding(crate::specs::Cells::variant_cell))]
 pub(super) fn read_variant(width: Width, buf: &mut ParseBuf<'_>) -> Result<Value, Fault>
     ensures { ParsesAs plain_of (variant_cell (bytes_in width)) result buf.old.0.now buf.new.0.now }

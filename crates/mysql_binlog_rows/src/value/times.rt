@@ -18,6 +18,7 @@ use std::alloc::{AllocError, Global};
 
 // Reads a TIMESTAMP of the format before fractional seconds: the seconds since 1970, as a
 // little-endian number of four bytes.
+#[inline(always)]
 #[tactic(auto, unfolding(crate::specs::Cells::timestamp_cell))]
 pub(super) fn read_timestamp(buf: &mut ParseBuf<'_>) -> Result<Value, Fault>
     ensures { ParsesAs plain_of timestamp_cell result buf.old.0.now buf.new.0.now }
@@ -27,6 +28,7 @@ pub(super) fn read_timestamp(buf: &mut ParseBuf<'_>) -> Result<Value, Fault>
 }
 
 // Returns the time whose decimal digits HHMMSS form the number. Each 24 hours are one day.
+#[inline(always)]
 fn time_of_digits(is_negative: bool, number: u32) -> Value
     ensures { plain_of result ≡ time_of_digits is_negative number }
 {
@@ -45,6 +47,7 @@ fn time_of_digits(is_negative: bool, number: u32) -> Value
 
 // Reads a TIME of the format before fractional seconds: the decimal digits HHMMSS, as a
 // little-endian number of three bytes. It is read without a sign (see `signed_old_time`).
+#[inline(always)]
 #[tactic(auto, unfolding(crate::specs::Cells::time_cell))]
 pub(super) fn read_time(buf: &mut ParseBuf<'_>) -> Result<Value, Fault>
     ensures { ParsesAs plain_of time_cell result buf.old.0.now buf.new.0.now }
@@ -96,6 +99,7 @@ fn two_digits(number: u64, unit: u64) -> u8
 
 // Returns the date and time in this year whose decimal digits MMDDHHMMSS are the last ten of the
 // number.
+#[inline(always)]
 fn date_of_digits(year: u16, number: u64) -> Value
     ensures { plain_of result ≡ date_of_digits year number }
 {
@@ -109,6 +113,7 @@ fn date_of_digits(year: u16, number: u64) -> Value
 
 // Reads a DATETIME of the format before fractional seconds: the decimal digits YYYYMMDDHHMMSS, as a
 // little-endian number of eight bytes. Fails with `YearRange` if the year is above 65535.
+#[inline(always)]
 #[tactic(auto, unfolding(crate::specs::Cells::datetime_cell))]
 pub(super) fn read_datetime(buf: &mut ParseBuf<'_>) -> Result<Value, Fault>
     ensures { ParsesAs plain_of datetime_cell result buf.old.0.now buf.new.0.now }
@@ -121,26 +126,27 @@ pub(super) fn read_datetime(buf: &mut ParseBuf<'_>) -> Result<Value, Fault>
 }
 
 // Returns a year as text, given the years since 1900.
-fn year_of(alloc: Global, years: u8) -> Result<Value, AllocError>
-    ensures { IfOk result (λ value. plain_of value ≡ year_text years) }
+fn year_of(alloc: Global, years: u8) -> Result<Vec<u8>, AllocError>
+    ensures { IfOk result (λ text. Bytes text.items ≡ year_text years) }
 {
     let mut digits = [b'0'; 4];
     write_digits(1900 + u64::from(years), &mut digits, 4);
-    Ok(Value::Bytes(Vec::from_slice(alloc, &digits)?))
+    Ok(Vec::from_slice(alloc, &digits)?)
 }
 
-// Reads a YEAR: one byte, the years since 1900. Not inlined, so that a profiler can count the
-// instructions of a cell.
+// Reads a YEAR: one byte, the years since 1900, as text, whose bytes the cell has. Not inlined, so
+// that a profiler can count the instructions of a cell.
 #[inline(never)]
 #[tactic(auto, unfolding(crate::specs::Cells::year_cell))]
-pub(super) fn read_year(alloc: Global, buf: &mut ParseBuf<'_>) -> Result<Value, Fault>
-    ensures { OrMemory result (ParsesAs plain_of year_cell result buf.old.0.now buf.new.0.now) }
+pub(super) fn read_year(alloc: Global, buf: &mut ParseBuf<'_>) -> Result<Vec<u8>, Fault>
+    ensures { OrMemory result (ParsesAs (λ text. Bytes text.items) year_cell result buf.old.0.now buf.new.0.now) }
 {
     let years = U8::deserialize(buf)?;
     Ok(year_of(alloc, years)?)
 }
 
 // Returns the date in a number's bits: five bits for the day, four for the month, and the year.
+#[inline(always)]
 fn date_of_bits(number: u32) -> Value
     requires { number < 256 ^ 3 }
     ensures { plain_of result ≡ date_of_bits number }
@@ -152,6 +158,7 @@ fn date_of_bits(number: u32) -> Value
 }
 
 // Reads a NEWDATE: the bits of a date, as a little-endian number of three bytes.
+#[inline(always)]
 #[tactic(auto, unfolding(crate::specs::Cells::date_cell))]
 pub(super) fn read_date(buf: &mut ParseBuf<'_>) -> Result<Value, Fault>
     ensures { ParsesAs plain_of date_cell result buf.old.0.now buf.new.0.now }
@@ -165,6 +172,7 @@ const MAX_TIMESTAMP: usize = 24;
 
 // Writes a number at the end of the zeros that end at `end`, as at least `places` characters,
 // including the minus, padded with zeros after the minus. Returns where it begins.
+#[inline(always)]
 fn put_places(number: i32, places: usize, room: &mut [u8; MAX_TIMESTAMP], end: usize) -> usize
     requires places { places ≤ 6 }
     requires room { (11 ≤ end) × (end ≤ 24) }
@@ -186,8 +194,8 @@ fn put_places(number: i32, places: usize, room: &mut [u8; MAX_TIMESTAMP], end: u
 }
 
 // Returns the seconds since 1970 as text, then a point and the microseconds if these aren't 0.
-fn timestamp_of(alloc: Global, seconds: i32, microseconds: i32) -> Result<Value, AllocError>
-    ensures { IfOk result (λ value. plain_of value ≡ Bytes (timestamp_text (seconds, microseconds))) }
+fn timestamp_of(alloc: Global, seconds: i32, microseconds: i32) -> Result<Vec<u8>, AllocError>
+    ensures { IfOk result (λ text. text.items ≡ timestamp_text (seconds, microseconds)) }
 {
     let mut room = [b'0'; MAX_TIMESTAMP];
     let mut end = MAX_TIMESTAMP;
@@ -196,26 +204,27 @@ fn timestamp_of(alloc: Global, seconds: i32, microseconds: i32) -> Result<Value,
         room[end] = b'.';
     }
     let start = put_places(seconds, 0, &mut room, end);
-    Ok(Value::Bytes(Vec::from_slice(alloc, &room[start..])?))
+    Ok(Vec::from_slice(alloc, &room[start..])?)
 }
 
-// Reads a TIMESTAMP with `decimals` digits of fractional seconds, as text. Not inlined, so that a
-// profiler can count the instructions of a cell.
+// Reads a TIMESTAMP with `decimals` digits of fractional seconds, as text, whose bytes the cell has.
+// Not inlined, so that a profiler can count the instructions of a cell.
 #[inline(never)]
 #[tactic(auto, unfolding(crate::specs::Cells::timestamp2_cell))]
 pub(super) fn read_timestamp2(
     alloc: Global,
     decimals: u8,
     buf: &mut ParseBuf<'_>,
-) -> Result<Value, Fault>
-    ensures { OrMemory result (ParsesAs plain_of (timestamp2_cell decimals) result buf.old.0.now
-        buf.new.0.now) }
+) -> Result<Vec<u8>, Fault>
+    ensures { OrMemory result (ParsesAs (λ text. Bytes text.items) (timestamp2_cell decimals)
+        result buf.old.0.now buf.new.0.now) }
 {
     let (seconds, microseconds) = my_timestamp_from_binary(buf, decimals)?;
     Ok(timestamp_of(alloc, seconds, microseconds)?)
 }
 
 // Reads a DATETIME with `decimals` digits of fractional seconds, in the packed DATETIME format.
+#[inline(always)]
 #[tactic(auto, unfolding(crate::specs::Cells::datetime2_cell))]
 pub(super) fn read_datetime2(decimals: u8, buf: &mut ParseBuf<'_>) -> Result<Value, Fault>
     ensures { ParsesAs plain_of (datetime2_cell decimals) result buf.old.0.now buf.new.0.now }
@@ -225,6 +234,7 @@ pub(super) fn read_datetime2(decimals: u8, buf: &mut ParseBuf<'_>) -> Result<Val
 }
 
 // Reads a TIME with `decimals` digits of fractional seconds, in the packed TIME format.
+#[inline(always)]
 #[tactic(auto, unfolding(crate::specs::Cells::time2_cell))]
 pub(super) fn read_time2(decimals: u8, buf: &mut ParseBuf<'_>) -> Result<Value, Fault>
     ensures { ParsesAs plain_of (time2_cell decimals) result buf.old.0.now buf.new.0.now }

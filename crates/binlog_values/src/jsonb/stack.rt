@@ -10,6 +10,7 @@ ghost use Rattle.binlog_values.specs.JsonbContainers.{frame, lent_scalar};
 ghost use Rattle.binlog_values.specs.JsonbVisits.{visit, append};
 ghost use Rattle.binlog_values.specs.JsonbDoms.{IsTree, Meets};
 ghost use Rattle.binlog_values.specs.JsonbStack.{IsOpen, IsCollected};
+ghost use Rattle.binlog_values.specs.declared.jsonb.stack.Collected.TheVariants as Collected;
 
 use super::container::{Container, LentScalar, Node};
 use super::dom::{JsonContainer, JsonDom};
@@ -43,6 +44,25 @@ pub(super) enum Collected {
     Members(BTreeMap<String, JsonDom>),
 }
 
+// Adds a member to an object. Not inlined: what it takes would slow down the loop over arrays.
+#[inline(never)]
+fn add_member(
+    alloc: Global,
+    members: &mut BTreeMap<String, JsonDom>,
+    key: &[u8],
+    value: JsonDom,
+) -> Result<(), Fault>
+    ensures entry { OnOk result ((c : Frame) (front : Branches) (t : Tree)
+        → IsCollected (Collected.Members members.old) c front
+        → IsTree value t
+        → IsCollected (Collected.Members members.new) c (append front (branch key.now t no_branches))) }
+    ensures memory { IfErr result (λ f. f ≡ Memory) }
+{
+    let text = key_text(alloc, key)?;
+    drop(members.insert(text, value)?);
+    Ok(())
+}
+
 impl Collected {
     // Returns the tree of the container.
     fn into_dom(self) -> JsonDom
@@ -65,11 +85,7 @@ impl Collected {
     {
         match self {
             Collected::Items(items) => Ok(items.push(value)?),
-            Collected::Members(members) => {
-                let text = key_text(alloc, key)?;
-                drop(members.insert(text, value)?);
-                Ok(())
-            }
+            Collected::Members(members) => add_member(alloc, members, key, value),
         }
     }
 }

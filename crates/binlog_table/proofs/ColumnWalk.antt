@@ -1,6 +1,7 @@
 -- Column by column: what is left of the lists tells of the columns that are left what the definitions tell.
-use Rattle.std.proofs.Common.{◌≡◌, ℕ, zero, suc, ◌+◌, ◌<◌, Bool, true, false, cond, ◌&&◌, eqb, List, [], ◌∷◌, length, take, Option, Some, None, Result, Ok, Err, refl, sym, ap, subst, ◌∙◌, arith, option_map, option_and_then}
+use Rattle.std.proofs.Common.{◌≡◌, ℕ, zero, suc, ◌+◌, ◌<◌, Bool, true, false, cond, ◌&&◌, eqb, List, [], ◌∷◌, ◌++◌, map, length, take, append_assoc, length-append, Option, Some, None, Result, Ok, Err, refl, sym, ap, subst, ◌∙◌, arith, option_map, option_and_then}
 use Rattle.std.specs.Prelude.{◌==◌, slice_get, slice_index_or}
+use Rattle.std.proofs.lemmas.List.{map-append}
 use Rattle.std.proofs.lemmas.List.Sums.{sum_by-cons}
 use Rattle.binlog_base.specs.declared.fault.Fault.{Fault}
 use Rattle.binlog_base.specs.declared.below.columns.column_type.ColumnType.{ColumnType}
@@ -21,10 +22,11 @@ use Rattle.binlog_table.specs.Lists.{DefaultCharset}
 use Rattle.binlog_table.specs.declared.table_map.optional.columns.Walk.{Walk}
 use Rattle.binlog_table.specs.ColumnTypes.{json_count, raw_type_of, real_type_of, some_of, real_type}
 use Rattle.binlog_table.specs.Fields.{Kept, is_numeric_number, numeric_count, in_group}
-use Rattle.binlog_table.specs.CharsetsLeft.{CharsetsLeft, row_charset}
-use Rattle.binlog_table.specs.TableColumns.{Column, Parts, column_by, column_then, columns_by, named, is_numeric_at, sign_in, one_more, ordinal_of, charset_by, charset_of_group, type_at, column_at, unless_faulty, table_columns, typed}
+use Rattle.binlog_table.specs.Charsets.{zero_without}
+use Rattle.binlog_table.specs.CharsetsLeft.{CharsetsLeft, row_charset, NoCharsetsLeft}
+use Rattle.binlog_table.specs.TableColumns.{Column, Parts, column_by, column_then, columns_by, named, is_numeric_at, sign_in, one_more, ordinal_of, charset_by, charset_of_group, type_at, column_at, unless_faulty, table_columns, typed, passed, PassesFirst, PassesOver, FaultFirst}
 use Rattle.binlog_table.specs.Extracted.{IsStart, list_or, kept_of, field_fault}
-use Rattle.binlog_table.specs.ColumnsLeft.{chunks_of, parts_left, columns_left, Follows, Advances, bits_after_first, bit_here, bits_after, sign_left, type_left}
+use Rattle.binlog_table.specs.ColumnsLeft.{chunks_of, parts_left, columns_left, Follows, Advances, bits_after_first, bit_here, bits_after, sign_left, type_left, NoListsLeft}
 use Rattle.binlog_table.specs.Chunks.{chunk_at, chunk_left, typed_chunk, after_typed, chunk, type_chunk, after_chunk}
 use Rattle.binlog_table.specs.TableMap.{TableMap}
 use Rattle.binlog_table.specs.Lists.{pair_with}
@@ -289,6 +291,79 @@ walk_follows v w raw raw_type type server types known real metadata signs charac
       key = λ j. rw column (key_later v.column v.keys.keys w.keys.keys keys j);
       json_place = json_later v.json_place w.json_place raw w.types.now v.types.now types json;
     }
+
+-- ---- columns that are passed over
+
+-- a group without lists goes on as it is
+still : (b : Bool) (c : CharsetsLeft) → NoCharsetsLeft c → Advances b (row_charset c) (row_charset c)
+still true c none = λ k. rw (none.pairs, none.list) refl
+still false c none = λ k. refl
+
+zero_there : (default : Option ℕ) → (x : ℕ) × (zero_without (Ok default) ≡ Ok x)
+zero_there None = (0, refl)
+zero_there (Some x) = (x, refl)
+
+default_there : (c : CharsetsLeft) → NoCharsetsLeft c → (x : ℕ) × (row_charset c 0 ≡ Ok x)
+default_there c none = let zero = zero_there c.default in (zero.0, rw (none.pairs, none.list) zero.1)
+
+one_there : (a b : Bool) (r s : Result ℕ Fault) (x y : ℕ) → r ≡ Ok x → s ≡ Ok y → (z : ℕ) × (cond a r (cond b s (Ok 0)) ≡ Ok z)
+one_there true b r s x y h k = (x, h)
+one_there false true r s x y h k = (y, k)
+one_there false false r s x y h k = (0, refl)
+
+pub type_there : (raw_type type : ColumnType) (chunk : Option (List ℕ)) → real_type raw_type chunk ≡ Ok type → (t : ColumnType) × (typed (some_of (real_type raw_type chunk)) ≡ Ok t)
+type_there raw_type type chunk h = (type, rw h refl)
+
+-- a column has no fault where its type has none and no list is left
+column_there : (v : Walk) (raw_type type : ColumnType) → NoListsLeft v → typed (some_of (real_type raw_type (typed_chunk raw_type (metadata_of v)))) ≡ Ok type
+    → (c : Column) × (column_by (parts_of_next v raw_type) 0 ≡ Ok c)
+column_there v raw_type type none real =
+    let character = default_there v.characters none.characters in
+    let enum = default_there v.enums none.enums in
+    let charset = one_there (character_group v.server type) (enum_or_set_group v.server type) (row_charset v.characters 0) (row_charset v.enums 0) character.0 enum.0 character.1 enum.1 in (
+      record { column_type = type; metadata = typed_chunk raw_type (metadata_of v); unsigned = bit_here (numeric_group v.server raw_type) v.signs; charset = charset.0; name = None; is_key = false; json_place = v.json_place },
+      rw (real, charset.1, none.names, none.keys) refl,
+    )
+
+pub passes_one : (v w : Walk) (raw : ℕ) (raw_type type : ColumnType) → NoListsLeft v → w.server ≡ v.server → v.types.now ≡ raw ∷ w.types.now → column_type_of raw ≡ Ok raw_type
+    → typed (some_of (real_type raw_type (typed_chunk raw_type (metadata_of v)))) ≡ Ok type → metadata_of w ≡ after_typed raw_type (metadata_of v) → w.signs ≡ bits_after (numeric_group v.server raw_type) v.signs
+    → w.characters ≡ v.characters → w.enums ≡ v.enums → w.names ≡ v.names → w.keys ≡ v.keys → w.column ≡ v.column + 1
+    → w.json_place ≡ v.json_place + cond (eqb raw 245) 1 0 → PassesOver 1 (columns_left v) (columns_left w)
+passes_one v w raw raw_type type none server types known real metadata signs characters enums names keys column json =
+    let there = column_there v raw_type type none real in
+    let follows =
+    walk_follows v w raw raw_type type server types known real metadata signs (rw characters (still (character_group v.server type) v.characters none.characters)) (rw enums (still (enum_or_set_group v.server type) v.enums none.enums))
+    (λ j. rw (names, none.names) refl) column (λ i low. rw (keys, none.keys) refl) json in
+    (there.0 ∷ [], refl, walk_next v w there.0 (rw types (omega arith)) (column_of_next v raw w.types.now raw_type types known ∙ there.1) follows)
+
+pub passes_none : (columns : List (Result Column Fault)) → PassesOver 0 columns columns
+passes_none columns = ([], refl, refl)
+
+pub passes_more : (n m : ℕ) (old some new : List (Result Column Fault)) → PassesOver n old some → PassesOver m some new → PassesOver (n + m) old new
+passes_more n m old some new first second =
+    let columns : old ≡ map Ok (first.0 ++ second.0) ++ new = first.2 ∙ ap (λ (l : List (Result Column Fault)). map Ok first.0 ++ l) second.2 ∙ sym (append_assoc (map Ok first.0) (map Ok second.0) new) ∙ ap (λ (l : List (Result Column Fault)). l ++ new) (sym (map-append Ok first.0 second.0)) in
+    (first.0 ++ second.0, rw (length-append first.0 second.0, first.1, second.1) refl, columns)
+
+pub passes_then : (n m : ℕ) (old at some new : List (Result Column Fault)) → PassesOver n old at → at ≡ some → PassesOver m some new → PassesOver (n + m) old new
+passes_then n m old at some new first same second = passes_more n m old some new (subst (λ (l : List (Result Column Fault)). PassesOver n old l) same first) second
+
+-- what a call for one column tells
+one_passed : (old new : List (Result Column Fault)) (c : Result Column Fault) (u : Unit {0}) → old ≡ c ∷ new → Ok u ≡ passed c → PassesOver 1 old new
+one_passed old new (Ok c) u h told = (c ∷ [], refl, h)
+one_passed old new (Err e) u h told = absurd cc
+
+pub passed_one : (old new : List (Result Column Fault)) (r : Result (Unit {0}) Fault) (u : Unit {0}) → r ≡ Ok u → PassesFirst old (Some r) new → PassesOver 1 old new
+passed_one old new r u is h = one_passed old new h.0 u h.1 (sym is ∙ h.2)
+
+fault_told : (old new : List (Result Column Fault)) (c : Result Column Fault) (e : Fault) → old ≡ c ∷ new → Err e ≡ passed c → FaultFirst e old new
+fault_told old new (Ok c) e h told = absurd cc
+fault_told old new (Err d) e h told = let same : d ≡ e = cc in rw (h, same) (refl, refl)
+
+pub passed_fault : (old new : List (Result Column Fault)) (r : Result (Unit {0}) Fault) (e : Fault) → r ≡ Err e → PassesFirst old (Some r) new → FaultFirst e old new
+passed_fault old new r e is h = fault_told old new h.0 e h.1 (sym is ∙ h.2)
+
+pub passed_end : (old new : List (Result Column Fault)) → PassesFirst old None new → FaultFirst fault.NoColumnType old new
+passed_end old new h = rw h.0 (refl, h.1)
 
 -- what the kept fields tell
 abbrev parts_with : TableMap → Kept → Parts

@@ -235,3 +235,13 @@ two_bytes t h = absurd cc
 pub array : (t : ColumnType) → chunk_of t ≡ chunk.Array → type_chunk t ≡ array_chunk
 array column.MYSQL_TYPE_TYPED_ARRAY h = refl
 array t h = absurd cc
+
+-- a chunk of a fixed length is read as so many bytes
+pub parses_none : (t : ColumnType) (x : List ℕ) → chunk_of t ≡ chunk.Empty → (type_chunk t).parse x ≡ (take_bytes 0).parse x
+parses_none t x h = rw (empty_type t h) refl
+
+pub parses_one : (t : ColumnType) (x : List ℕ) → chunk_of t ≡ chunk.OneByte → (type_chunk t).parse x ≡ (take_bytes 1).parse x
+parses_one t x h = rw (one_byte t h) refl
+
+pub parses_two : (t : ColumnType) (x : List ℕ) → chunk_of t ≡ chunk.TwoBytes → (type_chunk t).parse x ≡ (take_bytes 2).parse x
+parses_two t x h = rw (two_bytes t h) refl

@@ -37,6 +37,11 @@ pub record CharsetsLeft : Type 0 where
   pub taken : ℕ
   pub room : ℕ
 
+-- nothing is left of the pairs and the list
+pub record NoCharsetsLeft (c : CharsetsLeft) : Type 0 where
+  pub pairs : c.pairs ≡ []
+  pub list : c.list ≡ []
+
 -- the character set of column i of the group
 abbrev pub charset_of : CharsetsLeft → ℕ → Result (Option ℕ) Fault
 charset_of c i = charset_from c.ordinal c.default c.pairs c.list i

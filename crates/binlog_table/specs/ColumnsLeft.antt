@@ -1,5 +1,5 @@
 -- The columns that are left, as they are visited in order.
-use Rattle.std.specs.Prelude.{◌≡◌, ℕ, zero, suc, ◌+◌, ◌<◌, ◌^◌, Bool, true, false, List, [], ◌∷◌, length, take, Result, Ok, slice_get, if◌then◌else◌}
+use Rattle.std.specs.Prelude.{◌≡◌, ℕ, zero, suc, ◌+◌, ◌<◌, ◌^◌, Bool, true, false, List, [], ◌∷◌, length, take, Result, Ok, Some, slice_get, if◌then◌else◌}
 use Rattle.std.specs.Option.{option_map}
 use Rattle.binlog_base.specs.declared.fault.Fault.{Fault}
 use Rattle.binlog_base.specs.declared.below.columns.column_type.ColumnType.{ColumnType}
@@ -8,12 +8,13 @@ use Rattle.binlog_base.specs.Strings.{lenenc_string}
 use Rattle.binlog_base.specs.Items.{items}
 use Rattle.binlog_base.specs.Servers.{character_group, enum_or_set_group}
 use Rattle.binlog_table.specs.declared.table_map.optional.columns.Walk.{Walk}
+use Rattle.binlog_table.specs.declared.table_map.optional.columns.Stretch.{Stretch}
 use Rattle.binlog_table.specs.declared.table_map.optional.columns.TableColumn.{TableColumn}
 use Rattle.binlog_table.specs.Chunks.{ChunksLeft, chunk_left}
 use Rattle.binlog_table.specs.ColumnTypes.{raw_type_of, real_type_of, json_count}
 use Rattle.binlog_table.specs.Fields.{is_numeric_number}
 use Rattle.binlog_table.specs.KeysLeft.{key_left}
-use Rattle.binlog_table.specs.CharsetsLeft.{row_charset}
+use Rattle.binlog_table.specs.CharsetsLeft.{row_charset, NoCharsetsLeft}
 use Rattle.binlog_table.specs.TableColumns.{Column, Parts, column_by, columns_by, typed, named, charset_by}
 
 -- a column, without its place in memory
@@ -102,6 +103,18 @@ pub record HasRoom (w : Walk) : Type 0 where
   pub enums : w.enums.ordinal + length w.types.now < 2 ^ 64
   pub column : w.column + length w.types.now < 2 ^ 64
   pub json_place : w.json_place + length w.types.now < 2 ^ 64
+
+-- nothing is left of the lists of names, keys and character sets
+pub record NoListsLeft (w : Walk) : Type 0 where
+  pub names : items lenenc_string w.names.bytes ≡ []
+  pub keys : w.keys.keys ≡ []
+  pub characters : NoCharsetsLeft w.characters
+  pub enums : NoCharsetsLeft w.enums
+
+-- a walk n columns later in a stretch of columns that no list tells of, with the sign bits that are
+-- left there
+abbrev pub walk_at : Walk → ℕ → Stretch → List Bool → Walk
+walk_at w n s signs = record w { types = s.types; metadata = Some s.metadata; signs = signs; column = w.column + n; json_place = s.json_place }
 
 -- the columns that are left, up to the first with a fault
 unfoldable pub columns_left : Walk → List (Result Column Fault)

@@ -1,5 +1,5 @@
 -- The columns of a table, by its table map event.
-use Rattle.std.specs.Prelude.{◌≡◌, ℕ, zero, suc, ◌&&◌, Bool, true, false, List, [], ◌∷◌, length, take, Result, Ok, Err, Option, Some, None, MatchOption, slice_index_or, if◌then◌else◌}
+use Rattle.std.specs.Prelude.{◌≡◌, ℕ, zero, suc, ◌<◌, ◌&&◌, Bool, true, false, List, [], ◌∷◌, ◌++◌, map, length, take, Result, Ok, Err, Option, Some, None, MatchOption, slice_index_or, if◌then◌else◌}
 use Rattle.std.specs.Option.{option_map}
 use Rattle.binlog_base.specs.declared.fault.Fault.{Fault}
 use Rattle.binlog_base.specs.declared.fault.Fault.TheVariants.{NoColumnType}
@@ -72,6 +72,23 @@ passed c = result_map (λ _. tt) c
 -- or none were left.
 abbrev pub PassesFirst : List (Result Column Fault) → Option (Result (Unit {0}) Fault) → List (Result Column Fault) → Type 0
 PassesFirst old r new = MatchOption r ((old ≡ []) × (new ≡ [])) (λ told. (c : Result Column Fault) × (old ≡ c ∷ new) × (told ≡ passed c))
+
+-- so many columns without a fault, and then others
+abbrev pub PassesOver : ℕ → List (Result Column Fault) → List (Result Column Fault) → Type 0
+PassesOver n old new = (front : List Column) × (length front ≡ n) × (old ≡ map Ok front ++ new)
+
+-- the first of these columns has this fault, and the others follow it; or there are none, for which
+-- the fault is NoColumnType
+abbrev pub FaultFirst : Fault → List (Result Column Fault) → List (Result Column Fault) → Type 0
+FaultFirst e [] new = (e ≡ NoColumnType) × (new ≡ [])
+FaultFirst e (c ∷ others) new = (c ≡ Err e) × (new ≡ others)
+
+-- A call passed over so many of the columns that were left; or over those before one with a fault,
+-- and told how many they are, and the fault.
+abbrev pub PassesMany : ℕ → List (Result Column Fault) → Result (Unit {0}) (ℕ × Fault) → List (Result Column Fault) → Type 0
+PassesMany count old (Ok done) new = PassesOver count old new
+PassesMany count old (Err stop) new =
+    (stop.0 < count) × ((rest : List (Result Column Fault)) × PassesOver stop.0 old rest × FaultFirst stop.1 rest new)
 
 -- ---- one part after another
 

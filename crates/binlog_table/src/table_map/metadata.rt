@@ -1,6 +1,6 @@
 //! The metadata of columns, and the types that it gives.
 
-ghost use Rattle.std.specs.Prelude.{◌≡◌, false, ℕ, List, Option, option_map, ◌<◌, length};
+ghost use Rattle.std.specs.Prelude.{◌≡◌, false, ℕ, List, Option, IfSome, Ok, option_map, ◌<◌, length};
 ghost use Rattle.binlog_base.specs.Format.{ParsesAs};
 ghost use Rattle.binlog_table.specs.Chunks.{metadata_len, inner_metadata, array_chunk, type_chunk, chunk, chunk_at, typed_chunk, after_typed};
 ghost use Rattle.binlog_table.specs.ColumnTypes.{string_type, real_type};
@@ -99,6 +99,23 @@ pub(super) fn take_chunk<'a>(raw_type: RawType, metadata: &mut Option<&'a [u8]>)
             *metadata = None;
             None
         }
+    }
+}
+
+/// Returns the chunk of a column of this type, and the metadata after it; `None` where it is cut, or
+/// the count of its bytes isn't fixed.
+#[inline(always)]
+pub(super) fn split_chunk<'a>(raw_type: RawType, metadata: &'a [u8]) -> Option<(&'a [u8], &'a [u8])>
+    ensures { IfSome result (λ r. (type_chunk raw_type).parse metadata.now ≡ Ok (r.0.now, r.1.now)) }
+{
+    let len = raw_type.chunk_len();
+    if len > 2 {
+        return None;
+    }
+    let mut buf = ParseBuf(metadata);
+    match buf.eat(len) {
+        Ok(chunk) => Some((chunk, buf.0)),
+        Err(_) => None,
     }
 }
 

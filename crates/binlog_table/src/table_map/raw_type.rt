@@ -1,9 +1,11 @@
 //! Column types with what a walk over columns asks of each, in tables by their numbers.
 
-ghost use Rattle.std.specs.Prelude.{◌≡◌, ◌<◌, ◌≤◌, length, IsTrue, List, Option, Ok, ℕ};
+ghost use Rattle.std.specs.Prelude.{◌≡◌, ◌<◌, ◌≤◌, length, IsTrue, IfSome, List, Option, Ok, ℕ};
 ghost use Rattle.binlog_base.specs.ColumnTypes.{column_type_of};
+ghost use Rattle.binlog_base.specs.Format.{take_bytes};
 ghost use Rattle.binlog_base.specs.Servers.{numeric_group};
 ghost use Rattle.binlog_base.specs.declared.below.columns.server.Server.TheVariants.{MySql, MariaDb};
+ghost use Rattle.binlog_table.specs.Chunks.{type_chunk};
 ghost use Rattle.binlog_table.specs.ColumnTypes.{real_type};
 ghost use Rattle.binlog_table.specs.Fields.{is_numeric_number, numeric_count};
 ghost use Rattle.binlog_table.specs.RawTypes.{chunk_of, sort_of, has_charset, IsRowOf, IsRow};
@@ -366,6 +368,20 @@ impl RawType {
         }
     }
 
+    /// Returns the raw type that has a number, if the tables have it.
+    #[inline(always)]
+    pub fn in_tables(number: u8) -> Option<RawType>
+        ensures { IfSome result (λ t. column_type_of number ≡ Ok t) }
+    {
+        if number < LOW_COUNT {
+            Some(RawType::of_row(low_row(number)))
+        } else if number >= FIRST_HIGH {
+            Some(RawType::of_row(high_row(number)))
+        } else {
+            None
+        }
+    }
+
     /// Returns the column type.
     #[inline(always)]
     pub fn column_type(self) -> ColumnType
@@ -380,6 +396,15 @@ impl RawType {
         ensures { result ≡ chunk_of self }
     {
         self.chunk
+    }
+
+    /// Returns how many bytes a chunk of the type has; 3 if their count isn't fixed.
+    #[inline(always)]
+    #[tactic(auto, using(crate::proofs::TypeTables::parses_none, crate::proofs::TypeTables::parses_one, crate::proofs::TypeTables::parses_two))]
+    pub fn chunk_len(self) -> usize
+        ensures { result < 3 → (x : List ℕ) → (type_chunk self).parse x ≡ (take_bytes result).parse x }
+    {
+        self.chunk as usize
     }
 
     /// Returns whether columns of the type are numeric to the server.

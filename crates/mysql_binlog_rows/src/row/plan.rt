@@ -1,12 +1,11 @@
 //! Reads the images of rows, by a plan that is made once for an event.
 
-ghost use Rattle.std.specs.Prelude.{◌≡◌, ◌≤◌, ◌<◌, ◌+◌, ◌^◌, ◌++◌, ◌∷◌, [], false, IfOk, IfErr, OnOk, map, drop, length, slice_index_or};
+ghost use Rattle.std.specs.Prelude.{◌≡◌, ◌≤◌, ◌<◌, ◌+◌, ◌^◌, ◌++◌, ◌∷◌, ℕ, [], true, false, IfOk, IfErr, OnOk, map, drop, length, slice_index_or};
 ghost use Rattle.std.specs.Option.{option_map};
 ghost use Rattle.binlog_base.specs.declared.fault.Fault.TheVariants as Fault;
 ghost use Rattle.binlog_base.specs.Format.{Parses, ParsesAs, OrMemory};
 ghost use Rattle.binlog_base.specs.Items.{result_map};
 ghost use Rattle.binlog_table.specs.ColumnsLeft.{seen_column};
-ghost use Rattle.binlog_table.specs.TableColumns.{passed};
 ghost use Rattle.mysql_binlog_rows.specs.Cells.{cell_of, json_cell};
 ghost use Rattle.binlog_base.specs.Values.{column_flags_of};
 ghost use Rattle.mysql_binlog_rows.specs.Images.{default_name, row_flags};
@@ -156,18 +155,6 @@ fn next_column<'a>(walk: &mut TableColumns<'a>) -> Result<TableColumn<'a>, Fault
     }
 }
 
-// Passes over the next column of a table, or returns its fault; `NoColumnType` after the last column.
-#[inline(always)]
-fn pass_column(walk: &mut TableColumns<'_>) -> Result<(), Fault>
-    ensures column { result ≡ passed (first_column walk.old.columns) }
-    ensures rest { walk.new.columns ≡ after_first walk.old.columns }
-    ensures steps { OnOk result (walk.old.steps + 1 ≤ walk.new.steps) }
-    ensures grows { walk.old.steps ≤ walk.new.steps }
-    ensures most { walk.new.most ≤ walk.old.most + 1 }
-{
-    walk.skip_column().unwrap_or(Err(Fault::NoColumnType))
-}
-
 // Returns the index of a JSON column among the JSON columns of the table; `None` for any other
 // column.
 fn json_place_of(column: &TableColumn<'_>) -> Option<usize>
@@ -190,6 +177,29 @@ fn slot_of(column: &TableColumn<'_>) -> Slot
     }
 }
 
+/// How many bits are looked at before their columns are passed over, so that a fault of a column is
+/// found before the rest of a long bitmap is read.
+const FEW: usize = 256;
+
+// Returns how many columns from this index on aren't in the image, up to the next one that is;
+// `FEW` if there are more.
+fn absent_from(present: &BitView<'_>, index: usize) -> usize
+    requires { index ≤ length present.now }
+    ensures within { index + result ≤ length present.now }
+    ensures absent { (i : ℕ) → index ≤ i → i < index + result
+        → slice_index_or present.now i false ≡ false }
+    ensures next { index + result < length present.now → result < FEW
+        → slice_index_or present.now (index + result) false ≡ true }
+{
+    let end = present.len().min(index.saturating_add(FEW));
+    for next in index..end {
+        if is_set(present, next) {
+            return next - index;
+        }
+    }
+    end - index
+}
+
 // Plans the columns of the event, of which those with a bit in `present` are in the image. Memory
 // is reserved for `count` columns in the image.
 fn plan_columns(
@@ -207,9 +217,9 @@ fn plan_columns(
     let mut slots = Vec::with_capacity(alloc, count)?;
     let (schema, name) = (table.database_name_raw(), table.table_name_raw());
     let mut columns = ColumnList::new(alloc, schema, name, count)?;
-    let mut walked = 0;
     let mut fault = None;
-    for index in 0..present.len() {
+    let mut index = 0;
+    while index < present.len() {
         if is_set(present, index) {
             match next_column(walk) {
                 Err(e) => {
@@ -219,18 +229,25 @@ fn plan_columns(
                 Ok(column) => {
                     add_column(&mut columns, index, &column)?;
                     slots.push(slot_of(&column))?;
+                    index += 1;
                 }
             }
-        } else if let Err(e) = pass_column(walk) {
-            fault = Some(e);
-            break;
+        } else {
+            let absent = absent_from(present, index);
+            match walk.skip_columns(absent) {
+                Err((passed, e)) => {
+                    index += passed;
+                    fault = Some(e);
+                    break;
+                }
+                Ok(()) => index += absent,
+            }
         }
-        walked += 1;
     }
     Ok(Planned {
         slots,
         columns,
-        walked,
+        walked: index,
         fault,
     })
 }

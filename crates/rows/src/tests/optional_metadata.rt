@@ -383,6 +383,41 @@ fn has_a_long_and_a_varchar(table: &TableMapEvent<'_>) -> bool {
     columns.fault().is_none() && are_a_long_and_a_varchar(&mut columns)
 }
 
+/// The table d.t of a LONG, a VARCHAR and a STRING column of no known kind, without lists.
+const FAULTY_LAST: &[u8] =
+    b"\x01\0\0\0\0\0\x01\0\x01d\0\x01t\0\x03\x03\x0f\xfe\x04\x0a\0\x01\x02\0";
+
+/// Returns whether two columns are passed over one by one and at once, so that as many steps are
+/// made and none is left.
+fn are_two_columns(table: &TableMapEvent<'_>) -> bool {
+    let mut one = TableColumns::new(table);
+    let mut all = TableColumns::new(table);
+    matches!(one.skip_column(), Some(Ok(())))
+        && matches!(one.skip_columns(1), Ok(()))
+        && matches!(all.skip_columns(2), Ok(()))
+        && one.steps() == 6
+        && all.steps() == 6
+        && matches!(all.skip_columns(1), Err((0, Fault::NoColumnType)))
+}
+
+/// Returns whether a fault comes after two columns that are passed over.
+fn is_faulty_after_two(table: &TableMapEvent<'_>) -> bool {
+    let mut columns = TableColumns::new(table);
+    matches!(
+        columns.skip_columns(3),
+        Err((2, Fault::UnexpectedColumnType(0x31)))
+    ) && columns.next().is_none()
+}
+
+#[test]
+fn columns_passed_over(rt: HostRuntime) -> Result<(), Fail> {
+    let named: TableMapEvent<'_> = ParseBuf(NAMED).parse(8)?;
+    let faulty: TableMapEvent<'_> = ParseBuf(FAULTY_LAST).parse(8)?;
+    assert!(rt; are_two_columns(&named));
+    assert!(rt; is_faulty_after_two(&faulty));
+    Ok(())
+}
+
 #[test]
 fn columns_in_one_walk(rt: HostRuntime) -> Result<(), Fail> {
     let table: TableMapEvent<'_> = ParseBuf(NAMED).parse(8)?;

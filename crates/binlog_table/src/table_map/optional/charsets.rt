@@ -1,12 +1,12 @@
 //! The character sets of columns.
 
-ghost use Rattle.std.specs.Prelude.{◌≡◌, ◌<◌, ◌≤◌, ◌+◌, ◌++◌, true, ◌^◌, length, ℕ, suc, OnOk, Option, Some, None};
+ghost use Rattle.std.specs.Prelude.{◌≡◌, ◌<◌, ◌≤◌, ◌+◌, ◌++◌, true, ◌^◌, IsTrue, length, ℕ, suc, OnOk, Option, Some, None};
 ghost use Rattle.std.specs.Iterator.{YieldsFirst, item_count};
 ghost use Rattle.std.specs.Option.{option_map};
 ghost use Rattle.binlog_base.specs.Items.{items};
 ghost use Rattle.binlog_table.specs.Charsets.{charset_items};
 ghost use Rattle.binlog_table.specs.KeysLeft.{Agree};
-ghost use Rattle.binlog_table.specs.CharsetsLeft.{charset_of, charsets_of, row_charset};
+ghost use Rattle.binlog_table.specs.CharsetsLeft.{charset_of, charsets_of, row_charset, NoCharsetsLeft};
 ghost use Rattle.binlog_base.specs.Numbers.{lenenc_bytes};
 ghost use Rattle.binlog_table.specs.Lists as Spec;
 ghost use Rattle.binlog_table.specs.Lists.{pair_with, low_bits, default_charset, Spends};
@@ -238,6 +238,15 @@ impl<'a> IterCharset<'a> {
         ensures fits { result < 2 ^ 65 }
     {
         u128::from(self.pairs.taken()) + u128::from(self.list.taken())
+    }
+
+    /// Returns whether nothing is left of the lists: all further columns of the group have the
+    /// default.
+    #[tactic(auto, using(binlog_base::specs::Lemmas::Items::items_none))]
+    pub(super) fn is_at_end(&self) -> bool
+        ensures { IsTrue result → NoCharsetsLeft self.now }
+    {
+        self.head.is_none() && self.list.is_at_end()
     }
 
     // Returns the character set of the next column of the group; `None` where it has none.

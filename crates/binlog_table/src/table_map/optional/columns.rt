@@ -1,10 +1,11 @@
 //! The columns of a table, in one walk over the lists that describe them.
 
-ghost use Rattle.std.specs.Prelude.{◌≡◌, false, ◌<◌, ◌≤◌, ◌+◌, ◌^◌, ℕ, suc, List, [], ◌∷◌, length, Some, None, Ok, Err, OnOk, IfOk, IfErr, ◌==◌, if◌then◌else◌};
+ghost use Rattle.std.specs.Prelude.{◌≡◌, false, ◌<◌, ◌≤◌, ◌+◌, ◌^◌, ℕ, suc, List, [], ◌∷◌, length, IsTrue, IsFalse, Some, None, Ok, Err, OnOk, IfOk, IfErr, ◌==◌, if◌then◌else◌};
 ghost use Rattle.std.specs.Option.{option_map};
 ghost use Rattle.std.specs.Iterator.{YieldsFirstBy, item_count};
 ghost use Rattle.binlog_base.specs.Items.{items, result_map};
 ghost use Rattle.binlog_base.specs.Strings.{lenenc_string};
+ghost use Rattle.binlog_base.specs.declared.below.columns.column_type.ColumnType.{ColumnType};
 ghost use Rattle.binlog_base.specs.declared.below.columns.column_type.ColumnType.TheVariants.{MYSQL_TYPE_JSON};
 ghost use Rattle.binlog_base.specs.ColumnTypes.{column_number};
 ghost use Rattle.binlog_base.specs.Servers.{numeric_group, character_group, enum_or_set_group};
@@ -12,10 +13,11 @@ ghost use Rattle.binlog_table.specs.ColumnTypes.{some_of, real_type};
 ghost use Rattle.binlog_table.specs.RawTypes.{has_charset};
 ghost use Rattle.binlog_table.specs.Fields.{fields};
 ghost use Rattle.binlog_table.specs.CharsetsLeft.{row_charset};
-ghost use Rattle.binlog_table.specs.TableColumns.{typed, named, column_by, columns_by, column_at, table_columns, PassesFirst};
+ghost use Rattle.binlog_table.specs.TableColumns.{typed, named, column_by, columns_by, column_at, table_columns, PassesFirst, PassesOver, PassesMany};
 ghost use Rattle.binlog_table.specs.Extracted.{kept_of, kept_bytes, field_fault, fields_of};
-ghost use Rattle.binlog_table.specs.ColumnsLeft.{seen_column, bit_here, bits_after, charset_here, parts_left, columns_left, Follows, Advances, HasRoom, steps_of, most_of};
+ghost use Rattle.binlog_table.specs.ColumnsLeft.{seen_column, bit_here, bits_after, charset_here, parts_left, columns_left, Follows, Advances, HasRoom, NoListsLeft, walk_at, steps_of, most_of};
 ghost use Rattle.binlog_table.specs.Lists.{Spends, count_of};
+ghost use Rattle.binlog_table.specs.declared.table_map.optional.columns.Walk.{Walk};
 
 use super::charsets::IterCharset;
 use super::extractor::OptionalMetaExtractor;
@@ -23,7 +25,7 @@ use super::keys::IterPrimaryKey;
 use super::lists::IterNames;
 use super::names::ColumnName;
 use crate::table_map::TableMapEvent;
-use crate::table_map::metadata::{real_type, take_chunk};
+use crate::table_map::metadata::{real_type, split_chunk, take_chunk};
 use crate::table_map::raw_type::RawType;
 use binlog_base::below::{ColumnType, Server};
 use binlog_base::bits::BitIter;
@@ -63,6 +65,15 @@ struct Walk<'a> {
     column: u64,
     json_place: usize,
     fields: u64,
+}
+
+/// Columns that no list tells of: what is left of their types and metadata, and how many columns
+/// before the next one have the raw type JSON.
+#[derive(Clone, Copy)]
+struct Stretch<'a> {
+    types: &'a [u8],
+    metadata: &'a [u8],
+    json_place: usize,
 }
 
 // Returns the real type of a column, by its raw type and its chunk.
@@ -201,6 +212,120 @@ fn next_column<'a>(walk: &mut Walk<'a>) -> Result<TableColumn<'a>, Fault>
     })
 }
 
+// Returns whether nothing is left of the lists of names, keys and character sets.
+#[tactic(auto, using(binlog_base::specs::Lemmas::Items::items_none))]
+fn has_no_lists(walk: &Walk<'_>) -> bool
+    ensures { IsTrue result → NoListsLeft walk.now }
+{
+    walk.names.is_at_end()
+        && walk.keys.peek().is_none()
+        && walk.characters.is_at_end()
+        && walk.enums.is_at_end()
+}
+
+// Returns whether a column of this raw type and chunk has a real type. Most raw types are real.
+#[inline(always)]
+#[tactic(auto, using(crate::proofs::ColumnWalk::type_there))]
+fn has_type(raw_type: RawType, chunk: &[u8]) -> bool
+    ensures { IsTrue result
+        → (t : ColumnType) × (typed (some_of (real_type raw_type (Some chunk.now))) ≡ Ok t) }
+{
+    if raw_type.is_real() {
+        return true;
+    }
+    match real_type(raw_type.column_type(), Some(chunk)) {
+        Ok(_) => true,
+        Err(_) => false,
+    }
+}
+
+// Passes over the next column of a stretch. Returns false, and changes nothing, if no column is
+// left, or the column has a fault, a type that isn't in the tables, or no chunk of a fixed length.
+#[inline(always)]
+fn pass_column(server: Server, stretch: &mut Stretch<'_>, signs: &mut BitIter<'_>) -> bool
+    requires json_place { stretch.old.json_place + length stretch.old.types.now < 2 ^ 64 }
+    ensures passed { IsTrue result → (w : Walk) (n : ℕ) → w.server ≡ server → NoListsLeft w
+        → PassesOver 1 (columns_left (walk_at w n stretch.old signs.old))
+        (columns_left (walk_at w (n + 1) stretch.new signs.new)) }
+    ensures kept { IsFalse result → (stretch.new ≡ stretch.old) × (signs.new ≡ signs.old) }
+    ensures one { IsTrue result
+        → length stretch.old.types.now ≡ length stretch.new.types.now + 1 }
+    ensures json_place { IsTrue result → stretch.new.json_place ≤ stretch.old.json_place + 1 }
+{
+    let Some((number, types)) = stretch.types.split_first() else {
+        return false;
+    };
+    let Some(raw_type) = RawType::in_tables(*number) else {
+        return false;
+    };
+    let Some((chunk, metadata)) = split_chunk(raw_type, stretch.metadata) else {
+        return false;
+    };
+    if !has_type(raw_type, chunk) {
+        return false;
+    }
+    stretch.types = types;
+    stretch.metadata = metadata;
+    stretch.json_place += json_columns(*number);
+    next_sign(server, raw_type, signs);
+    true
+}
+
+// Passes over at most so many columns, up to the first for which `pass_column` returns false.
+// Returns how many; 0 where something is left of the lists. Not inlined, so that the stretch stays
+// in registers.
+#[inline(never)]
+fn pass_stretch(walk: &mut Walk<'_>, most: usize) -> usize
+    requires room { HasRoom walk.old }
+    ensures columns { PassesOver result (columns_left walk.old) (columns_left walk.new) }
+    ensures within { result ≤ most }
+    ensures room { HasRoom walk.new }
+    ensures steps { steps_of walk.old + result ≤ steps_of walk.new }
+    ensures most { most_of walk.new ≤ most_of walk.old + result }
+{
+    let Some(metadata) = walk.metadata else {
+        return 0;
+    };
+    if !has_no_lists(walk) {
+        return 0;
+    }
+    let mut stretch = Stretch {
+        types: walk.types,
+        metadata,
+        json_place: walk.json_place,
+    };
+    let mut passed = 0;
+    while passed < most && pass_column(walk.server, &mut stretch, &mut walk.signs) {
+        passed += 1;
+    }
+    walk.types = stretch.types;
+    walk.metadata = Some(stretch.metadata);
+    walk.column += passed as u64;
+    walk.json_place = stretch.json_place;
+    passed
+}
+
+/// How many columns are worth a call of `pass_stretch`.
+const MANY: usize = 8;
+
+// Passes over at most so many columns, up to the first with a fault, and returns how many. That may
+// be none: where they are few, or something is left of the lists.
+#[inline(always)]
+#[tactic(auto, using(crate::proofs::ColumnWalk::passes_none))]
+fn pass_columns(walk: &mut Walk<'_>, most: usize) -> usize
+    requires room { HasRoom walk.old }
+    ensures columns { PassesOver result (columns_left walk.old) (columns_left walk.new) }
+    ensures within { result ≤ most }
+    ensures room { HasRoom walk.new }
+    ensures steps { steps_of walk.old + result ≤ steps_of walk.new }
+    ensures most { most_of walk.new ≤ most_of walk.old + result }
+{
+    if most < MANY || !walk.names.is_at_end() {
+        return 0;
+    }
+    pass_stretch(walk, most)
+}
+
 // Begins the walk over columns of these type bytes, by what is kept of the optional metadata.
 // `fields` is how many fields and faults were taken of it.
 fn walk_of<'a>(
@@ -329,6 +454,7 @@ impl<'a> TableColumns<'a> {
 
     /// Passes over the next column: takes it as `take_column` does, and tells of it only whether it
     /// has a fault. That costs less than the column.
+    #[inline(always)]
     pub fn skip_column(&mut self) -> Option<Result<(), Fault>>
         ensures gives { PassesFirst self.old.columns result self.new.columns }
         ensures fault { self.new.fault ≡ self.old.fault }
@@ -339,6 +465,32 @@ impl<'a> TableColumns<'a> {
             None => None,
             Some(Ok(_)) => Some(Ok(())),
             Some(Err(e)) => Some(Err(e)),
+        }
+    }
+
+    /// Passes over the next `count` columns. Fails at the first of them that has a fault, with how
+    /// many columns came before it, and its fault, which is `NoColumnType` after the last column.
+    /// Where no names, keys and character sets are listed, passing over many columns costs less than
+    /// as many calls of `skip_column`.
+    #[inline(always)]
+    pub fn skip_columns(&mut self, count: usize) -> Result<(), (usize, Fault)>
+        ensures gives { PassesMany count self.old.columns result self.new.columns }
+        ensures fault { self.new.fault ≡ self.old.fault }
+        ensures steps { OnOk result (self.old.steps + count ≤ self.new.steps) }
+        ensures grows { IfErr result (λ e. self.old.steps + e.0 ≤ self.new.steps) }
+        ensures most { self.new.most ≤ self.old.most + count }
+    {
+        let mut passed = 0;
+        loop {
+            passed += pass_columns(&mut self.walk, count - passed);
+            if passed == count {
+                return Ok(());
+            }
+            match self.skip_column() {
+                Some(Ok(())) => passed += 1,
+                Some(Err(e)) => return Err((passed, e)),
+                None => return Err((passed, Fault::NoColumnType)),
+            }
         }
     }
 }

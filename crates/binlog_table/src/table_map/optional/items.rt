@@ -1,6 +1,6 @@
 //! Lists in the fields of optional metadata, and the one iterator over their items.
 
-ghost use Rattle.std.specs.Prelude.{◌≡◌, ◌≤◌, ◌+◌, length};
+ghost use Rattle.std.specs.Prelude.{◌≡◌, ◌≤◌, ◌+◌, IsTrue, [], length};
 ghost use Rattle.std.specs.Iterator.{YieldsFirstBy, item_count};
 ghost use Rattle.std.specs.Cmp.Lexicographic.{pointwise, lists_per, nat_list_eq_equiv};
 ghost use Rattle.std.specs.Cmp.Rules.{comparing};
@@ -195,6 +195,13 @@ impl<'a, K> Items<'a, K> {
         ensures { result ≡ self.now.taken }
     {
         self.taken
+    }
+
+    /// Returns whether no bytes of the list are left.
+    pub(super) fn is_at_end(&self) -> bool
+        ensures { IsTrue result → self.now.bytes ≡ [] }
+    {
+        self.bytes.is_empty()
     }
 }
 

@@ -188,6 +188,7 @@ impl<'a> IterPrimaryKey<'a> {
 
     /// Takes the item that comes next if it is this index or a fault. Otherwise returns `None` and
     /// takes nothing.
+    #[inline(always)]
     pub fn next_if_is(&mut self, column: u64) -> Option<Result<u64, Fault>>
         ensures keys { (result, self.new.keys) ≡ next_if column self.old.keys }
         ensures spends { Spends self.old.taken self.old.room self.new.taken self.new.room }
@@ -201,6 +202,7 @@ impl<'a> IterPrimaryKey<'a> {
 
     /// Returns whether a column is a key column. Columns are asked for in order, from 0 on. Fails
     /// with a fault of the lists if it is the item that comes next, which is then taken.
+    #[inline(always)]
     #[tactic(auto, using(crate::proofs::KeyByKey::key_passed))]
     pub fn is_key(&mut self, column: u64) -> Result<bool, Fault>
         ensures now { result ≡ key_from column self.old.keys column }

@@ -8,7 +8,7 @@
 # makes fewer requests; that run must pass. In each run before it the call that was refused memory must say so: the test ends with its error.
 # The requests that the program makes before it decodes are refused as `fault Memory` too. So no run ends with an answer in place of a refusal.
 # The tests whose names begin with `nothing` make no more requests than the test `nothing`, which is empty. Every other run makes more: a test more
-# than that one, and the program more than without words.
+# than that one, and the program more than without words. A decimal that is cut short makes one more, for its packed bytes.
 # The status is 0 if all of this holds, 1 if it doesn't, and 2 if a program or `cc` isn't there.
 set -eu
 here=$(cd "$(dirname "$0")/.." && pwd)
@@ -69,7 +69,7 @@ count=0
 names=$(sed -n 's/^\(tests::memory::[A-Za-z0-9_]*\): test$/\1/p' "$folder/list")
 [ -n "$names" ] || fail "there are no tests of the module memory"
 [ "$(wc -l <<<"$names")" -eq "$(grep -c '^tests::memory::' "$folder/list")" ] || fail "a test of the module memory has another name than expected"
-for name in nothing two_decimals two_decimals_compared; do
+for name in nothing two_decimals two_decimals_compared decimal_cut_short; do
     grep -qx "tests::memory::$name" <<<"$names" || fail "there is no test $name"
 done
 run 0 "$tests" tests::memory::nothing
@@ -86,6 +86,8 @@ made=$requests
 [ "$status" -eq 0 ] || fail "two_decimals: status $status"
 run 0 "$tests" tests::memory::two_decimals_compared
 [ "$status" -eq 0 ] && [ "$requests" -eq "$made" ] || fail "comparing two decimals: status $status, $((requests - made)) requests"
+run 0 "$tests" tests::memory::decimal_cut_short
+[ "$status" -eq 0 ] && [ "$requests" -eq $((least + 1)) ] || fail "a decimal cut short: status $status, $((requests - least)) requests"
 
 # Two inserted rows, an update with other columns in each image, and a partial update of a JSON document.
 table=010000000000010001640001740002030F020A0002

@@ -61,12 +61,13 @@ pub decimal_short : (precision scale : ℕ) (keep : Bool) (e : Fault) (n : ℕ) 
 decimal_short precision scale keep e n old new m k within some is h counts =
     short_answers true n (packed_decimal precision scale keep) (exact_packed_decimal precision scale keep) (subst (λ (m : ℕ). IsOfWidth m (packed_decimal precision scale keep)) (sym is) (decimal_of_width precision scale keep within some)) e old new m k h counts
 
--- all bytes of the decimal were read
-pub decimal_filled : (precision scale : ℕ) (keep : Bool) (r : Result DecimalView Fault) (old new : Option (List ℕ)) (failures failures_after : ℕ) (taken : List ℕ) → scale ≤ precision → 0 < precision → length taken ≡ packed_size (precision - scale) scale
-    → Consumes old new taken → failures_after ≡ failures → OrMemory r (Parses (packed_decimal precision scale keep) r taken [])
+-- all bytes of the decimal were read, and there was room for exactly its digits
+pub decimal_filled : (precision scale room : ℕ) (keep : Bool) (r : Result DecimalView Fault) (old new : Option (List ℕ)) (failures failures_after : ℕ) (taken : List ℕ) → scale ≤ precision → 0 < precision → room ≡ precision → length taken ≡ packed_size (precision - scale) scale
+    → Consumes old new taken → failures_after ≡ failures → OrMemory r (Parses (packed_decimal room scale keep) r taken [])
     → ReadsFromOrMemory (packed_decimal precision scale keep) r old new failures failures_after
-decimal_filled precision scale keep r old new m k taken within some long c is h =
-    filled_answers true _ (packed_decimal precision scale keep) (exact_packed_decimal precision scale keep) (decimal_of_width precision scale keep within some) r old new m k taken [] long c is h
+decimal_filled precision scale room keep r old new m k taken within some exact long c is h =
+    filled_answers true _ (packed_decimal precision scale keep) (exact_packed_decimal precision scale keep) (decimal_of_width precision scale keep within some) r old new m k taken [] long c is
+    (subst (λ (n : ℕ). OrMemory r (Parses (packed_decimal n scale keep) r taken [])) exact h)
 
 some_bytes : (old : Option (List ℕ)) → (bytes : List ℕ) × IsLeft old bytes
 some_bytes None = ([], tt)

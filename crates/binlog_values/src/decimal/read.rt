@@ -108,24 +108,30 @@ impl Decimal {
         }
     }
 
-    // Reads a decimal, where there is room for exactly its packed bytes and its digits.
+    // Reads a decimal, where there is room for exactly its packed bytes. Room for its digits is made
+    // once the bytes are read, so that a short source asks for no memory for them.
     fn read_with<S: Source>(
         alloc: Global,
         reader: &mut S,
         bytes: &mut [u8],
-        digits: &mut [u8],
+        precision: usize,
         scale: usize,
         keep_prec: bool,
     ) -> Result<Decimal, Fault>
-        requires scale { scale ≤ length digits.now }
-        requires some { 0 < length digits.now }
-        requires size { length bytes.now ≡ packed_size (length digits.now - scale) scale }
-        ensures { ReadsFromOrMemory (packed_decimal (length digits.old) scale keep_prec) result
+        requires scale { scale ≤ precision }
+        requires some { 0 < precision }
+        requires size { length bytes.now ≡ packed_size (precision - scale) scale }
+        ensures { ReadsFromOrMemory (packed_decimal precision scale keep_prec) result
             (S.remaining reader.old) (S.remaining reader.new)
             (S.failures reader.old) (S.failures reader.new) }
     {
         read_exact(reader, bytes)?;
-        Decimal::of_bytes(alloc, bytes, digits, scale, keep_prec)
+        if precision <= MAX_PRECISION {
+            let mut digits = [0; MAX_PRECISION];
+            return Decimal::of_bytes(alloc, bytes, &mut digits[..precision], scale, keep_prec);
+        }
+        let mut digits = vec![in alloc; 0u8; precision]?;
+        Decimal::of_bytes(alloc, bytes, digits.as_mut_slice(), scale, keep_prec)
     }
 
     /// Reads a decimal of `precision` digits, `scale` of them after the point, in MySQL's packed
@@ -161,14 +167,12 @@ impl Decimal {
         let size = digits_size(precision - scale) + digits_size(scale);
         if precision <= MAX_PRECISION {
             let mut bytes = [0; MAX_SIZE];
-            let mut digits = [0; MAX_PRECISION];
-            let (packed, room) = (&mut bytes[..size], &mut digits[..precision]);
-            return Decimal::read_with(alloc, reader, packed, room, scale, keep_prec);
+            let packed = &mut bytes[..size];
+            return Decimal::read_with(alloc, reader, packed, precision, scale, keep_prec);
         }
         let mut bytes = vec![in alloc; 0u8; size]?;
-        let mut digits = vec![in alloc; 0u8; precision]?;
-        let (packed, room) = (bytes.as_mut_slice(), digits.as_mut_slice());
-        Decimal::read_with(alloc, reader, packed, room, scale, keep_prec)
+        let packed = bytes.as_mut_slice();
+        Decimal::read_with(alloc, reader, packed, precision, scale, keep_prec)
     }
 
     /// Reads one byte of precision, one byte of scale, and then a decimal of this precision and

@@ -121,6 +121,23 @@ fn two_decimals_compared(rt: HostRuntime) -> Result<(), Fail> {
     Ok(())
 }
 
+/// Returns whether a decimal of 3000 digits is refused where the source has two bytes.
+fn is_cut_short(alloc: Global) -> Result<bool, Fault> {
+    let mut bytes: &[u8] = &[0x80, 0];
+    match Decimal::read_bin(alloc, &mut bytes, 3000, 0, false) {
+        Err(Fault::UnexpectedEof) => Ok(true),
+        Err(fault) => Err(fault),
+        Ok(_) => Ok(false),
+    }
+}
+
+/// Asks for memory once: for the packed bytes, and not for the digits.
+#[test]
+fn decimal_cut_short(rt: HostRuntime) -> Result<(), Fail> {
+    assert!(rt; is_cut_short(rt.alloc())?);
+    Ok(())
+}
+
 /// Returns whether the events have this many pairs, and no fault.
 fn decodes(
     alloc: Global,

@@ -15,7 +15,7 @@ use Rattle.binlog_values.specs.declared.time.MysqlTimestampType.{MysqlTimestampT
 use Rattle.binlog_values.specs.declared.time.MysqlTimestampType.TheVariants as kind
 use Rattle.binlog_values.specs.DecimalText.{fraction_digits_text}
 use Rattle.binlog_values.specs.TimeText.{two_digits, hours_text, date_text, minutes_text, six_digits, fraction_text, zone_text, datetime_text, time_text, text_by, text_of}
-use Rattle.binlog_values.specs.TimeCharacters.{before_hour, characters_of, fraction_len}
+use Rattle.binlog_values.specs.TimeCharacters.{before_hour, characters_of, fraction_len, IsLong}
 use Rattle.binlog_values.proofs.DecimalSteps.{below-take}
 use Rattle.binlog_values.proofs.DigitCharacters.{chars, glyphs, IsAscii-chars}
 
@@ -236,3 +236,22 @@ is_long decimals t n all text is many end of e =
     let hours : decimal t.hour ≡ hours_text t.hour = rw (le-ltb t.hour 10 (omega arith)) refl in
     is_of_kind decimals t kind.MYSQL_TIMESTAMP_TIME (sign_text t.neg ++ (decimal t.hour ++ text)) is
     (ap (λ (l : List ℕ). sign_text t.neg ++ (l ++ text)) hours ∙ ap (λ (l : List ℕ). sign_text t.neg ++ (hours_text t.hour ++ l)) (e ∙ rw (of, end) (minutes_part decimals t)))
+
+-- ---- the empty text
+
+some_byte : (front rest : List ℕ) (b : ℕ) → front ++ (b ∷ rest) ≡ [] → ⊥
+some_byte [] rest b h = cc
+some_byte (x ∷ front) rest b h = cc
+
+-- a text with other characters isn't empty
+pub long_is_some : (decimals : ℕ) (t : MysqlTime) (k : MysqlTimestampType) → t.time_type ≡ k → IsLong k t.hour → text_of decimals t ≡ [] → ⊥
+long_is_some decimals t kind.MYSQL_TIMESTAMP_NONE is long empty = long
+long_is_some decimals t kind.MYSQL_TIMESTAMP_ERROR is long empty = long
+long_is_some decimals t kind.MYSQL_TIMESTAMP_DATE is long empty = long
+long_is_some decimals t kind.MYSQL_TIMESTAMP_DATETIME is long empty = long
+long_is_some decimals t kind.MYSQL_TIMESTAMP_DATETIME_TZ is long empty =
+    let text : datetime_text decimals t ++ zone_text t.time_zone_displacement ≡ [] = ap (λ (k : MysqlTimestampType). text_by k decimals t) (sym is) ∙ empty in
+    some_byte (datetime_text decimals t) _ 43 text
+long_is_some decimals t kind.MYSQL_TIMESTAMP_TIME is long empty =
+    let text : time_text decimals t ≡ [] = ap (λ (k : MysqlTimestampType). text_by k decimals t) (sym is) ∙ empty in
+    some_byte (sign_text t.neg ++ hours_text t.hour) _ 58 (append_assoc (sign_text t.neg) (hours_text t.hour) (minutes_text t.minute t.second ++ fraction_text decimals t.second_part) ∙ text)

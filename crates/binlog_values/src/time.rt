@@ -111,6 +111,9 @@ impl MysqlTime {
             text.new.bytes.items ≡ (if is_ok result then old ++ text_of decimals self.now else old) }
     {
         if let Some((start, end)) = extent(self, decimals) {
+            if start == end {
+                return Ok(());
+            }
             return text.push_str(part(&characters(self), start, end));
         }
         let shown = TimeText {

@@ -1,6 +1,6 @@
 //! The text of dates and times.
 
-ghost use Rattle.std.specs.Prelude.{◌≡◌, ◌≤◌, ◌<◌, ◌+◌, Some, [], ◌∷◌, map, slice_range, IfSome, IfNone};
+ghost use Rattle.std.specs.Prelude.{◌≡◌, ◌≤◌, ◌<◌, ◌+◌, Some, [], ◌∷◌, map, slice_range, IfSome, IfNone, IsOk};
 ghost use Rattle.std.specs.Str.{IsAscii};
 ghost use Rattle.std.specs.Fmt.{WritesOnOk};
 ghost use Rattle.binlog_values.specs.TimeText.{two_digits, hours_text, signed_hours_text, six_digits, zone_text, text_of};
@@ -230,18 +230,31 @@ pub(super) struct TimeText<'a> {
 impl fmt::Display for TimeText<'_> {
     ghost output = { λ t. Some (text_of t.decimals t.time.now) };
 
-    fn fmt<W: fmt::Write>(&self, f: &mut fmt::Formatter<W>) -> fmt::Result {
-        match extent(self.time, self.decimals) {
-            Some((start, end)) => f.write_str(part(&characters(self.time), start, end)),
-            None => write_long(f, self.time, self.decimals),
+    fn fmt<W: fmt::Write>(&self, f: &mut fmt::Formatter<W>) -> fmt::Result
+        ensures writes { WritesOnOk W.write_str_gives f.old result
+            (text_of self.now.decimals self.now.time.now) f.new }
+        ensures empty { text_of self.now.decimals self.now.time.now ≡ []
+            → IsOk result × (f.new ≡ f.old) }
+    {
+        let Some((start, end)) = extent(self.time, self.decimals) else {
+            return write_long(f, self.time, self.decimals);
+        };
+        if start == end {
+            return Ok(());
         }
+        f.write_str(part(&characters(self.time), start, end))
     }
 }
 
+/// Writes the text as `write_text` does, with no decimals. An empty text is written by no call of the
+/// writer, so that a writer that is full takes it.
 impl fmt::Display for MysqlTime {
     ghost output = { λ t. Some (text_of 0 t) };
 
-    fn fmt<W: fmt::Write>(&self, f: &mut fmt::Formatter<W>) -> fmt::Result {
+    fn fmt<W: fmt::Write>(&self, f: &mut fmt::Formatter<W>) -> fmt::Result
+        ensures writes { WritesOnOk W.write_str_gives f.old result (text_of 0 self.now) f.new }
+        ensures empty { text_of 0 self.now ≡ [] → IsOk result × (f.new ≡ f.old) }
+    {
         let text = TimeText {
             time: self,
             decimals: 0,

@@ -2,6 +2,8 @@
 
 use super::all;
 use binlog_values::time::{MysqlTime, MysqlTimestampType};
+use std::fmt;
+use std::fmt::Write;
 use std::test::Fail;
 
 const NOON: i64 = 110_137_624_448 << 24;
@@ -97,6 +99,31 @@ fn dates_are_shown(rt: HostRuntime) -> Result<(), Fail> {
     date.time_type = MysqlTimestampType::MYSQL_TIMESTAMP_NONE;
     assert!(rt; shows(&rt, &date, "")?);
     Ok(())
+}
+
+// A writer that takes no text.
+#[derive(Drop)]
+struct Full;
+
+impl fmt::Write for Full {
+    fn write_str(&mut self, _text: &str) -> fmt::Result {
+        Err(fmt::Error)
+    }
+}
+
+fn fits_nowhere(time: &MysqlTime) -> bool {
+    let mut full = Full;
+    write!(full, "{time}").is_err()
+}
+
+#[test]
+fn empty_texts_call_no_writer(rt: HostRuntime) {
+    let mut time = MysqlTime::from_int64_datetime_packed(NOON);
+    assert!(rt; fits_nowhere(&time));
+    time.time_type = MysqlTimestampType::MYSQL_TIMESTAMP_NONE;
+    assert!(rt; !fits_nowhere(&time));
+    time.time_type = MysqlTimestampType::MYSQL_TIMESTAMP_ERROR;
+    assert!(rt; !fits_nowhere(&time));
 }
 
 #[test]

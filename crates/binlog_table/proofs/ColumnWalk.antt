@@ -18,7 +18,7 @@ use Rattle.binlog_base.specs.declared.below.columns.column_type.ColumnType.TheVa
 use Rattle.binlog_base.specs.declared.below.columns.server.Server.TheVariants.{MySql, MariaDb}
 use Rattle.binlog_table.specs.RawTypes.{has_charset}
 use Rattle.binlog_base.specs.Servers.{character_group, enum_or_set_group, numeric_group}
-use Rattle.binlog_table.specs.Lists.{DefaultCharset}
+use Rattle.binlog_table.specs.Lists.{DefaultCharset, count_of}
 use Rattle.binlog_table.specs.declared.table_map.optional.columns.Walk.{Walk}
 use Rattle.binlog_table.specs.ColumnTypes.{json_count, raw_type_of, real_type_of, some_of, real_type}
 use Rattle.binlog_table.specs.Fields.{Kept, is_numeric_number, numeric_count, in_group}
@@ -364,6 +364,21 @@ passed_fault old new r e is h = fault_told old new h.0 e h.1 (sym is ∙ h.2)
 
 pub passed_end : (old new : List (Result Column Fault)) → PassesFirst old None new → FaultFirst fault.NoColumnType old new
 passed_end old new h = rw h.0 (refl, h.1)
+
+-- where n columns were passed over, column n is the next one
+next_after : (front : List Column) (at : List (Result Column Fault)) → slice_get (map Ok front ++ at) (length front) ≡ slice_get at 0
+next_after [] at = refl
+next_after (c ∷ front) at = next_after front at
+
+count_told : (old new : List (Result Column Fault)) (r : Option (Result (Unit {0}) Fault)) → PassesFirst old r new → count_of (slice_get old 0) ≡ count_of r
+count_told old new None h = rw h.0 refl
+count_told old new (Some told) h = rw h.1 refl
+
+-- what a call for one column counts, after n columns
+pub count_after : (n : ℕ) (old at new : List (Result Column Fault)) (r : Option (Result (Unit {0}) Fault)) → PassesOver n old at → PassesFirst at r new → count_of (slice_get old n) ≡ count_of r
+count_after n old at new r over first =
+    ap (λ (l : List (Result Column Fault)). count_of (slice_get l n)) over.2 ∙ ap (λ (m : ℕ). count_of (slice_get (map Ok over.0 ++ at) m)) (sym over.1) ∙
+    ap (λ (c : Option (Result Column Fault)). count_of c) (next_after over.0 at) ∙ count_told at new r first
 
 -- what the kept fields tell
 abbrev parts_with : TableMap → Kept → Parts

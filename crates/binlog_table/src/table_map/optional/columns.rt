@@ -1,6 +1,6 @@
 //! The columns of a table, in one walk over the lists that describe them.
 
-ghost use Rattle.std.specs.Prelude.{◌≡◌, false, ◌<◌, ◌≤◌, ◌+◌, ◌^◌, ℕ, suc, List, [], ◌∷◌, length, IsTrue, IsFalse, Some, None, Ok, Err, OnOk, IfOk, IfErr, ◌==◌, if◌then◌else◌};
+ghost use Rattle.std.specs.Prelude.{◌≡◌, false, ◌<◌, ◌≤◌, ◌+◌, ◌^◌, ℕ, suc, List, [], ◌∷◌, length, slice_get, IsTrue, IsFalse, Some, None, Ok, Err, OnOk, IfOk, IfErr, ◌==◌, if◌then◌else◌};
 ghost use Rattle.std.specs.Option.{option_map};
 ghost use Rattle.std.specs.Iterator.{YieldsFirstBy, item_count};
 ghost use Rattle.binlog_base.specs.Items.{items, result_map};
@@ -326,6 +326,15 @@ fn pass_columns(walk: &mut Walk<'_>, most: usize) -> usize
     pass_stretch(walk, most)
 }
 
+// Returns how many columns are passed over at once after a try that passed over so many: up to all
+// that are left, and none after a try that passed over none.
+#[inline(always)]
+fn most_after(many: usize, left: usize) -> usize
+    ensures { result ≤ left }
+{
+    if many == 0 { 0 } else { left }
+}
+
 // Begins the walk over columns of these type bytes, by what is kept of the optional metadata.
 // `fields` is how many fields and faults were taken of it.
 fn walk_of<'a>(
@@ -477,12 +486,18 @@ impl<'a> TableColumns<'a> {
         ensures gives { PassesMany count self.old.columns result self.new.columns }
         ensures fault { self.new.fault ≡ self.old.fault }
         ensures steps { OnOk result (self.old.steps + count ≤ self.new.steps) }
-        ensures grows { IfErr result (λ e. self.old.steps + e.0 ≤ self.new.steps) }
         ensures most { self.new.most ≤ self.old.most + count }
+        // The column with the fault is a step too, if there is one.
+        ensures grows { IfErr result (λ e. self.old.steps + e.0
+            + count_of (slice_get self.old.columns e.0) ≤ self.new.steps) }
+        ensures bounded { IfErr result (λ e. self.new.most
+            ≤ self.old.most + e.0 + count_of (slice_get self.old.columns e.0)) }
     {
         let mut passed = 0;
+        let mut most = count;
         loop {
-            passed += pass_columns(&mut self.walk, count - passed);
+            let many = pass_columns(&mut self.walk, most);
+            passed += many;
             if passed == count {
                 return Ok(());
             }
@@ -491,6 +506,7 @@ impl<'a> TableColumns<'a> {
                 Some(Err(e)) => return Err((passed, e)),
                 None => return Err((passed, Fault::NoColumnType)),
             }
+            most = most_after(many, count - passed);
         }
     }
 }

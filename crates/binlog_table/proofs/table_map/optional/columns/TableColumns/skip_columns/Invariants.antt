@@ -4,7 +4,7 @@ use Rattle.binlog_table.proofs.table_map.optional.columns.TableColumns.skip_colu
 
 abbrev pub invariant-loop-passed : goal.invariant-loop-passed
 invariant-loop-passed l = record {
-  within : l.passed ≤ l.count;
+  within : l.passed + l.most ≤ l.count;
   columns : PassesOver l.passed l.fn.self.columns l.self.columns;
   fault : l.self.fault ≡ l.fn.self.fault;
   steps : l.fn.self.steps + l.passed ≤ l.self.steps;

@@ -122,6 +122,7 @@ pub(super) fn split_chunk<'a>(raw_type: RawType, metadata: &'a [u8]) -> Option<(
 /// Takes the chunk of metadata of a column with this type byte. Fails with `UnexpectedEof` if the
 /// chunk is cut, with `UnknownColumnType` for an unknown type, also inside a TYPED_ARRAY, and with
 /// `Unhandled` for a TYPED_ARRAY of TYPED_ARRAY.
+#[inline(always)]
 #[tactic(auto, unfolding(crate::specs::Chunks::chunk))]
 pub(super) fn eat_chunk<'a>(raw_type: u8, buf: &mut ParseBuf<'a>) -> Result<&'a [u8], Fault>
     ensures { ParsesAs (λ x. x.now) (chunk raw_type) result buf.old.0.now buf.new.0.now }

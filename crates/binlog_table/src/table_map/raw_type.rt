@@ -224,6 +224,16 @@ static HIGH_TYPES: [Row; 11] = [
     },
 ];
 
+/// The number of VECTOR, which stands apart from the tables.
+const VECTOR_NUMBER: u8 = 242;
+
+// The row of VECTOR.
+static VECTOR: Row = Row {
+    column_type: ColumnType::MYSQL_TYPE_VECTOR,
+    chunk: Chunk::OneByte,
+    sort: Sort::Plain,
+};
+
 // Returns the row of one of the low types.
 #[inline(always)]
 #[tactic(auto, using(crate::proofs::TypeTables::low_row))]
@@ -359,16 +369,14 @@ impl RawType {
     pub fn from_number(number: u8) -> Result<RawType, Fault>
         ensures { result ≡ column_type_of number }
     {
-        if number < LOW_COUNT {
-            Ok(RawType::of_row(low_row(number)))
-        } else if number >= FIRST_HIGH {
-            Ok(RawType::of_row(high_row(number)))
-        } else {
-            Ok(RawType::new(ColumnType::from_number(number)?))
+        match RawType::in_tables(number) {
+            Some(raw_type) => Ok(raw_type),
+            None if number == VECTOR_NUMBER => Ok(RawType::of_row(&VECTOR)),
+            None => Ok(RawType::new(ColumnType::from_number(number)?)),
         }
     }
 
-    /// Returns the raw type that has a number, if the tables have it.
+    /// Returns the raw type that has a number, if the tables of low and high types have it.
     #[inline(always)]
     pub fn in_tables(number: u8) -> Option<RawType>
         ensures { IfSome result (λ t. column_type_of number ≡ Ok t) }

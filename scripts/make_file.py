@@ -1,17 +1,29 @@
 #!/usr/bin/env python3
 """Writes a binlog file of ROWS inserted rows of twelve columns, as a MariaDB server writes it, with checksums.
 
-usage: scripts/make_file.py ROWS OUT [single]
+usage: scripts/make_file.py ROWS OUT [single [TABLES [random]]] [--columns COUNT] [--width COUNT] [--present COUNT] [--plain] [--once]
 
 The rows are in rows events of at most 8 KB, 10,000 rows a statement. With `single` each row is a statement of its own: a table map event and a
-rows event of one row. The table map event has full metadata: signs, character sets, names, the values of the ENUM and a key.
+rows event of one row. The table map event has full metadata: signs, character sets, names, the values of the ENUM and a key. With TABLES there
+are so many tables, to which the statements go by turns, or with `random` in an order that looks random.
 
 The columns: INT UNSIGNED (the key), BIGINT, VARCHAR(60), CHAR(12), DECIMAL(12,2), DOUBLE, DATETIME(3), TIMESTAMP, DATE, ENUM, TINYINT, TEXT. A row
 takes about 88 bytes. The values are the same for each run; about one in ten of those that may be NULL is.
+
+For wide tables:
+
+--columns COUNT   so many columns in each table, those after the twelfth INT
+--width COUNT     so many columns in each rows event, if not as many as in its table
+--present COUNT   so many columns in the image, the first ones, if not all
+--plain           no optional metadata
+--once            all tables are mapped once, at the beginning, and all rows events are of one statement
 """
+import argparse
+import functools
+import itertools
 import struct
-import sys
 import zlib
+from dataclasses import dataclass
 
 EVENT_SIZE = 8192
 ROWS_OF_A_STATEMENT = 10000
@@ -75,44 +87,82 @@ COLUMNS = [
     (1, b"", lambda r: bytes([next(r) % 256])),
     (252, b"\x02", lambda r: letters(r, 8, 40, 2)),
 ]
-ONES = b"\xff\x0f"
+
+
+@dataclass(frozen=True)
+class Shape:
+    """What the tables and their rows events have: the columns of a table, those of a rows event, and the first ones, which are in the image."""
+
+    columns: int
+    width: int
+    present: int
+    has_metadata: bool
+
+
+def number(value):
+    """A number as MySQL packs lengths: in one byte up to 250, else in two or three bytes after one that says so."""
+    if value < 251:
+        return bytes([value])
+    return b"\xfc" + value.to_bytes(2, "little") if value < 2**16 else b"\xfd" + value.to_bytes(3, "little")
+
+
+def first_bits(count, of):
+    """A bitmap of so many bits, of which the first ones are set."""
+    return ((1 << count) - 1).to_bytes((of + 7) // 8, "little")
 
 
 def field(kind, value):
-    """A field of optional metadata, whose value has fewer than 251 bytes."""
-    return bytes([kind, len(value)]) + value
+    """A field of optional metadata."""
+    return bytes([kind]) + number(len(value)) + value
 
 
 def counted(texts):
-    return b"".join(bytes([len(text)]) + text for text in texts)
+    return b"".join(number(len(text)) + text for text in texts)
 
 
-def table_map(table_id):
-    """The body of the table map event. Signs are those of the numeric columns: INT, BIGINT, DECIMAL, DOUBLE, TINYINT."""
+def optional_metadata(columns):
+    """Signs are those of the numeric columns: INT, BIGINT, DECIMAL, DOUBLE, TINYINT, and the INT columns after the twelfth."""
+    signs = b"\x80" + bytes((5 + columns - len(COLUMNS) + 7) // 8 - 1)
+    names = NAMES + [f"c{place}" for place in range(len(COLUMNS), columns)]
+    optional = field(1, signs) + field(2, b"\x08")
+    optional += field(4, counted(name.encode() for name in names))
+    return optional + field(6, bytes([len(ENUM_VALUES)]) + counted(ENUM_VALUES)) + field(8, b"\0") + field(10, b"\x08")
+
+
+@functools.cache
+def table_map(table, shape):
+    """The body of the table map event of a table."""
     metadata = b"".join(column[1] for column in COLUMNS)
-    optional = field(1, b"\x80") + field(2, b"\x08")
-    optional += field(4, counted(name.encode() for name in NAMES))
-    optional += field(6, bytes([len(ENUM_VALUES)]) + counted(ENUM_VALUES)) + field(8, b"\0") + field(10, b"\x08")
-    types = bytes(column[0] for column in COLUMNS)
-    head = table_id.to_bytes(6, "little") + b"\1\0" + b"\4shop\0" + b"\5items\0"
-    return head + bytes([len(COLUMNS)]) + types + bytes([len(metadata)]) + metadata + b"\xfe\x0f" + optional
+    nullable = ((1 << shape.columns) - 2).to_bytes((shape.columns + 7) // 8, "little")
+    types = bytes(column[0] for column in COLUMNS) + b"\3" * (shape.columns - len(COLUMNS))
+    head = table_id(table).to_bytes(6, "little") + b"\1\0" + b"\4shop\0" + counted([name_of(table)]) + b"\0"
+    optional = optional_metadata(shape.columns) if shape.has_metadata else b""
+    return head + number(shape.columns) + types + number(len(metadata)) + metadata + nullable + optional
 
 
-def row(number, random):
-    nulls, cells = 0xF000, number.to_bytes(4, "little")
-    for place, (_, _, cell) in enumerate(COLUMNS):
-        if cell is None:
-            continue
+def table_id(table):
+    return 18 + table
+
+
+def name_of(table):
+    return b"items%d" % table if table else b"items"
+
+
+def row(key, random, shape):
+    count = shape.present
+    nulls, cells = (1 << (count + 7) // 8 * 8) - (1 << count), key.to_bytes(4, "little")
+    for place in range(1, count):
         if next(random) % 10 == 0:
             nulls |= 1 << place
         else:
-            cells += cell(random)
-    return nulls.to_bytes(2, "little") + cells
+            cells += COLUMNS[place][2](random) if place < len(COLUMNS) else next(random).to_bytes(4, "little")
+    return nulls.to_bytes((count + 7) // 8, "little") + cells
 
 
 class File:
-    def __init__(self, out):
+    def __init__(self, out, shape):
         self.out = out
+        self.shape = shape
         self.position = 4
         out.write(b"\xfebin")
         version = VERSION + bytes(50 - len(VERSION))
@@ -124,30 +174,70 @@ class File:
         raw = struct.pack("<IBIIIH", TIME, event_type, 1, size, self.position % 2**32, flags) + body
         self.out.write(raw + struct.pack("<I", zlib.crc32(raw)))
 
-    def transaction(self, number, table_id, rows, size):
-        """A GTID event, the table map event, rows events of at most so many bytes, and an XID event."""
+    def begin(self, number, tables):
+        """A GTID event, and the table map events of these tables."""
         self.event(0xA2, struct.pack("<QIB", number, 0, 0) + bytes(6), 8)
-        self.event(0x13, table_map(table_id))
+        for table in tables:
+            self.event(0x13, table_map(table, self.shape))
+
+    def rows(self, table, rows, is_last):
+        """Rows events of a table, of at most EVENT_SIZE bytes if they have more than one row; the last may end the statement."""
+        head = number(self.shape.width) + first_bits(self.shape.present, self.shape.width)
+        room = EVENT_SIZE - 19 - 4 - 8 - len(head)
         while rows:
             data = bytearray()
-            while rows and (not data or len(data) + len(rows[0]) <= size):
+            while rows and (not data or len(data) + len(rows[0]) <= room):
                 data += rows.pop(0)
-            head = table_id.to_bytes(6, "little") + (b"\0\0" if rows else b"\1\0") + bytes([len(COLUMNS)]) + ONES
-            self.event(0x17, head + data)
+            flags = b"\1\0" if is_last and not rows else b"\0\0"
+            self.event(0x17, table_id(table).to_bytes(6, "little") + flags + head + data)
+
+    def end(self, number):
+        """An XID event."""
         self.event(0x10, struct.pack("<Q", number))
 
 
+def words():
+    parser = argparse.ArgumentParser(description=__doc__, formatter_class=argparse.RawDescriptionHelpFormatter)
+    parser.add_argument("rows", type=int)
+    parser.add_argument("out")
+    parser.add_argument("single", nargs="?", choices=["single"])
+    parser.add_argument("tables", nargs="?", type=int, default=1)
+    parser.add_argument("order", nargs="?", choices=["random"])
+    parser.add_argument("--columns", type=int, default=len(COLUMNS))
+    parser.add_argument("--width", type=int)
+    parser.add_argument("--present", type=int)
+    parser.add_argument("--plain", action="store_true")
+    parser.add_argument("--once", action="store_true")
+    said = parser.parse_args()
+    if said.columns < len(COLUMNS):
+        parser.error(f"a table has at least {len(COLUMNS)} columns")
+    return said
+
+
+def order(tables, is_random):
+    """The tables to which the statements go."""
+    return (value % tables for value in (numbers() if is_random else itertools.count()))
+
+
 def main():
-    if len(sys.argv) not in (3, 4) or sys.argv[3:] not in ([], ["single"]):
-        sys.exit(__doc__)
-    count, single = int(sys.argv[1]), len(sys.argv) == 4
-    step = 1 if single else ROWS_OF_A_STATEMENT
-    random = numbers()
-    with open(sys.argv[2], "wb") as out:
-        file = File(out)
-        for first in range(0, count, step):
-            rows = [row(number, random) for number in range(first, min(first + step, count))]
-            file.transaction(first // step + 1, 18, rows, EVENT_SIZE - 19 - 4 - 11)
+    said = words()
+    width = said.width or said.columns
+    shape = Shape(said.columns, width, min(said.present or width, width), not said.plain)
+    step = 1 if said.single else ROWS_OF_A_STATEMENT
+    random, tables = numbers(), order(said.tables, said.order == "random")
+    with open(said.out, "wb") as out:
+        file = File(out, shape)
+        if said.once:
+            file.begin(1, range(said.tables))
+        for first in range(0, said.rows, step):
+            rows = [row(key, random, shape) for key in range(first, min(first + step, said.rows))]
+            table, transaction = next(tables), first // step + 1
+            is_last = not said.once or first + step >= said.rows
+            if not said.once:
+                file.begin(transaction, [table])
+            file.rows(table, rows, is_last)
+            if is_last:
+                file.end(transaction)
         print(f"{file.position} bytes")
 
 

@@ -35,7 +35,7 @@ plan_alike t ps =
     (planned_alike t 0 (table_columns t) ps ∙ ap (λ (walk : List (Result Column Fault)). planned_from (without_id t) 0 walk ps) (columns_alike t))
 
 abbrev plans_with : (List Bool → Plan) → Bool → Option (List Bool) → Option (List Bool) → Plans
-plans_with f o before after = record { before = option_map f before; after = option_map f after; has_options = o; walked = walked_in (option_map f before) + walked_apart (same_columns before after) (option_map f after) }
+plans_with f o before after = record { before = option_map f before; after = option_map f after; is_one = same_columns before after; has_options = o; walked = walked_in (option_map f before) + walked_apart (same_columns before after) (option_map f after) }
 
 plans_alike : (t : TableMap) (o : Bool) (before after : Option (List Bool)) → plans_by t o before after ≡ plans_by (without_id t) o before after
 plans_alike t o before after = ap (λ (f : List Bool → Plan). plans_with f o before after) (λ k ps. plan_alike t ps k)

@@ -9,6 +9,7 @@ pub mod NotPlain
 pub mod Options
 pub mod Plans
 pub mod After
+pub mod Memory
 pub mod Cover
 pub mod Laws
 pub mod Rows

@@ -1,5 +1,5 @@
 -- What an iterator over pairs keeps of a table map event, and how it reads images by that.
-use Rattle.std.specs.Prelude.{ℕ, suc, Bool, true, false, List, [], ◌∷◌, length, drop, slice_index_or, unwrap_or, Option, Some, None, Result, Ok, Err, ◌+◌, if◌then◌else◌}
+use Rattle.std.specs.Prelude.{ℕ, suc, Bool, true, false, List, [], ◌∷◌, drop, slice_index_or, unwrap_or, Option, Some, None, Result, Ok, Err, ◌+◌, if◌then◌else◌}
 use Rattle.std.specs.Bool.{beq}
 use Rattle.std.specs.Cmp.Lexicographic.{pointwise}
 use Rattle.std.specs.Option.{option_map}
@@ -102,11 +102,12 @@ abbrev pub walked_in : Option Plan → ℕ
 walked_in None = 0
 walked_in (Some p) = p.planned.walked
 
--- how the pairs of an event are read: the plans of both images, whether the images after the change
--- have options, and how many columns were walked over to make the plans
+-- how the pairs of an event are read: the plans of both images, whether these are one plan, whether
+-- the images after the change have options, and how many columns were walked over to make the plans
 pub record Plans : Type 0 where
   pub before : Option Plan
   pub after : Option Plan
+  pub is_one : Bool
   pub has_options : Bool
   pub walked : ℕ
 
@@ -123,7 +124,7 @@ walked_apart false p = walked_in p
 
 -- the plans of both images, each by a bit for each column of the event
 abbrev pub plans_by : TableMap → Bool → Option (List Bool) → Option (List Bool) → Plans
-plans_by t options before after = record { before = option_map (plan_of t) before; after = option_map (plan_of t) after; has_options = options; walked = walked_in (option_map (plan_of t) before) + walked_apart (same_columns before after) (option_map (plan_of t) after) }
+plans_by t options before after = record { before = option_map (plan_of t) before; after = option_map (plan_of t) after; is_one = same_columns before after; has_options = options; walked = walked_in (option_map (plan_of t) before) + walked_apart (same_columns before after) (option_map (plan_of t) after) }
 
 -- the plans for the images of an event
 abbrev pub plans_of : TableMap → RowsEvent → Plans

@@ -28,7 +28,7 @@ pub record Made : Type 0 where
 
 -- the same plans, for whose making no column was walked over
 abbrev pub unwalked : Plans → Plans
-unwalked p = record { before = p.before; after = p.after; has_options = p.has_options; walked = 0 }
+unwalked p = record { before = p.before; after = p.after; is_one = p.is_one; has_options = p.has_options; walked = 0 }
 
 -- plans that were made for this event, or for an earlier one, so that no step is this event's
 abbrev pub made_by : Bool → Made → Made

@@ -9,6 +9,7 @@ ghost use Rattle.binlog_table.specs.ColumnsLeft.{seen_column};
 ghost use Rattle.mysql_binlog_rows.specs.Cells.{cell_of, json_cell};
 ghost use Rattle.binlog_base.specs.Values.{column_flags_of};
 ghost use Rattle.mysql_binlog_rows.specs.Images.{default_name, row_flags};
+ghost use Rattle.mysql_binlog_rows.specs.Memory.{in_usize, names_bytes, plan_bytes};
 ghost use Rattle.mysql_binlog_rows.specs.Plans.{column_in, json_place_of, slot_of, first_column, after_first, planned_from, plan_of, planned_options, planned_image, is_partial_slot, slot_cell, slot_cells};
 
 use super::binlog_row::BinlogRow;
@@ -24,6 +25,7 @@ use binlog_table::table_map::optional::{ColumnName, TableColumn, TableColumns};
 use itoa::write_digits;
 use std::alloc::Global;
 use std::marker::Model;
+use std::mem::size_of;
 use std::rc::RcSlice;
 
 /// A column in the image, as a plan keeps it: how its cells are read, and the index of a JSON
@@ -93,6 +95,26 @@ impl Model for Plan {
         fault = p.fault;
       };
     } };
+}
+
+/// How many bytes a plan takes at most beside its columns: of lists and counters, with what the
+/// allocator adds to their blocks.
+const PLAN_BYTES: usize = 192;
+
+/// How many bytes a column takes at most: a slot, the column, and the room for a name of 12 bytes.
+const COLUMN_BYTES: usize = 208;
+
+const _: () = prove!(size_of::<Slot>() + size_of::<Column>() + 12 <= COLUMN_BYTES);
+
+// Returns how many bytes the names of the columns have; the greatest `usize` if there are more.
+fn names_bytes(columns: &[Column]) -> usize
+    ensures { result ≡ in_usize (names_bytes columns.now) }
+{
+    let mut bytes: usize = 0;
+    for column in columns {
+        bytes = bytes.saturating_add(column.name_ref().len());
+    }
+    bytes
 }
 
 // Returns the flags of a column in a row.
@@ -292,6 +314,16 @@ impl Plan {
             walked: planned.walked,
             fault: planned.fault,
         })
+    }
+
+    /// Returns how many bytes of memory the plan takes, at most; the greatest `usize` if they are
+    /// more than that.
+    pub fn bytes(&self) -> usize
+        ensures { result ≡ in_usize (plan_bytes self.now) }
+    {
+        let columns = self.count.saturating_mul(COLUMN_BYTES);
+        let names = names_bytes(self.columns.as_slice()).saturating_mul(2);
+        PLAN_BYTES.saturating_add(columns).saturating_add(names)
     }
 
     // Reads the options of an image and returns its partial bits. There are none where the image

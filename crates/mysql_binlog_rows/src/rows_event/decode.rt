@@ -1,6 +1,7 @@
 //! Reads a table map event and a rows event, and all pairs of rows.
 
 ghost use Rattle.std.specs.Prelude.{◌≡◌, IfOk, IfErr};
+ghost use Rattle.std.specs.Arc.{arc_value};
 ghost use Rattle.binlog_base.specs.declared.fault.Fault.TheVariants as Fault;
 ghost use Rattle.mysql_binlog_rows.specs.Images.{pair};
 ghost use Rattle.mysql_binlog_rows.specs.Cover.{Covers};
@@ -17,6 +18,7 @@ use binlog_base::below::{ParseBuf, Server};
 use binlog_base::fault::Fault;
 use binlog_table::table_map::TableMapEvent;
 use std::alloc::Global;
+use std::sync::Arc;
 
 /// The pairs of rows of a rows event, and the fault that comes after them. There is no fault where
 /// the pairs are all of the rows data.
@@ -81,6 +83,23 @@ pub fn pairs_by(
     ensures err { IfErr result (λ e. e ≡ Fault.Memory) }
 {
     let rows = event.rows_by(alloc, table, kept)?;
+    collect(alloc, rows)
+}
+
+/// Returns the pairs of rows as `pairs_by` does, by a plan that shares the table map event, as
+/// `RowsEvent::rows_by_shared` says.
+pub fn pairs_by_shared(
+    alloc: Global,
+    table: &Arc<TableMapEvent<'static>>,
+    event: &RowsEvent<'_>,
+    kept: &mut KeptPlan,
+) -> Result<Decoded, Fault>
+    ensures covers { IfOk result (λ d. Covers (pair (arc_value table.now) event.now)
+        event.now.rows_data d.pairs.items d.fault) }
+    ensures kept { IfOk result (λ _. KeptServes kept.new (arc_value table.now) event.now) }
+    ensures err { IfErr result (λ e. e ≡ Fault.Memory) }
+{
+    let rows = event.rows_by_shared(alloc, table, kept)?;
     collect(alloc, rows)
 }
 

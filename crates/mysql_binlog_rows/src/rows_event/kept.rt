@@ -2,12 +2,14 @@
 
 ghost use Rattle.std.specs.Prelude.{◌≡◌, ◌↔◌, true, Some, None, IsTrue, IfOk, IfErr, IfSome, IfNone};
 ghost use Rattle.std.specs.Option.{option_map};
+ghost use Rattle.std.specs.Arc.{arc_value};
 ghost use Rattle.std.specs.Rc.{rc_value};
 ghost use Rattle.binlog_base.specs.declared.fault.Fault.TheVariants as Fault;
 ghost use Rattle.binlog_table.specs.TableMap.{TableMap};
-ghost use Rattle.mysql_binlog_rows.specs.RowsEvent.{RowsEvent as Event};
+ghost use Rattle.mysql_binlog_rows.specs.RowsEvent.{RowsEvent as Event, bitmap_length};
 ghost use Rattle.mysql_binlog_rows.specs.Rows.{Reads, IsOf, plans_of_events};
-ghost use Rattle.mysql_binlog_rows.specs.Kept.{Serves, KeptServes};
+ghost use Rattle.mysql_binlog_rows.specs.Kept.{Serves, KeptServes, kept_bytes, told_bytes};
+ghost use Rattle.mysql_binlog_rows.specs.Memory.{in_usize};
 
 use super::event::RowsEvent;
 use super::rows::{Events, Plans, RowsEventRows, Shared, has_options};
@@ -17,11 +19,15 @@ use binlog_table::table_map::TableMapEvent;
 use std::alloc::{AllocError, Global};
 use std::marker::Model;
 use std::rc::Rc;
+use std::sync::Arc;
+
+/// How many bytes a kept plan takes at most beside its bitmaps and what the images need.
+const KEPT_BYTES: usize = 512;
 
 /// A plan, and what the events told that it was made for.
 #[derive(Drop)]
 struct Planned {
-    table: TableMapEvent<'static>,
+    table: Arc<TableMapEvent<'static>>,
     num_columns: u64,
     before: Option<Vec<u8>>,
     after: Option<Vec<u8>>,
@@ -31,13 +37,14 @@ struct Planned {
 impl Model for Planned {
     ghost use Rattle.std.specs.Prelude.{◌≡◌};
     ghost use Rattle.std.specs.Option.{option_map};
+    ghost use Rattle.std.specs.Arc.{arc_value};
     ghost use Rattle.std.specs.Rc.{rc_value};
     ghost use Rattle.mysql_binlog_rows.specs.Kept as Spec;
 
     ghost Value = { Spec.Planned };
 
     ghost view = { λ p. record {
-      table = p.table;
+      table = arc_value p.table;
       has_options = (rc_value p.plans).plans.has_options;
       num_columns = p.num_columns;
       before = option_map (λ b. b.items) p.before;
@@ -45,7 +52,7 @@ impl Model for Planned {
     } };
 
     ghost invariant = { λ p. (rc_value p.plans).plans ≡ Spec.plans_kept (record {
-      table = p.table;
+      table = arc_value p.table;
       has_options = (rc_value p.plans).plans.has_options;
       num_columns = p.num_columns;
       before = option_map (λ b. b.items) p.before;
@@ -83,6 +90,32 @@ fn copied(alloc: Global, bitmap: Option<&[u8]>) -> Result<Option<Vec<u8>>, Alloc
     }
 }
 
+// Returns the table map event to keep: the one that is shared, or a copy. Fails if memory is
+// refused.
+fn shared_or_copied(
+    alloc: Global,
+    table: &TableMapEvent<'_>,
+    shared: Option<&Arc<TableMapEvent<'static>>>,
+) -> Result<Arc<TableMapEvent<'static>>, AllocError>
+    requires { IfSome shared (λ t. arc_value t.now ≡ table.now) }
+    ensures { IfOk result (λ t. arc_value t ≡ table.now) }
+{
+    match shared {
+        Some(shared) => Arc::try_clone(shared),
+        None => Ok(Arc::new(alloc, table.clone(alloc)?.into_owned(alloc)?)?),
+    }
+}
+
+// Returns how many bytes a kept bitmap has; 0 if there is none.
+fn bitmap_len(kept: &Option<Vec<u8>>) -> usize
+    ensures { result ≡ bitmap_length (option_map (λ b. b.items) kept.now) }
+{
+    match kept {
+        None => 0,
+        Some(kept) => kept.len(),
+    }
+}
+
 // Returns whether a kept bitmap is this one.
 fn is_same(kept: &Option<Vec<u8>>, bitmap: Option<&[u8]>) -> bool
     ensures { IsTrue result
@@ -99,15 +132,16 @@ impl Planned {
     // Keeps a plan that was made for these events. Fails if memory is refused.
     fn new(
         alloc: Global,
-        table: &TableMapEvent<'_>,
+        table: Arc<TableMapEvent<'static>>,
         event: &RowsEvent<'_>,
         plans: Rc<Plans>,
     ) -> Result<Planned, AllocError>
-        requires { (rc_value plans).plans ≡ plans_of_events (record { table = table.now; event = event.now }) }
-        ensures { IfOk result (λ p. Serves p table.now event.now) }
+        requires { (rc_value plans).plans
+            ≡ plans_of_events (record { table = arc_value table; event = event.now }) }
+        ensures { IfOk result (λ p. Serves p (arc_value table.entry) event.now) }
     {
         Ok(Planned {
-            table: table.clone(alloc)?.into_owned(alloc)?,
+            table,
             num_columns: event.num_columns(),
             before: copied(alloc, event.bitmap_before())?,
             after: copied(alloc, event.bitmap_after())?,
@@ -126,6 +160,25 @@ impl Planned {
             && self.table.tells_the_same(table)
     }
 
+    // Returns how many bytes the bitmaps take, and the names of the database and the table.
+    fn told_bytes(&self) -> usize
+        ensures { result ≡ in_usize (told_bytes self.now) }
+    {
+        let bitmaps = bitmap_len(&self.before).saturating_add(bitmap_len(&self.after));
+        let database = self.table.database_name_raw().len();
+        let names = database.saturating_add(self.table.table_name_raw().len());
+        bitmaps.saturating_add(names.saturating_mul(4))
+    }
+
+    // Returns how many bytes the plan takes, without its table map event.
+    fn bytes(&self) -> usize
+        ensures { result ≡ kept_bytes (Some self.now) }
+    {
+        KEPT_BYTES
+            .saturating_add(self.told_bytes())
+            .saturating_add(self.plans.bytes())
+    }
+
     // Returns the plan, by which pairs of the events are read that it serves.
     fn plans(&self) -> &Rc<Plans>
         ensures { (t : TableMap) (e : Event) → Serves self.now t e → Reads t e (rc_value result.now).plans }
@@ -142,6 +195,21 @@ impl KeptPlan {
         ensures { result ≡ None }
     {
         KeptPlan { last: None }
+    }
+
+    /// Returns how many bytes of memory the kept plan takes; 0 if none is kept.
+    ///
+    /// The number is reckoned from the counts and lengths of what is kept, and is somewhat more than
+    /// what is in use: the bitmaps, how the cells of the images are read, the columns that rows
+    /// share, and their names. The table map event isn't counted, because others may share it. The
+    /// call goes over the columns of the images once.
+    pub fn bytes(&self) -> usize
+        ensures { result ≡ kept_bytes self.now }
+    {
+        match &self.last {
+            None => 0,
+            Some(planned) => planned.bytes(),
+        }
     }
 
     // Keeps a plan in place of the one that was kept.
@@ -173,21 +241,16 @@ impl Default for KeptPlan {
 impl<'a> RowsEvent<'a> {
     ghost use Rattle.mysql_binlog_rows.specs.Rows.{IsOf, Reads};
 
-    /// Returns an iterator over the pairs of rows, as `rows` does, by a plan that is kept.
-    ///
-    /// The items are those of `rows`, whatever was kept before. If the plan was kept for events
-    /// that tell the same, it is used again, and `metadata_steps` is 0: the servers, the names of
-    /// the database and of the table, the types, the metadata, the null bits and the optional
-    /// metadata of the table are the same, and so are the images and options of the rows events,
-    /// their count of columns, and their bitmaps of columns. The ids of the tables, the flags and
-    /// the rows data may differ. Otherwise a plan is made by this call, kept in place of the other,
-    /// and its steps are counted. Fails with `Memory` if memory is refused.
-    pub fn rows_by<'b>(
+    // Returns an iterator over the pairs of rows, as `rows_by` does. `shared` is the same table map
+    // event as `table`, if the caller shares it.
+    fn rows_by_table<'b>(
         &'b self,
         alloc: Global,
         table: &TableMapEvent<'_>,
+        shared: Option<&Arc<TableMapEvent<'static>>>,
         kept: &mut KeptPlan,
     ) -> Result<RowsEventRows<'b>, Fault>
+        requires { IfSome shared (λ t. arc_value t.now ≡ table.now) }
         ensures reads { IfOk result (λ r. Reads table.now self.now r.plans) }
         ensures left { IfOk result (λ r. r.left ≡ self.now.rows_data) }
         ensures planned { IfOk result (λ r. r.is_planned ≡ true) }
@@ -206,11 +269,62 @@ impl<'a> RowsEvent<'a> {
             return Ok(RowsEventRows::by_plans(alloc, self.rows_data(), shared));
         }
         let plans = Rc::new(alloc, Plans::make(alloc, &Events { table, event: self })?)?;
-        kept.keep(Planned::new(alloc, table, self, plans.clone()?)?);
+        let own_table = shared_or_copied(alloc, table, shared)?;
+        kept.keep(Planned::new(alloc, own_table, self, plans.clone()?)?);
         let shared = Shared {
             plans,
             is_new: true,
         };
         Ok(RowsEventRows::by_plans(alloc, self.rows_data(), shared))
+    }
+
+    /// Returns an iterator over the pairs of rows, as `rows` does, by a plan that is kept.
+    ///
+    /// The items are those of `rows`, whatever was kept before. If the plan was kept for events
+    /// that tell the same, it is used again, and `metadata_steps` is 0: the servers, the names of
+    /// the database and of the table, the types, the metadata, the null bits and the optional
+    /// metadata of the table are the same, and so are the images and options of the rows events,
+    /// their count of columns, and their bitmaps of columns. The ids of the tables, the flags and
+    /// the rows data may differ. Otherwise a plan is made by this call, kept in place of the other
+    /// with a copy of the table map event, and its steps are counted. Fails with `Memory` if memory
+    /// is refused.
+    pub fn rows_by<'b>(
+        &'b self,
+        alloc: Global,
+        table: &TableMapEvent<'_>,
+        kept: &mut KeptPlan,
+    ) -> Result<RowsEventRows<'b>, Fault>
+        ensures reads { IfOk result (λ r. Reads table.now self.now r.plans) }
+        ensures left { IfOk result (λ r. r.left ≡ self.now.rows_data) }
+        ensures planned { IfOk result (λ r. r.is_planned ≡ true) }
+        ensures again { KeptServes kept.old table.now self.now → IfOk result (λ r. r.steps ≡ 0) }
+        ensures anew { ¬ (KeptServes kept.old table.now self.now)
+            → IfOk result (IsOf table.now self.now) }
+        ensures kept { IfOk result (λ _. KeptServes kept.new table.now self.now) }
+        ensures err { IfErr result (λ e. e ≡ Fault.Memory) }
+    {
+        let not_shared: Option<&Arc<TableMapEvent<'static>>> = None;
+        self.rows_by_table(alloc, table, not_shared, kept)
+    }
+
+    /// Returns an iterator over the pairs of rows, as `rows_by` does. A plan that is kept shares the
+    /// table map event with the caller, and takes no copy of it.
+    pub fn rows_by_shared<'b>(
+        &'b self,
+        alloc: Global,
+        table: &Arc<TableMapEvent<'static>>,
+        kept: &mut KeptPlan,
+    ) -> Result<RowsEventRows<'b>, Fault>
+        ensures reads { IfOk result (λ r. Reads (arc_value table.now) self.now r.plans) }
+        ensures left { IfOk result (λ r. r.left ≡ self.now.rows_data) }
+        ensures planned { IfOk result (λ r. r.is_planned ≡ true) }
+        ensures again { KeptServes kept.old (arc_value table.now) self.now
+            → IfOk result (λ r. r.steps ≡ 0) }
+        ensures anew { ¬ (KeptServes kept.old (arc_value table.now) self.now)
+            → IfOk result (IsOf (arc_value table.now) self.now) }
+        ensures kept { IfOk result (λ _. KeptServes kept.new (arc_value table.now) self.now) }
+        ensures err { IfErr result (λ e. e ≡ Fault.Memory) }
+    {
+        self.rows_by_table(alloc, table, Some(table), kept)
     }
 }

@@ -8,7 +8,8 @@ ghost use Rattle.binlog_table.specs.TableMap.{TableMap};
 ghost use Rattle.mysql_binlog_rows.specs.RowsEvent.{RowsEvent as Event};
 ghost use Rattle.mysql_binlog_rows.specs.Images.{has_options, pair};
 ghost use Rattle.mysql_binlog_rows.specs.Plans.{plan_of, walked_in, walked_apart, slot_count, same_columns, planned_maybe, planned_pair};
-ghost use Rattle.mysql_binlog_rows.specs.After.{after_in, walked_after};
+ghost use Rattle.mysql_binlog_rows.specs.After.{after_in, is_same, walked_after};
+ghost use Rattle.mysql_binlog_rows.specs.Memory.{in_usize, maybe_bytes, plans_bytes};
 ghost use Rattle.mysql_binlog_rows.specs.Rows.{Reads, PairGives, at_rest, columns_in, plans_of_events, most_of_events};
 ghost use Rattle.mysql_binlog_rows.specs.Columns.{plans_in, is_planned, PlansKept};
 
@@ -46,7 +47,7 @@ pub(super) struct Plans {
 impl Model for Plans {
     ghost use Rattle.std.specs.Prelude.{◌≤◌, ◌+◌};
     ghost use Rattle.mysql_binlog_rows.specs.Plans.{walked_in};
-    ghost use Rattle.mysql_binlog_rows.specs.After.{after_in, walked_after};
+    ghost use Rattle.mysql_binlog_rows.specs.After.{after_in, is_same, walked_after};
     ghost use Rattle.mysql_binlog_rows.specs.Rows.{Made};
 
     ghost Value = { Made };
@@ -55,6 +56,7 @@ impl Model for Plans {
       plans = record {
         before = p.before;
         after = after_in p.before p.after;
+        is_one = is_same p.after;
         has_options = p.has_options;
         walked = walked_in p.before + walked_after p.after;
       };
@@ -159,6 +161,16 @@ fn maybe_plan(
     }
 }
 
+// Returns how many bytes of memory a plan takes, if there is one.
+fn bytes_of(plan: &Option<Plan>) -> usize
+    ensures { result ≡ in_usize (maybe_bytes plan.now) }
+{
+    match plan {
+        None => 0,
+        Some(plan) => plan.bytes(),
+    }
+}
+
 fn read_maybe(
     alloc: Global,
     plan: &Option<Plan>,
@@ -196,6 +208,7 @@ fn plan_after(
     requires { steps.old < 2 ^ 127 }
     ensures plan { IfOk result (λ a. after_in (option_map (plan_of table.now) before.now) a
         ≡ option_map (plan_of table.now) after.now) }
+    ensures same { IfOk result (λ a. is_same a ≡ same_columns before.now after.now) }
     ensures walked { IfOk result (λ a. walked_after a ≡ walked_apart
         (same_columns before.now after.now) (option_map (plan_of table.now) after.now)) }
     ensures least { IfOk result (λ a. steps.old + walked_after a ≤ steps.new) }
@@ -235,6 +248,17 @@ impl Plans {
         ensures { result ≡ self.now.plans.has_options }
     {
         self.has_options
+    }
+
+    // Returns how many bytes of memory the plans of both images take.
+    pub(super) fn bytes(&self) -> usize
+        ensures { result ≡ in_usize (plans_bytes self.now.plans) }
+    {
+        let before = bytes_of(&self.before);
+        match &self.after {
+            After::Same => before,
+            After::Own(plan) => before.saturating_add(bytes_of(plan)),
+        }
     }
 
     // Returns the plan of the images after the change; `None` where the event has no such images.

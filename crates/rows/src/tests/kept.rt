@@ -5,8 +5,9 @@ use binlog_base::below::{ParseBuf, Server};
 use binlog_base::fault::Fault;
 use binlog_consts::consts::EventType;
 use binlog_table::table_map::TableMapEvent;
-use mysql_binlog_rows::rows_event::{KeptPlan, RowsEvent};
+use mysql_binlog_rows::rows_event::{KeptPlan, RowsEvent, pairs_by_shared};
 use std::alloc::Global;
+use std::sync::Arc;
 use std::test::Fail;
 
 /// The table d.t of an INT UNSIGNED `a` and a VARCHAR `b`.
@@ -239,5 +240,29 @@ fn named_update_read_twice(rt: HostRuntime) -> Result<(), Fail> {
     let event_type = EventType::UPDATE_ROWS_EVENT;
     let twice = read_twice(rt.alloc(), TEN_NAMED_COLUMNS, TEN_UPDATED, event_type)?;
     assert!(rt; twice == [(true, 26), (true, 0)]);
+    Ok(())
+}
+
+/// Reads the two rows twice by a table map event that is shared. Returns whether there are two pairs
+/// each time, and the steps of the second time.
+fn read_shared(alloc: Global, kept: &mut KeptPlan) -> Result<(bool, u128), Fault> {
+    let table: TableMapEvent<'_> = ParseBuf(UNSIGNED).parse(8)?;
+    let table = Arc::new(alloc, table.clone(alloc)?.into_owned(alloc)?)?;
+    let event = read(TWO_ROWS, EventType::WRITE_ROWS_EVENT, 10)?;
+    let decoded = pairs_by_shared(alloc, &table, &event, kept)?;
+    let again = event.rows_by_shared(alloc, &table, kept)?;
+    let steps = again.metadata_steps();
+    let are_two = decoded.fault.is_none() && decoded.pairs.len() == 2 && again.count() == 2;
+    Ok((are_two, steps))
+}
+
+#[test]
+fn table_shared(rt: HostRuntime) -> Result<(), Fail> {
+    let mut kept = KeptPlan::new();
+    let empty = kept.bytes();
+    let read = read_shared(rt.alloc(), &mut kept)?;
+    // Room for two columns, the names a and b, d and t, and a bitmap of one byte.
+    let bytes = 512 + 1 + 4 * 2 + 192 + 2 * 208 + 2 * 2;
+    assert!(rt; (read, empty, kept.bytes()) == ((true, 0), 0, bytes));
     Ok(())
 }

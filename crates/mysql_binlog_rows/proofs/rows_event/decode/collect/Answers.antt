@@ -1,6 +1,4 @@
 use Rattle.std.proofs.Common.{Some, None, sym, subst, ◌∙◌}
-use Rattle.binlog_table.specs.TableMap.{TableMap}
-use Rattle.mysql_binlog_rows.specs.RowsEvent.{RowsEvent}
 use Rattle.mysql_binlog_rows.specs.Images.{pair}
 use Rattle.mysql_binlog_rows.specs.Plans.{Plans}
 use Rattle.mysql_binlog_rows.specs.Rows.{Reads}

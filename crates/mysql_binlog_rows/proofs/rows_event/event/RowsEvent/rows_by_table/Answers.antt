@@ -1,7 +1,7 @@
-use Rattle.std.proofs.Common.{◌≡◌, ◌≤◌, false, sym, ap, subst, ◌∙◌}
+use Rattle.std.proofs.Common.{◌≤◌, false, sym, ap, subst, ◌∙◌}
 use Rattle.mysql_binlog_rows.specs.Rows.{Made, Rows, Reads, IsOf, most_steps}
 use Rattle.mysql_binlog_rows.proofs.AlikePlans.{made_reads, of_events}
-use Rattle.mysql_binlog_rows.proofs.rows_event.event.RowsEvent.rows_by.Goals as goal
+use Rattle.mysql_binlog_rows.proofs.rows_event.event.RowsEvent.rows_by_table.Goals as goal
 
 pub returns-in-Some-clause-reads : goal.returns-in-Some-clause-reads
 returns-in-Some-clause-reads c =

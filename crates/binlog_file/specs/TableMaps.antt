@@ -3,7 +3,7 @@
 use Rattle.std.specs.Prelude.{ℕ, nat_eq, if◌then◌else◌, Option, Some, None}
 use Rattle.std.specs.Option.{option_map}
 use Rattle.std.specs.Ordering.{nat_cmp}
-use Rattle.std.specs.Rc.{rc_value}
+use Rattle.std.specs.Arc.{arc_value}
 use Rattle.std.specs.BTreeMap as tree
 use Rattle.binlog_table.specs.TableMap.{TableMap}
 use Rattle.binlog_file.specs.Tables.{Tables, InForce}
@@ -15,7 +15,7 @@ first_or None id other = other
 first_or (Some t) id other = if nat_eq id t.table_id then Some t else other
 
 abbrev pub in_maps : TableMaps → Tables
-in_maps t id = first_or (option_map rc_value t.first) id (option_map rc_value (tree.get nat_cmp t.others id))
+in_maps t id = first_or (option_map arc_value t.first) id (option_map arc_value (tree.get nat_cmp t.others id))
 
 abbrev pub held_by : TableMaps → InForce
 held_by t = record { tables = in_maps t; ended = t.ended }

@@ -6,7 +6,7 @@ ghost use Rattle.std.specs.Io.KnownBytes.{Consumes, IsAtEnd};
 ghost use Rattle.binlog_file.specs.Events.{after, is_plain};
 ghost use Rattle.binlog_file.specs.Taken.{TakesRaw};
 ghost use Rattle.binlog_file.specs.TableBodies.{event_with};
-ghost use Rattle.std.specs.Rc.{rc_value};
+ghost use Rattle.std.specs.Arc.{arc_value};
 ghost use Rattle.binlog_file.specs.Stream as Spec;
 ghost use Rattle.binlog_file.specs.Readers.{kept_by, reading_of};
 ghost use Rattle.binlog_file.specs.Checkpoints.{checkpoint, checkpoint_of};
@@ -20,7 +20,7 @@ use crate::unread::UnreadTable;
 use binlog_base::below::{Failed, Source};
 use binlog_table::table_map::TableMapEvent;
 use std::alloc::{AllocError, Global};
-use std::rc::Rc;
+use std::sync::Arc;
 
 /// How many bytes are asked of a source at most.
 const PIECE: usize = 4096;
@@ -209,12 +209,12 @@ impl Kept {
     fn take_table(
         &mut self,
         event: &UnreadTable<'_>,
-        table: Rc<TableMapEvent<'static>>,
+        table: Arc<TableMapEvent<'static>>,
         raw: &Raw<'_>,
     ) -> Result<(), AllocError>
         requires { event.now.header.event_type ≡ 0x13 }
         ensures { OnOk result (kept_by self.new ≡ Spec.kept_after (kept_by self.old)
-            (raw.now.head ++ raw.now.rest) (event_with event.now (rc_value table.entry))) }
+            (raw.now.head ++ raw.now.rest) (event_with event.now (arc_value table.entry))) }
     {
         self.stored.take_table(self.tables.ended(), raw)?;
         self.tables.take_table(table)?;

@@ -3,7 +3,7 @@
 ghost use Rattle.std.specs.Prelude.{◌≡◌, ◌≤◌, ◌<◌, ◌⊎◌, ℕ, false, Ok, Err, None, OnOk, IfOk, IfErr, IfSome};
 ghost use Rattle.std.specs.Option.{option_map};
 ghost use Rattle.std.specs.BTreeMap.{btree_map_len};
-ghost use Rattle.std.specs.Rc.{rc_value};
+ghost use Rattle.std.specs.Arc.{arc_value};
 ghost use Rattle.binlog_file.specs.Changes.{IsMemory};
 ghost use Rattle.binlog_file.specs.Tables.{no_tables, with_table, found, given_up, ends_statement, in_force_after};
 ghost use Rattle.binlog_file.specs.TableBodies.{ReadsTable};
@@ -17,7 +17,7 @@ use byteorder::{ByteOrder, LittleEndian};
 use std::alloc::{AllocError, Global};
 use std::collections::BTreeMap;
 use std::marker::Model;
-use std::rc::Rc;
+use std::sync::Arc;
 
 /// How many table map events are kept at most past the end of their statements.
 const MOST_KEPT: usize = 1024;
@@ -35,12 +35,12 @@ struct KeptTable {
     server: Server,
     post_header_len: u8,
     body: Vec<u8>,
-    table: Rc<TableMapEvent<'static>>,
+    table: Arc<TableMapEvent<'static>>,
 }
 
 impl Model for KeptTable {
     ghost use Rattle.std.specs.Prelude.{Ok};
-    ghost use Rattle.std.specs.Rc.{rc_value};
+    ghost use Rattle.std.specs.Arc.{arc_value};
     ghost use Rattle.binlog_file.specs.TableBodies as Spec;
 
     ghost Value = { Spec.KeptTable };
@@ -49,11 +49,11 @@ impl Model for KeptTable {
       server = k.server;
       post_header_len = k.post_header_len;
       body = k.body.items;
-      table = rc_value k.table;
+      table = arc_value k.table;
     } };
 
     ghost invariant = { λ k. Spec.ReadsTable k.server k.post_header_len k.body.items
-        (Ok (rc_value k.table)) };
+        (Ok (arc_value k.table)) };
 }
 
 impl KeptTable {
@@ -64,9 +64,9 @@ impl KeptTable {
         server: Server,
         post_header_len: u8,
         body: &[u8],
-    ) -> Result<Option<Rc<TableMapEvent<'static>>>, AllocError>
+    ) -> Result<Option<Arc<TableMapEvent<'static>>>, AllocError>
         ensures { IfOk result
-            (λ o. IfSome o (λ t. ReadsTable server post_header_len body.now (Ok (rc_value t)))) }
+            (λ o. IfSome o (λ t. ReadsTable server post_header_len body.now (Ok (arc_value t)))) }
     {
         if self.server == server
             && self.post_header_len == post_header_len
@@ -96,8 +96,8 @@ fn key_of(body: &[u8]) -> u64 {
 #[derive(Drop)]
 pub struct TableMaps {
     // Most statements change one table: theirs takes no node of a map.
-    first: Option<Rc<TableMapEvent<'static>>>,
-    others: BTreeMap<u64, Rc<TableMapEvent<'static>>>,
+    first: Option<Arc<TableMapEvent<'static>>>,
+    others: BTreeMap<u64, Arc<TableMapEvent<'static>>>,
     kept: BTreeMap<u64, KeptTable>,
     kept_bytes: usize,
     ended: bool,
@@ -124,11 +124,11 @@ impl TableMaps {
     {
         if let Some(first) = &self.first {
             if first.table_id() == table_id {
-                return Some(first.as_ref());
+                return Some(first);
             }
         }
         match self.others.get(&table_id) {
-            Some(table) => Some(table.as_ref()),
+            Some(table) => Some(table),
             None => None,
         }
     }
@@ -177,9 +177,9 @@ impl TableMaps {
     }
 
     // Puts a table map event in force, in place of one with the same table id.
-    fn put(&mut self, table: Rc<TableMapEvent<'static>>) -> Result<(), AllocError>
+    fn put(&mut self, table: Arc<TableMapEvent<'static>>) -> Result<(), AllocError>
         ensures tables { OnOk result ((id : ℕ) → in_maps self.new id
-            ≡ with_table (in_maps self.old) (rc_value table.entry) id) }
+            ≡ with_table (in_maps self.old) (arc_value table.entry) id) }
         ensures ended { self.new.ended ≡ self.old.ended }
     {
         let table_id = table.table_id();
@@ -199,9 +199,9 @@ impl TableMaps {
         server: Server,
         post_header_len: u8,
         body: &[u8],
-    ) -> Result<Option<Rc<TableMapEvent<'static>>>, AllocError>
+    ) -> Result<Option<Arc<TableMapEvent<'static>>>, AllocError>
         ensures { IfOk result
-            (λ o. IfSome o (λ t. ReadsTable server post_header_len body.now (Ok (rc_value t)))) }
+            (λ o. IfSome o (λ t. ReadsTable server post_header_len body.now (Ok (arc_value t)))) }
     {
         match self.kept.get(&key_of(body)) {
             Some(kept) => kept.shared(server, post_header_len, body),
@@ -232,14 +232,14 @@ impl TableMaps {
         post_header_len: u8,
         body: &[u8],
         table: &TableMapEvent<'_>,
-    ) -> Result<Rc<TableMapEvent<'static>>, AllocError>
+    ) -> Result<Arc<TableMapEvent<'static>>, AllocError>
         requires { ReadsTable server post_header_len body.now (Ok table.now) }
-        ensures copied { IfOk result (λ t. rc_value t ≡ table.now) }
+        ensures copied { IfOk result (λ t. arc_value t ≡ table.now) }
         ensures held { held_by self.new ≡ held_by self.old }
         ensures few { btree_map_len self.old.kept ≤ MOST_KEPT
             → btree_map_len self.new.kept ≤ MOST_KEPT }
     {
-        let copy = Rc::new(alloc, table.clone(alloc)?.into_owned(alloc)?)?;
+        let copy = Arc::new(alloc, table.clone(alloc)?.into_owned(alloc)?)?;
         if body.len() > MOST_BODY {
             return Ok(copy);
         }
@@ -261,8 +261,8 @@ impl TableMaps {
         server: Server,
         post_header_len: u8,
         body: &[u8],
-    ) -> Result<Rc<TableMapEvent<'static>>, EventError>
-        ensures ok { IfOk result (λ t. ReadsTable server post_header_len body.now (Ok (rc_value t))) }
+    ) -> Result<Arc<TableMapEvent<'static>>, EventError>
+        ensures ok { IfOk result (λ t. ReadsTable server post_header_len body.now (Ok (arc_value t))) }
         ensures err { IfErr result
             (λ e. IsMemory e ⊎ ReadsTable server post_header_len body.now (Err e)) }
         ensures held { held_by self.new ≡ held_by self.old }
@@ -281,9 +281,9 @@ impl TableMaps {
         post_header_len: u8,
         body: &[u8],
         table: &TableMapEvent<'_>,
-    ) -> Result<Rc<TableMapEvent<'static>>, AllocError>
+    ) -> Result<Arc<TableMapEvent<'static>>, AllocError>
         requires { ReadsTable table.now.server post_header_len body.now (Ok table.now) }
-        ensures same { IfOk result (λ t. rc_value t ≡ table.now) }
+        ensures same { IfOk result (λ t. arc_value t ≡ table.now) }
         ensures held { held_by self.new ≡ held_by self.old }
         ensures few { btree_map_len self.old.kept ≤ MOST_KEPT
             → btree_map_len self.new.kept ≤ MOST_KEPT }
@@ -297,9 +297,9 @@ impl TableMaps {
 
     // Takes a table map event. All tables before it are given up if a statement ended with the event
     // before it.
-    pub(crate) fn take_table(&mut self, table: Rc<TableMapEvent<'static>>) -> Result<(), AllocError>
+    pub(crate) fn take_table(&mut self, table: Arc<TableMapEvent<'static>>) -> Result<(), AllocError>
         ensures tables { OnOk result ((id : ℕ) → in_maps self.new id
-            ≡ with_table (found (in_maps self.old) self.old.ended) (rc_value table.entry) id) }
+            ≡ with_table (found (in_maps self.old) self.old.ended) (arc_value table.entry) id) }
         ensures ended { self.new.ended ≡ false }
     {
         if self.ended {

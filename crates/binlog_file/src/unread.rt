@@ -1,7 +1,7 @@
 //! Table map events that are looked up by their bytes before they are read.
 
 ghost use Rattle.std.specs.Prelude.{◌≡◌, ◌⊎◌, Ok, Err, IfOk, IfErr};
-ghost use Rattle.std.specs.Rc.{rc_value};
+ghost use Rattle.std.specs.Arc.{arc_value};
 ghost use Rattle.binlog_table.specs.TableMap.{TableMap};
 ghost use Rattle.binlog_file.specs.Events.{event_of_raw, glance_of};
 ghost use Rattle.binlog_file.specs.Changes.{IsMemory};
@@ -18,7 +18,7 @@ use binlog_base::below::Server;
 use binlog_table::table_map::TableMapEvent;
 use std::alloc::Global;
 use std::marker::Model;
-use std::rc::Rc;
+use std::sync::Arc;
 
 /// A table map event whose checksum is right, and whose body isn't read yet, with what that is read
 /// by.
@@ -74,9 +74,9 @@ impl<'a> UnreadTable<'a> {
         &self,
         alloc: Global,
         tables: &mut TableMaps,
-    ) -> Result<Rc<TableMapEvent<'static>>, EventError>
+    ) -> Result<Arc<TableMapEvent<'static>>, EventError>
         ensures ok { IfOk result (λ t. ReadsTable self.now.server self.now.post_header_len
-            self.now.parts.body (Ok (rc_value t))) }
+            self.now.parts.body (Ok (arc_value t))) }
         ensures err { IfErr result (λ e. IsMemory e ⊎ ReadsTable self.now.server
             self.now.post_header_len self.now.parts.body (Err e)) }
         ensures held { held_by tables.new ≡ held_by tables.old }

@@ -18,6 +18,7 @@ mod program;
 mod readers;
 mod servers;
 mod table_map;
+mod threads;
 mod times;
 mod trees;
 

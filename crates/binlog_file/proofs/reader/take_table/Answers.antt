@@ -1,5 +1,5 @@
 use Rattle.std.proofs.Common.{◌≡◌, ◌++◌, Option, Result, Ok, Err, sym, subst, ap, ◌∙◌, inl, inr}
-use Rattle.std.specs.Rc.{rc_value}
+use Rattle.std.specs.Arc.{arc_value}
 use Rattle.std.specs.Result.{IsErrAnd}
 use Rattle.binlog_file.specs.declared.error.EventError.{EventError}
 use Rattle.binlog_file.specs.Description.{Description}
@@ -32,7 +32,7 @@ pub returns : goal.returns
 returns c =
     let k = kept_by c.args.kept.now in
     let u = c.in_ok-event.event in
-    let t = rc_value c.in_ok-table.table in
+    let t = arc_value c.in_ok-table.table in
     let left = subst (λ (d : Option Description). LeavesTable (event_of_raw k.at d c.args.raw.now) (Ok u)) c.lend-in_force.ensures c.in_ok-event.ensures.leaves in
     let same = ap (λ (s : InForce). kept_after (kept k.at k.description s k.stored) (c.args.raw.now.head ++ c.args.raw.now.rest) (event_with u t)) c.table.ensures.held in
     (event_with u t, c.glance.ensures t, left.0 t c.in_ok-table.ensures.ok, c.in_ok-take_table.ensures ∙ same)

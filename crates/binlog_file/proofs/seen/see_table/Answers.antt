@@ -1,5 +1,5 @@
 use Rattle.std.proofs.Common.{◌≡◌, ℕ, Option, None, Result, Ok, Err, sym, subst, ap, ◌∙◌, inl, inr}
-use Rattle.std.specs.Rc.{rc_value}
+use Rattle.std.specs.Arc.{arc_value}
 use Rattle.std.specs.Result.{IsErrAnd}
 use Rattle.binlog_file.specs.declared.error.EventError.{EventError}
 use Rattle.binlog_file.specs.Description.{Description}
@@ -26,10 +26,10 @@ returns-in_err-table c =
 
 pub returns : goal.returns
 returns c =
-    let e = event_with c.in_ok-event.event (rc_value c.in_ok-table.table) in
+    let e = event_with c.in_ok-event.event (arc_value c.in_ok-table.table) in
     let held = held_as (held_by c.take_table.new.self) (in_force_after (held_by c.table.new.tables) e) c.in_ok-take_table.ensures.tables c.in_ok-take_table.ensures.ended in (
       e,
-      ap (λ (g : Glance). seen g None) (c.glance.ensures (rc_value c.in_ok-table.table)),
-      c.in_ok-event.ensures.leaves.0 (rc_value c.in_ok-table.table) c.in_ok-table.ensures.ok,
+      ap (λ (g : Glance). seen g None) (c.glance.ensures (arc_value c.in_ok-table.table)),
+      c.in_ok-event.ensures.leaves.0 (arc_value c.in_ok-table.table) c.in_ok-table.ensures.ok,
       held ∙ ap (λ (s : InForce). in_force_after s e) c.table.ensures.held,
     )

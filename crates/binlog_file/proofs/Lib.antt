@@ -7,7 +7,6 @@ pub mod Collected
 pub mod Rest
 pub mod Changed
 pub mod Followed
-pub mod Held
 pub mod Filled
 pub mod RawRead
 pub mod EventRead

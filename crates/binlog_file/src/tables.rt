@@ -1,11 +1,11 @@
 //! The table map events in force.
 
-ghost use Rattle.std.specs.Prelude.{◌≡◌, ◌≤◌, ◌<◌, ◌⊎◌, ℕ, false, Ok, Err, None, OnOk, IfOk, IfErr, IfSome};
+ghost use Rattle.std.specs.Prelude.{◌≡◌, ◌≤◌, ◌<◌, ◌⊎◌, ℕ, false, Ok, Err, None, OnOk, OnErr, IfOk, IfErr, IfSome, IsSome};
 ghost use Rattle.std.specs.Option.{option_map};
 ghost use Rattle.std.specs.BTreeMap.{btree_map_len};
 ghost use Rattle.std.specs.Arc.{arc_value};
 ghost use Rattle.binlog_file.specs.Changes.{IsMemory};
-ghost use Rattle.binlog_file.specs.Tables.{no_tables, with_table, found, given_up, ends_statement, in_force_after};
+ghost use Rattle.binlog_file.specs.Tables.{no_tables, with_table, with_map, found, given_up, ends_statement, in_force_after};
 ghost use Rattle.binlog_file.specs.TableBodies.{ReadsTable};
 ghost use Rattle.binlog_file.specs.TableMaps.{in_maps, held_by};
 
@@ -118,16 +118,23 @@ impl TableMaps {
         }
     }
 
-    /// Returns the table map event that is in force for a table id.
-    pub fn get_tme(&self, table_id: u64) -> Option<&TableMapEvent<'static>>
-        ensures { option_map (λ t. t.now) result ≡ in_maps self.now table_id }
+    // Returns the table map event that is in force for a table id, to be shared.
+    pub(crate) fn shared_tme(&self, table_id: u64) -> Option<&Arc<TableMapEvent<'static>>>
+        ensures { option_map (λ t. arc_value t.now) result ≡ in_maps self.now table_id }
     {
         if let Some(first) = &self.first {
             if first.table_id() == table_id {
                 return Some(first);
             }
         }
-        match self.others.get(&table_id) {
+        self.others.get(&table_id)
+    }
+
+    /// Returns the table map event that is in force for a table id.
+    pub fn get_tme(&self, table_id: u64) -> Option<&TableMapEvent<'static>>
+        ensures { option_map (λ t. t.now) result ≡ in_maps self.now table_id }
+    {
+        match self.shared_tme(table_id) {
             Some(table) => Some(table),
             None => None,
         }
@@ -143,23 +150,36 @@ impl TableMaps {
     // Gives up all tables.
     fn clear(&mut self)
         ensures tables { (id : ℕ) → in_maps self.new id ≡ None }
+        ensures first { self.new.first ≡ None }
         ensures ended { self.new.ended ≡ self.old.ended }
     {
         self.first = None;
         self.others.clear();
     }
 
+    // Gives up all tables if the event before was the last of its statement. So where one is left,
+    // all are.
+    fn end_statement(&mut self)
+        ensures tables { (id : ℕ) → in_maps self.new id ≡ found (in_maps self.old) self.old.ended id }
+        ensures left { IsSome self.new.first → self.new ≡ self.old }
+        ensures ended { self.new.ended ≡ self.old.ended }
+    {
+        if self.ended {
+            self.clear();
+        }
+    }
+
     // Gives up all tables if the event before was the last of its statement, or this one is a format
-    // description event.
+    // description event. So where one is left, all are.
     fn give_up(&mut self, event: &Event<'_>)
         ensures tables { (id : ℕ) → in_maps self.new id
             ≡ given_up (found (in_maps self.old) self.old.ended) event.now.description id }
-        ensures ended { self.new.ended ≡ ends_statement event.now }
+        ensures left { IsSome self.new.first → self.new ≡ self.old }
+        ensures ended { self.new.ended ≡ self.old.ended }
     {
         if self.ended || event.description().is_some() {
             self.clear();
         }
-        self.ended = event.ends_statement();
     }
 
     // Takes what a plain event says of tables.
@@ -170,16 +190,17 @@ impl TableMaps {
             ≡ (in_force_after (held_by self.old) event.now).tables id }
         ensures ended { self.new.ended ≡ ends_statement event.now }
     {
-        if self.ended {
-            self.clear();
-        }
+        self.end_statement();
         self.ended = event.ends_statement();
     }
 
-    // Puts a table map event in force, in place of one with the same table id.
+    // Puts a table map event in force, in place of one with the same table id. Memory is asked for
+    // beside a first one alone, and where it is refused all stay.
     fn put(&mut self, table: Arc<TableMapEvent<'static>>) -> Result<(), AllocError>
         ensures tables { OnOk result ((id : ℕ) → in_maps self.new id
             ≡ with_table (in_maps self.old) (arc_value table.entry) id) }
+        ensures beside { OnErr result (IsSome self.old.first) }
+        ensures refused { OnErr result (held_by self.new ≡ held_by self.old) }
         ensures ended { self.new.ended ≡ self.old.ended }
     {
         let table_id = table.table_id();
@@ -295,35 +316,70 @@ impl TableMaps {
         }
     }
 
+    // Returns the table map event that an event is, a kept one where there is one.
+    fn table_in(
+        &mut self,
+        alloc: Global,
+        event: &Event<'_>,
+    ) -> Result<Option<Arc<TableMapEvent<'static>>>, AllocError>
+        ensures same { IfOk result (λ t. option_map arc_value t ≡ event.now.table) }
+        ensures held { held_by self.new ≡ held_by self.old }
+    {
+        match event.table() {
+            None => Ok(None),
+            Some(table) => Ok(Some(self.shared(
+                alloc,
+                event.post_header_len(),
+                event.body(),
+                table,
+            )?)),
+        }
+    }
+
+    // Puts a table map event in force, if there is one.
+    fn put_maybe(&mut self, table: Option<Arc<TableMapEvent<'static>>>) -> Result<(), AllocError>
+        ensures tables { OnOk result ((id : ℕ) → in_maps self.new id
+            ≡ with_map (in_maps self.old) (option_map arc_value table.entry) id) }
+        ensures beside { OnErr result (IsSome self.old.first) }
+        ensures refused { OnErr result (held_by self.new ≡ held_by self.old) }
+        ensures ended { self.new.ended ≡ self.old.ended }
+    {
+        match table {
+            None => Ok(()),
+            Some(table) => self.put(table),
+        }
+    }
+
     // Takes a table map event. All tables before it are given up if a statement ended with the event
-    // before it.
-    pub(crate) fn take_table(&mut self, table: Arc<TableMapEvent<'static>>) -> Result<(), AllocError>
+    // before it. Where memory is refused, all is as before.
+    pub(crate) fn take_table(
+        &mut self,
+        table: Arc<TableMapEvent<'static>>,
+    ) -> Result<(), AllocError>
         ensures tables { OnOk result ((id : ℕ) → in_maps self.new id
             ≡ with_table (found (in_maps self.old) self.old.ended) (arc_value table.entry) id) }
-        ensures ended { self.new.ended ≡ false }
+        ensures ended { OnOk result (self.new.ended ≡ false) }
+        ensures refused { OnErr result (held_by self.new ≡ held_by self.old) }
     {
-        if self.ended {
-            self.clear();
-        }
+        self.end_statement();
+        self.put(table)?;
         self.ended = false;
-        self.put(table)
+        Ok(())
     }
 
     /// Takes what an event says of tables: a table map event is in force from then on. All tables
     /// are given up at the event after a rows event with the flag STMT_END_F, and at a format
-    /// description event.
+    /// description event. Where memory is refused, the tables in force are as before.
     pub fn take(&mut self, alloc: Global, event: &Event<'_>) -> Result<(), AllocError>
         ensures tables { OnOk result
             ((id : ℕ) → in_maps self.new id ≡ (in_force_after (held_by self.old) event.now).tables id) }
         ensures ended { OnOk result (self.new.ended ≡ ends_statement event.now) }
+        ensures refused { OnErr result (held_by self.new ≡ held_by self.old) }
     {
+        let table = self.table_in(alloc, event)?;
         self.give_up(event);
-        match event.table() {
-            None => Ok(()),
-            Some(table) => {
-                let shared = self.shared(alloc, event.post_header_len(), event.body(), table)?;
-                self.put(shared)
-            }
-        }
+        self.put_maybe(table)?;
+        self.ended = event.ends_statement();
+        Ok(())
     }
 }

@@ -83,8 +83,8 @@ fn make_len(buffer: &mut Vec<u8>, len: usize) -> Result<(), AllocError>
 }
 
 // Takes n bytes of the source to the start of a buffer, or all that are left if they are fewer.
-// Returns how many. The buffer grows as the bytes come, so it takes memory for one piece at most
-// that the source hasn't.
+// Returns how many. The buffer grows by a piece as the bytes come, and each growth may double its
+// room. So memory is taken for one piece that the source hasn't, or for as many bytes again as came.
 fn fill_front<S: Source>(
     source: &mut S,
     buffer: &mut Vec<u8>,

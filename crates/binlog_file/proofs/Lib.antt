@@ -15,3 +15,5 @@ pub mod SourceFollowed
 pub mod Headers
 pub mod Moved
 pub mod Checkpointed
+pub mod Bytes
+pub mod Places

@@ -5,6 +5,7 @@ pub mod Version
 pub mod Description
 pub mod Events
 pub mod Lemmas
+pub mod Kept
 pub mod Tables
 pub mod TableBodies
 pub mod TableMaps

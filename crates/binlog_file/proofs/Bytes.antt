@@ -8,7 +8,7 @@ use Rattle.std.specs.List.Sorted.{IsStrictlySortedBy}
 use Rattle.std.specs.Map.{keys_of, remove_entry}
 use Rattle.std.specs.BTreeMap.{is_at, insert_entry}
 use Rattle.std.proofs.lemmas.Map.Entries.{sum_by-insert_entry, sum_by-remove_entry}
-use Rattle.binlog_file.specs.Kept.{Entries, bytes_held, value_at}
+use Rattle.binlog_file.specs.Kept.{Entries, bytes_held, value_at, either}
 
 -- what one value takes, 0 if there is none
 abbrev pub maybe_bytes : {X : Type 0} → (X → ℕ) → Option X → ℕ
@@ -36,3 +36,8 @@ bytes_more f es fs k v o sorted is was none = subst (λ o. bytes_held f fs + may
 pub bytes_fewer : {X : Type 0} (f : X → ℕ) (es fs : Entries X) (k : ℕ) (r : X) (o : Option X)
     → fs ≡ remove_entry (is_at (nat_cmp k)) es → o ≡ value_at es k → o ≡ Some r → bytes_held f fs + f r ≡ bytes_held f es
 bytes_fewer f es fs k r o is was some = subst (λ o. bytes_held f fs + maybe_bytes f o ≡ bytes_held f es) some (bytes_taken f es fs k o is was)
+
+-- with fewer older values there is no more
+pub no_more_by : {X : Type 0} (a b c : Option X) (v : X) → (c ≡ Some v → b ≡ Some v) → either a c ≡ Some v → either a b ≡ Some v
+no_more_by None b c v fewer is = fewer is
+no_more_by (Some x) b c v fewer is = is

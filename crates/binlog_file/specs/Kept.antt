@@ -1,5 +1,5 @@
 -- What is kept to be used again, and how many bytes of memory that takes.
-use Rattle.std.specs.Prelude.{◌≡◌, ◌+◌, ◌≤◌, ◌%◌, ℕ, cond, List, [], Option, Some, None}
+use Rattle.std.specs.Prelude.{◌≡◌, ◌+◌, ◌≤◌, ◌%◌, ℕ, cond, List, Option, Some, None, IsSome}
 use Rattle.std.specs.Ordering.{nat_cmp}
 use Rattle.std.specs.List.{sum_by, slice_get}
 use Rattle.std.specs.Map.{lookup, values_of}
@@ -25,12 +25,12 @@ Changes es fs k v = (q : ℕ) → value_at fs q ≡ cond (is_at (nat_cmp k) q) v
 abbrev pub IsNoted : List ℕ → ℕ → Type 0
 IsNoted places k = slice_get places (k % 8192) ≡ Some k
 
--- what is kept in two generations: what was used lately, what was used before that, how many bytes each
+-- what is kept in two generations: what was used lately, what was used before that, how many bytes all
 -- takes at most, and the keys that were noted
 pub record Generations (X : Type 0) : Type 0 where
   pub younger : Entries X
   pub older : Entries X
-  pub half : ℕ
+  pub most : ℕ
   pub notes : List ℕ
 
 -- the first if it is there, else the second
@@ -42,20 +42,24 @@ either (Some a) b = Some a
 abbrev pub kept_at : {X : Type 0} → Generations X → ℕ → Option X
 kept_at g k = either (value_at g.younger k) (value_at g.older k)
 
--- the younger generation has room for so many bytes more
-abbrev pub HasRoom : {X : Type 0} → (X → ℕ) → Generations X → ℕ → Type 0
-HasRoom f g weight = bytes_held f g.younger + weight ≤ g.half
-
 -- the bytes of all that is kept
 abbrev pub all_bytes : {X : Type 0} → (X → ℕ) → Generations X → ℕ
 all_bytes f g = bytes_held f g.younger + bytes_held f g.older
 
--- the two generations are the same
+-- there is room for so many bytes more
+abbrev pub HasRoom : {X : Type 0} → (X → ℕ) → Generations X → ℕ → Type 0
+HasRoom f g weight = all_bytes f g + weight ≤ g.most
+
+-- both generations are the same
 pub record Stays {X : Type 0} (g h : Generations X) : Type 0 where
   pub younger : h.younger ≡ g.younger
   pub older : h.older ≡ g.older
 
--- the younger generation is the older one from then on, and what was in that is given up
-pub record GivesUpOlder {X : Type 0} (g h : Generations X) : Type 0 where
-  pub younger : h.younger ≡ []
-  pub older : h.older ≡ g.younger
+-- what is kept then was kept before
+abbrev pub NoMore : {X : Type 0} → Generations X → Generations X → Type 0
+NoMore {X} g h = (k : ℕ) (v : X) → kept_at h k ≡ Some v → kept_at g k ≡ Some v
+
+-- the older generation alone has the key
+pub record IsOld {X : Type 0} (g : Generations X) (k : ℕ) : Type 0 where
+  pub elsewhere : value_at g.younger k ≡ None
+  pub there : IsSome (value_at g.older k)

@@ -1,6 +1,6 @@
 //! What is kept to be used again, in two generations.
 
-ghost use Rattle.std.specs.Prelude.{◌≡◌, ◌≤◌, ◌+◌, ◌<◌, ◌^◌, ◌↔◌, ℕ, cond, [], Some, None, OnOk, OnErr, IfOk, IfSome, IsTrue, IsFalse};
+ghost use Rattle.std.specs.Prelude.{◌≡◌, ◌≢◌, ◌≤◌, ◌+◌, ◌<◌, ◌^◌, ◌↔◌, ℕ, cond, [], drop, Some, None, OnOk, OnErr, IfOk, IfSome, IfNone, IsTrue, IsFalse};
 ghost use Rattle.std.specs.Ordering.{nat_cmp};
 ghost use Rattle.std.specs.BTreeMap.{is_at};
 ghost use Rattle.std.specs.Option.{option_map};
@@ -91,15 +91,35 @@ impl<T: Weighed + Drop> Generation<T> {
         Ok(())
     }
 
+    // Returns how many values there are.
+    fn len(&self) -> usize
+        ensures { result < 2 ^ 63 }
+    {
+        self.entries.len()
+    }
+
     // Takes out the value under a key.
     fn remove(&mut self, key: u64) -> Option<T>
         ensures value { result ≡ value_at self.old key }
         ensures updates { Changes self.old self.new key None }
-        ensures bytes { bytes_held T.weight self.new ≤ bytes_held T.weight self.old }
+        ensures bytes { IfSome result (λ v. bytes_held T.weight self.new + T.weight v
+            ≡ bytes_held T.weight self.old) }
+        ensures none { IfNone result (self.new ≡ self.old) }
     {
         let removed = self.entries.remove(&key)?;
         self.bytes -= removed.weight();
         Some(removed)
+    }
+
+    // Gives up the value with the least key.
+    fn give_up_first(&mut self)
+        ensures rest { self.new ≡ drop 1 self.old }
+        ensures fewer { (k : ℕ) (v : T) → value_at self.new k ≡ Some v → value_at self.old k ≡ Some v }
+        ensures bytes { bytes_held T.weight self.new ≤ bytes_held T.weight self.old }
+    {
+        if let Some((_, value)) = self.entries.pop_first() {
+            self.bytes -= value.weight();
+        }
     }
 }
 
@@ -109,15 +129,16 @@ pub(crate) struct Found<'a, T> {
     pub(crate) is_old: bool,
 }
 
-/// Values that are kept to be used again, up to a bound in bytes, in two generations. What is used
-/// or kept is in the younger one as long as that has room. Then what comes for the second time makes
-/// the younger generation the older one, and what was in that is given up.
+/// Values that are kept to be used again, up to a bound in bytes. They are in two generations: those
+/// that were kept or used lately, and older ones. When all is full, what comes for the first time is
+/// only noted. Where it comes again, older values are given up for it; if there are none, all values
+/// are older ones from then on.
 #[derive(Drop)]
 pub(crate) struct Generations<T: Weighed + Drop> {
     alloc: Global,
     younger: Generation<T>,
     older: Generation<T>,
-    half: usize,
+    most: usize,
     notes: Notes,
 }
 
@@ -127,23 +148,23 @@ impl<T: Weighed + Drop> Model for Generations<T> {
 
     ghost Value = { Spec.Generations T };
 
-    ghost view = { λ g. record { younger = g.younger; older = g.older; half = g.half; notes = g.notes } };
+    ghost view = { λ g. record { younger = g.younger; older = g.older; most = g.most; notes = g.notes } };
 
-    ghost invariant = { λ g. (Spec.bytes_held T.weight g.younger ≤ g.half)
-        × (Spec.bytes_held T.weight g.older ≤ g.half) × (g.half + g.half < 2 ^ 64) };
+    ghost invariant = { λ g. (Spec.bytes_held T.weight g.younger + Spec.bytes_held T.weight g.older
+        ≤ g.most) × (g.most < 2 ^ 64) };
 }
 
 impl<T: Weighed + Drop> Generations<T> {
     /// Keeps nothing yet, and at most so many bytes later.
     pub(crate) fn new(alloc: Global, most: usize) -> Generations<T>
         ensures nothing { (k : ℕ) → kept_at result k ≡ None }
-        ensures most { result.half + result.half ≤ most }
+        ensures most { result.most ≡ most }
     {
         Generations {
             alloc,
             younger: Generation::new(alloc),
             older: Generation::new(alloc),
-            half: most / 2,
+            most,
             notes: Notes::new(alloc),
         }
     }
@@ -151,7 +172,7 @@ impl<T: Weighed + Drop> Generations<T> {
     /// Returns how many bytes all that is kept takes.
     pub(crate) fn bytes(&self) -> usize
         ensures bytes { result ≡ all_bytes T.weight self.now }
-        ensures bounded { result ≤ self.now.half + self.now.half }
+        ensures bounded { result ≤ self.now.most }
     {
         self.younger.bytes() + self.older.bytes()
     }
@@ -159,7 +180,8 @@ impl<T: Weighed + Drop> Generations<T> {
     /// Returns the value that is kept under a key.
     #[inline]
     pub(crate) fn get(&self, key: u64) -> Option<Found<'_, T>>
-        ensures { option_map (λ k. k.value.now) result ≡ kept_at self.now key }
+        ensures value { option_map (λ k. k.value.now) result ≡ kept_at self.now key }
+        ensures old { IfSome result (λ k. IsTrue k.is_old → Spec.IsOld self.now key) }
     {
         if let Some(value) = self.younger.get(key) {
             return Some(Found {
@@ -174,21 +196,50 @@ impl<T: Weighed + Drop> Generations<T> {
         })
     }
 
-    // Returns whether the younger generation has room for so many bytes more.
+    // Returns whether there is room for so many bytes more.
     fn has_room(&self, weight: usize) -> bool
         ensures { IsTrue result ↔ HasRoom T.weight self.now weight }
     {
-        weight <= self.half - self.younger.bytes()
+        weight <= self.most - self.bytes()
     }
 
-    // Makes the younger generation the older one. What was in that is given up.
-    fn give_up_older(&mut self)
-        ensures generations { Spec.GivesUpOlder self.old self.new }
-        ensures half { self.new.half ≡ self.old.half }
+    // Makes all values older ones, if there are none.
+    fn age(&mut self)
+        ensures kept { (k : ℕ) → kept_at self.new k ≡ kept_at self.old k }
+        ensures stays { self.old.older ≢ [] → Spec.Stays self.old self.new }
+        ensures most { self.new.most ≡ self.old.most }
         ensures notes { self.new.notes ≡ self.old.notes }
     {
-        let younger = Generation::new(self.alloc);
-        self.older = mem::replace(&mut self.younger, younger);
+        if self.older.is_empty() {
+            mem::swap(&mut self.younger, &mut self.older);
+        }
+    }
+
+    // Gives up one of the older values. If there are none, all values are older ones from then on.
+    #[tactic(auto, using(crate::proofs::Bytes::no_more_by))]
+    fn give_up_one(&mut self)
+        ensures no_more { Spec.NoMore self.old self.new }
+        ensures younger { self.old.older ≢ [] → self.new.younger ≡ self.old.younger }
+        ensures most { self.new.most ≡ self.old.most }
+        ensures notes { self.new.notes ≡ self.old.notes }
+    {
+        self.age();
+        self.older.give_up_first();
+    }
+
+    // Gives up older values until there is room for so many bytes more.
+    fn give_up(&mut self, weight: usize)
+        ensures no_more { Spec.NoMore self.old self.new }
+        ensures stays { HasRoom T.weight self.old weight → Spec.Stays self.old self.new }
+        ensures most { self.new.most ≡ self.old.most }
+        ensures notes { self.new.notes ≡ self.old.notes }
+    {
+        for _ in 0..self.younger.len() + self.older.len() {
+            if self.has_room(weight) {
+                return;
+            }
+            self.give_up_one();
+        }
     }
 
     // Notes a key, and returns whether it was noted before.
@@ -196,45 +247,43 @@ impl<T: Weighed + Drop> Generations<T> {
         ensures found { IfOk result (λ b. IsTrue b ↔ IsNoted self.old.notes key) }
         ensures noted { OnOk result (IsNoted self.new.notes key) }
         ensures stays { Spec.Stays self.old self.new }
-        ensures half { self.new.half ≡ self.old.half }
+        ensures most { self.new.most ≡ self.old.most }
     {
         self.notes.note(self.alloc, key)
     }
 
-    /// Returns whether a value of this weight is to be kept under a key, and makes room for it. At
-    /// first all is kept. Once a generation had to be given up, or would have to be, what comes for
-    /// the first time is only noted, and kept when it comes again. What takes more than half of all
-    /// bytes is not kept.
+    /// Returns whether a value of this weight is to be kept under a key, and makes room for it. It
+    /// is kept if there is room. Else it is only noted when it comes first, and room is made when it
+    /// comes again. What takes more than half of all bytes is not kept.
     pub(crate) fn make_room(&mut self, key: u64, weight: usize) -> Result<bool, AllocError>
         ensures room { IfOk result (λ b. IsTrue b → HasRoom T.weight self.new weight) }
         ensures stays { HasRoom T.weight self.old weight → Spec.Stays self.old self.new }
-        ensures again { ¬ (HasRoom T.weight self.old weight) → IfOk result (λ b. IsTrue b
-            → IsNoted self.old.notes key × Spec.GivesUpOlder self.old self.new) }
-        ensures not { IfOk result (λ b. IsFalse b → Spec.Stays self.old self.new) }
-        ensures noted { weight ≤ self.old.half → IfOk result (λ b. IsFalse b
-            → (¬ (IsNoted self.old.notes key)) × IsNoted self.new.notes key) }
+        ensures first { ¬ (IsNoted self.old.notes key) → Spec.Stays self.old self.new }
+        ensures noted { IfOk result (λ b. IsFalse b → weight + weight ≤ self.old.most
+            → IsNoted self.new.notes key) }
+        ensures no_more { Spec.NoMore self.old self.new }
         ensures err { OnErr result (Spec.Stays self.old self.new) }
-        ensures half { self.new.half ≡ self.old.half }
+        ensures most { self.new.most ≡ self.old.most }
     {
-        let has_room = self.has_room(weight);
-        if has_room && self.older.is_empty() {
-            return Ok(true);
-        }
-        if weight > self.half || !self.note(key)? {
+        if weight > self.most / 2 {
             return Ok(false);
         }
-        if !has_room {
-            self.give_up_older();
+        if self.has_room(weight) {
+            return Ok(true);
         }
-        Ok(true)
+        if !self.note(key)? {
+            return Ok(false);
+        }
+        self.give_up(weight);
+        Ok(self.has_room(weight))
     }
 
-    /// Keeps a value in place of one with the same key, if the younger generation has room.
+    /// Keeps a value in place of one with the same key, if there is room.
     pub(crate) fn insert(&mut self, key: u64, value: T) -> Result<(), AllocError>
         ensures kept { OnOk result (HasRoom T.weight self.old (T.weight value)
             → (k : ℕ) → kept_at self.new k ≡ cond (is_at (nat_cmp key) k) (Some value) (kept_at self.old k)) }
         ensures full { ¬ (HasRoom T.weight self.old (T.weight value)) → Spec.Stays self.old self.new }
-        ensures half { self.new.half ≡ self.old.half }
+        ensures most { self.new.most ≡ self.old.most }
         ensures notes { self.new.notes ≡ self.old.notes }
     {
         if self.has_room(value.weight()) {
@@ -247,31 +296,22 @@ impl<T: Weighed + Drop> Generations<T> {
     /// Gives up what is kept under a key.
     pub(crate) fn remove(&mut self, key: u64)
         ensures kept { (k : ℕ) → kept_at self.new k ≡ cond (is_at (nat_cmp key) k) None (kept_at self.old k) }
-        ensures half { self.new.half ≡ self.old.half }
+        ensures most { self.new.most ≡ self.old.most }
         ensures notes { self.new.notes ≡ self.old.notes }
     {
         self.younger.remove(key);
         self.older.remove(key);
     }
 
-    // Returns whether the older generation has a key, and the younger one room for its value.
-    fn can_renew(&self, key: u64) -> bool
-        ensures { IsTrue result → (value_at self.now.younger key ≡ None)
-            × IfSome (value_at self.now.older key) (λ v. HasRoom T.weight self.now (T.weight v)) }
-    {
-        match self.older.get(key) {
-            Some(value) => self.younger.get(key).is_none() && self.has_room(value.weight()),
-            None => false,
-        }
-    }
-
-    /// Moves a value that was used into the younger generation, if that has room for it.
+    /// Moves a value that was used into the younger generation.
     pub(crate) fn renew(&mut self, key: u64) -> Result<(), AllocError>
         ensures kept { OnOk result ((k : ℕ) → kept_at self.new k ≡ kept_at self.old k) }
-        ensures half { self.new.half ≡ self.old.half }
+        ensures moved { Spec.IsOld self.old key
+            → OnOk result (value_at self.new.younger key ≡ value_at self.old.older key) }
+        ensures most { self.new.most ≡ self.old.most }
         ensures notes { self.new.notes ≡ self.old.notes }
     {
-        if self.can_renew(key) {
+        if self.younger.get(key).is_none() {
             if let Some(value) = self.older.remove(key) {
                 self.younger.insert(key, value)?;
             }

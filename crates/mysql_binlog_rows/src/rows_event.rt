@@ -5,7 +5,9 @@ mod event;
 mod kept;
 mod rows;
 
-pub use decode::{Decoded, decode_pairs, decode_pairs_of, pairs_by, pairs_by_shared, pairs_of};
+pub use decode::{
+    Decoded, decode_pairs, decode_pairs_of, pairs_by, pairs_by_shared, pairs_if_served, pairs_of,
+};
 pub use event::{RowsEvent, RowsEventCtx};
 pub use kept::KeptPlan;
 pub use rows::{RowPair, RowsEventRows};

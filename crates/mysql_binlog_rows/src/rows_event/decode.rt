@@ -1,6 +1,6 @@
 //! Reads a table map event and a rows event, and all pairs of rows.
 
-ghost use Rattle.std.specs.Prelude.{◌≡◌, IfOk, IfErr};
+ghost use Rattle.std.specs.Prelude.{◌≡◌, ◌↔◌, IfOk, IfErr, IfSome, IsSome};
 ghost use Rattle.std.specs.Arc.{arc_value};
 ghost use Rattle.binlog_base.specs.declared.fault.Fault.TheVariants as Fault;
 ghost use Rattle.mysql_binlog_rows.specs.Images.{pair};
@@ -101,6 +101,25 @@ pub fn pairs_by_shared(
 {
     let rows = event.rows_by_shared(alloc, table, kept)?;
     collect(alloc, rows)
+}
+
+/// Returns the pairs of rows as `pairs_by` does, if the plan that is kept serves the event; `None` if
+/// it doesn't. No plan is made, and what is kept stays.
+pub fn pairs_if_served(
+    alloc: Global,
+    table: &TableMapEvent<'_>,
+    event: &RowsEvent<'_>,
+    kept: &KeptPlan,
+) -> Result<Option<Decoded>, Fault>
+    ensures covers { IfOk result (λ o. IfSome o (λ d. Covers (pair table.now event.now)
+        event.now.rows_data d.pairs.items d.fault)) }
+    ensures serves { IfOk result (λ o. IsSome o ↔ KeptServes kept.now table.now event.now) }
+    ensures err { IfErr result (λ e. e ≡ Fault.Memory) }
+{
+    match event.rows_if_served(alloc, table, kept)? {
+        None => Ok(None),
+        Some(rows) => Ok(Some(collect(alloc, rows)?)),
+    }
 }
 
 /// Reads a table map event and a rows event of MySQL's binary log, and all pairs of rows of the

@@ -1,6 +1,6 @@
 //! The plan of the last rows event, kept for later ones.
 
-ghost use Rattle.std.specs.Prelude.{◌≡◌, ◌↔◌, true, Some, None, IsTrue, IfOk, IfErr, IfSome, IfNone};
+ghost use Rattle.std.specs.Prelude.{◌≡◌, ◌↔◌, true, Some, None, IsTrue, IfOk, IfErr, IfSome, IfNone, IsSome};
 ghost use Rattle.std.specs.Option.{option_map};
 ghost use Rattle.std.specs.Arc.{arc_value};
 ghost use Rattle.std.specs.Rc.{rc_value};
@@ -212,6 +212,16 @@ impl KeptPlan {
         }
     }
 
+    /// Returns the table map event that the kept plan was made for, if one is kept.
+    pub fn table(&self) -> Option<&TableMapEvent<'static>>
+        ensures { option_map (λ t. t.now) result ≡ option_map (λ p. p.table) self.now }
+    {
+        match &self.last {
+            None => None,
+            Some(planned) => Some(&planned.table),
+        }
+    }
+
     // Keeps a plan in place of the one that was kept.
     fn keep(&mut self, planned: Planned)
         ensures { self.new ≡ Some planned }
@@ -326,5 +336,33 @@ impl<'a> RowsEvent<'a> {
         ensures err { IfErr result (λ e. e ≡ Fault.Memory) }
     {
         self.rows_by_table(alloc, table, Some(table), kept)
+    }
+
+    /// Returns an iterator over the pairs of rows, as `rows_by` does, if the plan that is kept serves
+    /// this event; `None` if it doesn't. No plan is made, and what is kept stays.
+    pub fn rows_if_served<'b>(
+        &'b self,
+        alloc: Global,
+        table: &TableMapEvent<'_>,
+        kept: &KeptPlan,
+    ) -> Result<Option<RowsEventRows<'b>>, Fault>
+        ensures reads { IfOk result (λ o. IfSome o (λ r. Reads table.now self.now r.plans)) }
+        ensures left { IfOk result (λ o. IfSome o (λ r. r.left ≡ self.now.rows_data)) }
+        ensures planned { IfOk result (λ o. IfSome o (λ r. r.is_planned ≡ true)) }
+        ensures again { IfOk result (λ o. IfSome o (λ r. r.steps ≡ 0)) }
+        ensures serves { IfOk result (λ o. IsSome o ↔ KeptServes kept.now table.now self.now) }
+        ensures err { IfErr result (λ e. e ≡ Fault.Memory) }
+    {
+        match kept.plans(table, self) {
+            None => Ok(None),
+            Some(plans) => {
+                let plans = plans.clone()?;
+                let shared = Shared {
+                    plans,
+                    is_new: false,
+                };
+                Ok(Some(RowsEventRows::by_plans(alloc, self.rows_data(), shared)))
+            }
+        }
     }
 }

@@ -1,5 +1,5 @@
 -- Table map events by the bytes of their bodies.
-use Rattle.std.specs.Prelude.{ℕ, List, Result, Ok, Err}
+use Rattle.std.specs.Prelude.{ℕ, ◌+◌, ◌*◌, List, Result, Ok, Err}
 use Rattle.binlog_base.specs.Format.{FormatOf, Parses, all_of, map_fault}
 use Rattle.binlog_base.specs.declared.below.columns.server.Server.{Server}
 use Rattle.binlog_table.specs.TableMap.{TableMap, table_map_of}
@@ -18,6 +18,11 @@ pub record KeptTable : Type 0 where
   pub post_header_len : ℕ
   pub body : List ℕ
   pub table : TableMap
+
+-- How many bytes of memory a kept table map event takes, whose body has n bytes: the body, its parts, which
+-- are copies of as many bytes at most, and what holds them.
+abbrev pub table_weight : ℕ → ℕ
+table_weight n = 2 * n + 768
 
 -- a table map event whose body isn't read yet, and what that is read by
 pub record UnreadTable : Type 0 where

@@ -19,3 +19,7 @@ in_maps t id = first_or (option_map arc_value t.first) id (option_map arc_value 
 
 abbrev pub held_by : TableMaps → InForce
 held_by t = record { tables = in_maps t; ended = t.ended }
+
+-- how many bytes of memory the table map events take at most that are kept past their statements
+abbrev pub most_kept : TableMaps → ℕ
+most_kept t = t.kept.most

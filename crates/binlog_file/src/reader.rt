@@ -1,6 +1,6 @@
 //! Reading events one at a time from a source of bytes.
 
-ghost use Rattle.std.specs.Prelude.{◌≡◌, ◌≤◌, ◌<◌, ◌+◌, ◌++◌, ◌↔◌, ◌⊎◌, ℕ, false, true, Ok, None, length, take, slice_range, OnOk, IfOk, IfErr, IsErr, IsTrue};
+ghost use Rattle.std.specs.Prelude.{◌≡◌, ◌≤◌, ◌<◌, ◌+◌, ◌*◌, ◌++◌, ◌↔◌, ◌⊎◌, ℕ, false, true, Ok, None, length, take, slice_range, OnOk, IfOk, IfErr, IsErr, IsTrue};
 ghost use Rattle.std.specs.Option.{option_map};
 ghost use Rattle.std.specs.Io.KnownBytes.{Consumes, IsAtEnd};
 ghost use Rattle.binlog_file.specs.Events.{after, is_plain};
@@ -9,6 +9,8 @@ ghost use Rattle.binlog_file.specs.TableBodies.{event_with};
 ghost use Rattle.std.specs.Arc.{arc_value};
 ghost use Rattle.binlog_file.specs.Stream as Spec;
 ghost use Rattle.binlog_file.specs.Readers.{kept_by, reading_of};
+ghost use Rattle.binlog_file.specs.Tables.{no_tables};
+ghost use Rattle.binlog_file.specs.TableMaps.{in_maps, most_kept};
 ghost use Rattle.binlog_file.specs.Checkpoints.{checkpoint, checkpoint_of};
 
 use crate::description::{FormatDescriptionEvent, OwnedDescription};
@@ -365,21 +367,53 @@ impl EventStreamReader {
         }
     }
 
-    /// Returns a reader of the events after the four bytes with which a file begins.
+    /// Returns a reader of the events after the four bytes with which a file begins. Past the end of
+    /// statements it keeps table map events of up to 8 MiB.
     pub fn new(alloc: Global) -> EventStreamReader
         ensures kept { kept_by result.kept ≡ Spec.first_kept }
         ensures goes_on { result.is_over ≡ false }
+        ensures most { most_kept result.kept.tables ≤ 8 * 1024 * 1024 }
+    {
+        EventStreamReader::with_tables(alloc, TableMaps::new(alloc))
+    }
+
+    /// Returns the same reader with another bound: what it keeps past the end of statements takes at
+    /// most this many bytes of memory, beside 64 KiB for notes of what came.
+    pub fn with_kept_bytes(alloc: Global, most: usize) -> EventStreamReader
+        ensures kept { kept_by result.kept ≡ Spec.first_kept }
+        ensures goes_on { result.is_over ≡ false }
+        ensures most { most_kept result.kept.tables ≤ most }
+    {
+        EventStreamReader::with_tables(alloc, TableMaps::with_kept_bytes(alloc, most))
+    }
+
+    // Returns a reader after the four bytes with which a file begins, with no table in force.
+    fn with_tables(alloc: Global, tables: TableMaps) -> EventStreamReader
+        requires tables { (id : ℕ) → in_maps tables id ≡ no_tables id }
+        requires ended { tables.ended ≡ false }
+        ensures kept { kept_by result.kept ≡ Spec.first_kept }
+        ensures goes_on { result.is_over ≡ false }
+        ensures tables { result.kept.tables ≡ tables }
     {
         EventStreamReader {
             alloc,
             kept: Kept {
                 position: 4,
                 description: None,
-                tables: TableMaps::new(alloc),
+                tables,
                 stored: StoredEvents::new(alloc),
             },
             is_over: false,
         }
+    }
+
+    // Keeps at most this many bytes of table map events past the end of statements from now on. What
+    // was kept is given up.
+    pub(crate) fn keep_at_most(&mut self, most: usize)
+        ensures reading { reading_of self.new ≡ reading_of self.old }
+        ensures most { most_kept self.new.kept.tables ≤ most }
+    {
+        self.kept.tables.keep_at_most(self.alloc, most);
     }
 
     /// Returns where the next event begins in the file.

@@ -1,16 +1,17 @@
 //! The table map events in force.
 
-ghost use Rattle.std.specs.Prelude.{◌≡◌, ◌≤◌, ◌<◌, ◌⊎◌, ℕ, false, Ok, Err, None, OnOk, OnErr, IfOk, IfErr, IfSome, IsSome};
+ghost use Rattle.std.specs.Prelude.{◌≡◌, ◌≤◌, ◌+◌, ◌*◌, ◌⊎◌, ℕ, false, Ok, Err, None, length, OnOk, OnErr, IfOk, IfErr, IfSome, IsSome};
 ghost use Rattle.std.specs.Option.{option_map};
-ghost use Rattle.std.specs.BTreeMap.{btree_map_len};
 ghost use Rattle.std.specs.Arc.{arc_value};
 ghost use Rattle.binlog_file.specs.Changes.{IsMemory};
 ghost use Rattle.binlog_file.specs.Tables.{no_tables, with_table, with_map, found, given_up, ends_statement, in_force_after};
-ghost use Rattle.binlog_file.specs.TableBodies.{ReadsTable};
-ghost use Rattle.binlog_file.specs.TableMaps.{in_maps, held_by};
+ghost use Rattle.binlog_file.specs.TableBodies.{ReadsTable, table_weight};
+ghost use Rattle.binlog_file.specs.TableMaps.{in_maps, held_by, most_kept};
+ghost use Rattle.binlog_file.specs.Kept.{all_bytes};
 
 use crate::error::EventError;
 use crate::event::{Event, PlainEvent, read_table};
+use crate::generations::{Found, Generations, Weighed};
 use binlog_base::below::{Server, same_bytes};
 use binlog_table::table_map::TableMapEvent;
 use byteorder::{ByteOrder, LittleEndian};
@@ -19,15 +20,16 @@ use std::collections::BTreeMap;
 use std::marker::Model;
 use std::sync::Arc;
 
-/// How many table map events are kept at most past the end of their statements.
-const MOST_KEPT: usize = 1024;
+/// How many bytes of memory the table map events take at most that are kept past the end of their
+/// statements, where a caller gives no other bound.
+const MOST_KEPT: usize = 0x80_0000;
 
-/// How many bytes the kept events take at most: their bodies, and their parts, which are copies of
-/// as many bytes.
-const MOST_BYTES: usize = 1 << 20;
+/// How many bytes the body of an event has at most that is kept past the end of its statement. To
+/// compare a longer one takes longer than to copy its parts.
+const MOST_BODY: usize = 8192;
 
-/// How many bytes the body of an event has at most that is kept past the end of its statement.
-const MOST_BODY: usize = 1 << 16;
+/// How many bytes of memory a kept event takes beside its body and its parts.
+const HOLDING: usize = 768;
 
 /// A table map event, the bytes of its body, and what they were read by.
 #[derive(Drop)]
@@ -39,7 +41,7 @@ struct KeptTable {
 }
 
 impl Model for KeptTable {
-    ghost use Rattle.std.specs.Prelude.{Ok};
+    ghost use Rattle.std.specs.Prelude.{◌≤◌, Ok, length};
     ghost use Rattle.std.specs.Arc.{arc_value};
     ghost use Rattle.binlog_file.specs.TableBodies as Spec;
 
@@ -53,7 +55,25 @@ impl Model for KeptTable {
     } };
 
     ghost invariant = { λ k. Spec.ReadsTable k.server k.post_header_len k.body.items
-        (Ok (arc_value k.table)) };
+        (Ok (arc_value k.table)) × (length k.body.items ≤ 8192) };
+}
+
+impl Weighed for KeptTable {
+    ghost use Rattle.binlog_file.specs.TableBodies.{table_weight};
+
+    ghost weight = { λ k. table_weight (length k.body) };
+
+    fn weight(&self) -> usize {
+        weight_of(&self.body)
+    }
+}
+
+// Returns how many bytes of memory an event of this body takes that is kept.
+fn weight_of(body: &[u8]) -> usize
+    requires { length body.now ≤ 8192 }
+    ensures { result ≡ table_weight (length body.now) }
+{
+    2 * body.len() + HOLDING
 }
 
 impl KeptTable {
@@ -90,32 +110,61 @@ fn key_of(body: &[u8]) -> u64 {
 
 /// The table map events in force, one for each table id. They own their bytes.
 ///
-/// A server writes the same table map event again before each statement. So up to 1,024 of them are
-/// kept past the end of their statements, with their bodies, and one whose body comes again is
-/// neither read nor copied again. They take up to 1 MiB together, and none has a body above 64 KiB.
+/// A server writes the same table map event again before each statement. So they are kept past the
+/// end of their statements, with their bodies, and one whose body comes again is neither read nor
+/// copied again. What is kept takes a bounded number of bytes of memory together: each event twice
+/// its body, and 768 bytes for what holds it. None with a body above 8 KiB is kept.
 #[derive(Drop)]
 pub struct TableMaps {
     // Most statements change one table: theirs takes no node of a map.
     first: Option<Arc<TableMapEvent<'static>>>,
     others: BTreeMap<u64, Arc<TableMapEvent<'static>>>,
-    kept: BTreeMap<u64, KeptTable>,
-    kept_bytes: usize,
+    kept: Generations<KeptTable>,
     ended: bool,
 }
 
 impl TableMaps {
-    /// Returns an empty set of tables.
+    /// Returns an empty set of tables. It keeps up to 8 MiB past the end of statements.
     pub fn new(alloc: Global) -> TableMaps
         ensures tables { (id : ℕ) → in_maps result id ≡ no_tables id }
         ensures ended { result.ended ≡ false }
+        ensures most { most_kept result ≤ 8 * 1024 * 1024 }
+    {
+        TableMaps::with_kept_bytes(alloc, MOST_KEPT)
+    }
+
+    /// Returns an empty set of tables. What it keeps past the end of statements takes at most this
+    /// many bytes of memory, beside 64 KiB for notes of what came, which it asks for once that is
+    /// half full.
+    pub fn with_kept_bytes(alloc: Global, most: usize) -> TableMaps
+        ensures tables { (id : ℕ) → in_maps result id ≡ no_tables id }
+        ensures ended { result.ended ≡ false }
+        ensures most { most_kept result ≤ most }
     {
         TableMaps {
             first: None,
             others: BTreeMap::new(alloc),
-            kept: BTreeMap::new(alloc),
-            kept_bytes: 0,
+            kept: Generations::new(alloc, most),
             ended: false,
         }
+    }
+
+    /// Returns how many bytes of memory the table map events take that are kept past the end of
+    /// their statements.
+    pub fn kept_bytes(&self) -> usize
+        ensures bytes { result ≡ all_bytes (λ k. table_weight (length k.body)) self.now.kept }
+        ensures most { result ≤ most_kept self.now }
+    {
+        self.kept.bytes()
+    }
+
+    // Keeps at most this many bytes past the end of statements from now on. What was kept is given
+    // up.
+    pub(crate) fn keep_at_most(&mut self, alloc: Global, most: usize)
+        ensures held { held_by self.new ≡ held_by self.old }
+        ensures most { most_kept self.new ≤ most }
+    {
+        self.kept = Generations::new(alloc, most);
     }
 
     // Returns the table map event that is in force for a table id, to be shared.
@@ -152,6 +201,7 @@ impl TableMaps {
         ensures tables { (id : ℕ) → in_maps self.new id ≡ None }
         ensures first { self.new.first ≡ None }
         ensures ended { self.new.ended ≡ self.old.ended }
+        ensures most { most_kept self.new ≡ most_kept self.old }
     {
         self.first = None;
         self.others.clear();
@@ -163,6 +213,7 @@ impl TableMaps {
         ensures tables { (id : ℕ) → in_maps self.new id ≡ found (in_maps self.old) self.old.ended id }
         ensures left { IsSome self.new.first → self.new ≡ self.old }
         ensures ended { self.new.ended ≡ self.old.ended }
+        ensures most { most_kept self.new ≡ most_kept self.old }
     {
         if self.ended {
             self.clear();
@@ -176,6 +227,7 @@ impl TableMaps {
             ≡ given_up (found (in_maps self.old) self.old.ended) event.now.description id }
         ensures left { IsSome self.new.first → self.new ≡ self.old }
         ensures ended { self.new.ended ≡ self.old.ended }
+        ensures most { most_kept self.new ≡ most_kept self.old }
     {
         if self.ended || event.description().is_some() {
             self.clear();
@@ -189,6 +241,7 @@ impl TableMaps {
         ensures tables { (id : ℕ) → in_maps self.new id
             ≡ (in_force_after (held_by self.old) event.now).tables id }
         ensures ended { self.new.ended ≡ ends_statement event.now }
+        ensures most { most_kept self.new ≡ most_kept self.old }
     {
         self.end_statement();
         self.ended = event.ends_statement();
@@ -202,6 +255,7 @@ impl TableMaps {
         ensures beside { OnErr result (IsSome self.old.first) }
         ensures refused { OnErr result (held_by self.new ≡ held_by self.old) }
         ensures ended { self.new.ended ≡ self.old.ended }
+        ensures most { most_kept self.new ≡ most_kept self.old }
     {
         let table_id = table.table_id();
         if let Some(first) = &self.first {
@@ -216,37 +270,55 @@ impl TableMaps {
 
     // Returns the kept table map event of a body.
     fn kept_as(
-        &self,
+        &mut self,
         server: Server,
         post_header_len: u8,
         body: &[u8],
     ) -> Result<Option<Arc<TableMapEvent<'static>>>, AllocError>
-        ensures { IfOk result
+        ensures read { IfOk result
             (λ o. IfSome o (λ t. ReadsTable server post_header_len body.now (Ok (arc_value t)))) }
-    {
-        match self.kept.get(&key_of(body)) {
-            Some(kept) => kept.shared(server, post_header_len, body),
-            None => Ok(None),
-        }
-    }
-
-    // Gives up all kept events if there is no room for one more, of so many bytes.
-    fn make_room(&mut self, size: usize)
         ensures held { held_by self.new ≡ held_by self.old }
-        ensures few { btree_map_len self.new.kept < MOST_KEPT }
+        ensures most { most_kept self.new ≡ most_kept self.old }
     {
-        let sum = self.kept_bytes.saturating_add(size);
-        if self.kept.len() >= MOST_KEPT || sum > MOST_BYTES {
-            self.kept.clear();
-            self.kept_bytes = size;
-        } else {
-            self.kept_bytes = sum;
+        let key = key_of(body);
+        let Some(Found { value, is_old }) = self.kept.get(key) else {
+            return Ok(None);
+        };
+        let shared = value.shared(server, post_header_len, body)?;
+        if is_old {
+            self.kept.renew(key)?;
         }
+        Ok(shared)
     }
 
-    // Copies a table map event that is that of a body, and keeps the copy if the body isn't too
-    // long.
+    // Keeps a table map event that is that of a body, if there is room for it.
     fn keep(
+        &mut self,
+        alloc: Global,
+        server: Server,
+        post_header_len: u8,
+        body: &[u8],
+        table: &Arc<TableMapEvent<'static>>,
+    ) -> Result<(), AllocError>
+        requires { ReadsTable server post_header_len body.now (Ok (arc_value table.now)) }
+        ensures held { held_by self.new ≡ held_by self.old }
+        ensures most { most_kept self.new ≡ most_kept self.old }
+    {
+        let key = key_of(body);
+        if body.len() > MOST_BODY || !self.kept.make_room(key, weight_of(body))? {
+            return Ok(());
+        }
+        let kept = KeptTable {
+            server,
+            post_header_len,
+            body: Vec::from_slice(alloc, body)?,
+            table: table.clone()?,
+        };
+        self.kept.insert(key, kept)
+    }
+
+    // Copies a table map event that is that of a body, and keeps the copy if there is room for it.
+    fn copy(
         &mut self,
         alloc: Global,
         server: Server,
@@ -257,21 +329,10 @@ impl TableMaps {
         requires { ReadsTable server post_header_len body.now (Ok table.now) }
         ensures copied { IfOk result (λ t. arc_value t ≡ table.now) }
         ensures held { held_by self.new ≡ held_by self.old }
-        ensures few { btree_map_len self.old.kept ≤ MOST_KEPT
-            → btree_map_len self.new.kept ≤ MOST_KEPT }
+        ensures most { most_kept self.new ≡ most_kept self.old }
     {
         let copy = Arc::new(alloc, table.clone(alloc)?.into_owned(alloc)?)?;
-        if body.len() > MOST_BODY {
-            return Ok(copy);
-        }
-        let kept = KeptTable {
-            server,
-            post_header_len,
-            body: Vec::from_slice(alloc, body)?,
-            table: copy.clone()?,
-        };
-        self.make_room(2 * body.len());
-        self.kept.insert(key_of(body), kept)?;
+        self.keep(alloc, server, post_header_len, body, &copy)?;
         Ok(copy)
     }
 
@@ -287,12 +348,13 @@ impl TableMaps {
         ensures err { IfErr result
             (λ e. IsMemory e ⊎ ReadsTable server post_header_len body.now (Err e)) }
         ensures held { held_by self.new ≡ held_by self.old }
+        ensures most { most_kept self.new ≡ most_kept self.old }
     {
         if let Some(kept) = self.kept_as(server, post_header_len, body)? {
             return Ok(kept);
         }
         let table = read_table(server, post_header_len, body)?;
-        Ok(self.keep(alloc, server, post_header_len, body, &table)?)
+        Ok(self.copy(alloc, server, post_header_len, body, &table)?)
     }
 
     // Returns a table map event that is that of a body, a kept one where there is one.
@@ -306,13 +368,12 @@ impl TableMaps {
         requires { ReadsTable table.now.server post_header_len body.now (Ok table.now) }
         ensures same { IfOk result (λ t. arc_value t ≡ table.now) }
         ensures held { held_by self.new ≡ held_by self.old }
-        ensures few { btree_map_len self.old.kept ≤ MOST_KEPT
-            → btree_map_len self.new.kept ≤ MOST_KEPT }
+        ensures most { most_kept self.new ≡ most_kept self.old }
     {
         let server = table.server();
         match self.kept_as(server, post_header_len, body)? {
             Some(kept) => Ok(kept),
-            None => self.keep(alloc, server, post_header_len, body, table),
+            None => self.copy(alloc, server, post_header_len, body, table),
         }
     }
 
@@ -324,6 +385,7 @@ impl TableMaps {
     ) -> Result<Option<Arc<TableMapEvent<'static>>>, AllocError>
         ensures same { IfOk result (λ t. option_map arc_value t ≡ event.now.table) }
         ensures held { held_by self.new ≡ held_by self.old }
+        ensures most { most_kept self.new ≡ most_kept self.old }
     {
         match event.table() {
             None => Ok(None),
@@ -343,6 +405,7 @@ impl TableMaps {
         ensures beside { OnErr result (IsSome self.old.first) }
         ensures refused { OnErr result (held_by self.new ≡ held_by self.old) }
         ensures ended { self.new.ended ≡ self.old.ended }
+        ensures most { most_kept self.new ≡ most_kept self.old }
     {
         match table {
             None => Ok(()),
@@ -360,6 +423,7 @@ impl TableMaps {
             ≡ with_table (found (in_maps self.old) self.old.ended) (arc_value table.entry) id) }
         ensures ended { OnOk result (self.new.ended ≡ false) }
         ensures refused { OnErr result (held_by self.new ≡ held_by self.old) }
+        ensures most { most_kept self.new ≡ most_kept self.old }
     {
         self.end_statement();
         self.put(table)?;
@@ -375,6 +439,7 @@ impl TableMaps {
             ((id : ℕ) → in_maps self.new id ≡ (in_force_after (held_by self.old) event.now).tables id) }
         ensures ended { OnOk result (self.new.ended ≡ ends_statement event.now) }
         ensures refused { OnErr result (held_by self.new ≡ held_by self.old) }
+        ensures most { most_kept self.new ≡ most_kept self.old }
     {
         let table = self.table_in(alloc, event)?;
         self.give_up(event);

@@ -8,9 +8,11 @@ use binlog_file::changes::{ChangeList, changes};
 use binlog_file::choice::{AllRows, Choice};
 use binlog_file::crc::crc32;
 use binlog_file::error::{EventError, FileError};
+use binlog_file::events::Events;
 use binlog_file::file::BinlogFile;
 use binlog_file::reader::{EventBuffer, EventStreamReader};
 use binlog_file::source_changes::SourceChanges;
+use binlog_file::tables::TableMaps;
 use binlog_table::table_map::TableMapEvent;
 use std::alloc::{AllocError, Global};
 use std::io::Read;
@@ -238,6 +240,57 @@ fn tables_of_a_statement(rt: HostRuntime) -> Result<(), Fail> {
     push(&mut file, 0x0f, 0, DESCRIPTION, true)?;
     push(&mut file, 0x1e, 0, TWO_ROWS, true)?;
     assert!(rt; fails(alloc, &file, &[2], 332, EventError::UnknownTable(1))?);
+    Ok(())
+}
+
+/// A file of one statement after the other, of three tables by turns.
+fn by_turns(alloc: Global) -> Result<Vec<u8>, AllocError> {
+    let mut file = begun(alloc, false)?;
+    for table_id in [1, 2, 3, 1, 2, 3] {
+        let mut table = [0; 21];
+        table.copy_from_slice(TWO_COLUMNS);
+        table[0] = table_id;
+        push(&mut file, 0x13, 0, &table, false)?;
+        let mut rows = [0; 25];
+        rows.copy_from_slice(TWO_ROWS);
+        rows[0] = table_id;
+        push(&mut file, 0x1e, 0, &rows, false)?;
+    }
+    Ok(file)
+}
+
+/// Bounds in bytes, and what is kept of three tables then: each takes 810 bytes, and none is kept
+/// that takes more than half of all.
+const BOUNDS: [(usize, usize); 4] = [(0, 0), (1619, 0), (1620, 1620), (1 << 23, 2430)];
+
+/// Takes all events of a file. Returns how many bytes are kept then, if the last table is in force.
+fn kept_of(alloc: Global, file: &[u8], most: usize) -> Result<Option<usize>, Fail> {
+    let mut tables = TableMaps::with_kept_bytes(alloc, most);
+    for event in Events::new(file)? {
+        tables.take(alloc, &event?)?;
+    }
+    Ok(tables.get_tme(3).map(|_| tables.kept_bytes()))
+}
+
+/// Reads all events of a file. Returns whether the last table is in force then.
+fn last_table(alloc: Global, file: &[u8], most: usize) -> Result<bool, Fail> {
+    let mut reader = EventStreamReader::with_kept_bytes(alloc, most);
+    let mut buffer = EventBuffer::new(alloc);
+    let mut source = file.get(4..).unwrap_or(&[]);
+    for _ in 0..13 {
+        reader.read(&mut source, &mut buffer)?;
+    }
+    Ok(reader.position() == file.len() as u64 && reader.get_tme(3).is_some())
+}
+
+#[test]
+fn tables_are_kept_in_bounds(rt: HostRuntime) -> Result<(), Fail> {
+    let alloc = rt.alloc();
+    let file = by_turns(alloc)?;
+    for (most, kept) in BOUNDS {
+        assert!(rt; kept_of(alloc, &file, most)? == Some(kept));
+        assert!(rt; last_table(alloc, &file, most)?);
+    }
     Ok(())
 }
 

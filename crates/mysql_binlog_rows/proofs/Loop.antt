@@ -3,8 +3,9 @@ use Rattle.std.proofs.Common.{◌≡◌, ℕ, ◌+◌, ◌<◌, ◌≤◌, Bool,
 use Rattle.std.proofs.lemmas.List.{get_or-drop, drop-drop, drop_all, append-nil}
 use Rattle.binlog_base.specs.declared.fault.Fault.{Fault}
 use Rattle.binlog_base.specs.Format.{◌>>=◌}
+use Rattle.binlog_base.specs.Lemmas.Format.{ok_is, err_is}
 use Rattle.mysql_binlog_rows.specs.Cells.{Cell}
-use Rattle.mysql_binlog_rows.specs.Plans.{Slot, ends, slot_cell, slot_cells}
+use Rattle.mysql_binlog_rows.specs.Plans.{Slot, ends, slot_cell, slot_cells, one_more}
 
 abbrev pub Read : Type 0
 Read = Result (List (Option Cell) × List ℕ) Fault
@@ -72,3 +73,42 @@ pub all_ill : (bs : List Bool) (front : List (Option Cell)) (ss : List Slot) (en
     → length ss ≤ i → end ≡ Some e → with_front front ((slot_cells bs (drop i ss) end nulls).parse x) ≡ total → total ≡ Err e
 all_ill bs front ss end nulls i x e total le some so_far =
     sym (all_read bs front ss end nulls i x total le so_far) ∙ ap (λ (o : Option Fault). with_front front ((ends o).parse x)) some
+
+-- ---- a cell that is put at the end of others
+
+abbrev then_put : List (Option Cell) → Result (Cell × List ℕ) Fault → Read
+then_put front r = r >>= λ p. Ok (front ++ Some p.0 ∷ [], p.1)
+
+abbrev cell_read : Cell → List ℕ → Result (Cell × List ℕ) Fault
+cell_read v x = Ok (v, x)
+
+put_front : (front more : List (Option Cell)) (r : Result (Cell × List ℕ) Fault) (y : List ℕ) → then_put front r ≡ Ok (more, y) → (v : Cell) × (r ≡ cell_read v y) × (more ≡ front ++ Some v ∷ [])
+put_front front more (Ok p) y h =
+    let same = ok_is (front ++ Some p.0 ∷ [], p.1) (more, y) h in
+    (p.0, ap (cell_read p.0) (ap (λ (q : List (Option Cell) × List ℕ). q.1) same), sym (ap (λ (q : List (Option Cell) × List ℕ). q.0) same))
+put_front front more (Err e) y h = absurd cc
+
+abbrev no_cell : Fault → Result (Cell × List ℕ) Fault
+no_cell e = Err e
+
+not_put : (front : List (Option Cell)) (r : Result (Cell × List ℕ) Fault) (e : Fault) → then_put front r ≡ Err e → r ≡ Err e
+not_put front (Ok p) e h = absurd cc
+not_put front (Err f) e h = ap no_cell (err_is f e h)
+
+pub puts_on : (bs : List Bool) (front more : List (Option Cell)) (ss : List Slot) (end : Option Fault) (nulls : List Bool) (i k : ℕ) (x y : List ℕ) (s : Slot) (total : Read)
+    → i < length ss → s ≡ get_or ss i s → (one_more front (slot_cell (get_or nulls k false) bs s)).parse x ≡ Ok (more, y)
+    → with_front front ((slot_cells bs (drop i ss) end (drop k nulls)).parse x) ≡ total
+    → with_front more ((slot_cells bs (drop (i + 1) ss) end (drop (k + 1) nulls)).parse y) ≡ total
+unfolding one_more
+puts_on bs front more ss end nulls i k x y s total lt is h so_far =
+    let put = put_front front more ((slot_cell (get_or nulls k false) bs s).parse x) y h in
+    ap (λ (t : List (Option Cell)). with_front t ((slot_cells bs (drop (i + 1) ss) end (drop (k + 1) nulls)).parse y)) put.2
+    ∙ goes_on bs front ss end nulls i k x y s put.0 total lt is put.1 so_far
+
+pub put_stops : (bs : List Bool) (front : List (Option Cell)) (ss : List Slot) (end : Option Fault) (nulls : List Bool) (i k : ℕ) (x : List ℕ) (s : Slot) (e : Fault) (total : Read)
+    → i < length ss → s ≡ get_or ss i s → (one_more front (slot_cell (get_or nulls k false) bs s)).parse x ≡ Err e
+    → with_front front ((slot_cells bs (drop i ss) end (drop k nulls)).parse x) ≡ total
+    → total ≡ Err e
+unfolding one_more
+put_stops bs front ss end nulls i k x s e total lt is h so_far =
+    stops bs front ss end nulls i k x s e total lt is (not_put front ((slot_cell (get_or nulls k false) bs s).parse x) e h) so_far

@@ -1,6 +1,6 @@
 //! Reads the images of rows, by a plan that is made once for an event.
 
-ghost use Rattle.std.specs.Prelude.{◌≡◌, ◌≤◌, ◌<◌, ◌+◌, ◌^◌, ◌++◌, ◌∷◌, ℕ, [], true, false, IfOk, IfErr, OnOk, map, drop, length, slice_index_or};
+ghost use Rattle.std.specs.Prelude.{◌≡◌, ◌≤◌, ◌<◌, ◌+◌, ◌^◌, ◌++◌, ◌∷◌, ℕ, [], true, false, IfOk, IfErr, OnOk, map, drop, length, slice_index_or, vec_len, vec_capacity, Some};
 ghost use Rattle.std.specs.Option.{option_map};
 ghost use Rattle.binlog_base.specs.declared.fault.Fault.TheVariants as Fault;
 ghost use Rattle.binlog_base.specs.Format.{Parses, ParsesAs, OrMemory};
@@ -10,7 +10,7 @@ ghost use Rattle.mysql_binlog_rows.specs.Cells.{cell_of, json_cell};
 ghost use Rattle.binlog_base.specs.Values.{column_flags_of};
 ghost use Rattle.mysql_binlog_rows.specs.Images.{default_name, row_flags};
 ghost use Rattle.mysql_binlog_rows.specs.Memory.{in_usize, names_bytes, plan_bytes};
-ghost use Rattle.mysql_binlog_rows.specs.Plans.{column_in, json_place_of, slot_of, first_column, after_first, planned_from, plan_of, planned_options, planned_image, is_partial_slot, slot_cell, slot_cells};
+ghost use Rattle.mysql_binlog_rows.specs.Plans.{column_in, json_place_of, slot_of, first_column, after_first, planned_from, plan_of, planned_options, planned_image, is_partial_slot, slot_cell, slot_cells, one_more};
 
 use super::binlog_row::BinlogRow;
 use crate::value::{BinlogValue, Form, form_of, read_json, read_plain};
@@ -381,8 +381,14 @@ fn read_cells(
     let mut values = Vec::with_capacity(alloc, slots.len())?;
     let mut place = 0;
     for slot in slots {
-        let value = read_nullable_cell(alloc, slot, partials, is_set(nulls, place), buf)?;
-        values.push_reserved(Some(value));
+        add_nullable_cell(
+            alloc,
+            slot,
+            partials,
+            is_set(nulls, place),
+            &mut values,
+            buf,
+        )?;
         place += 1;
     }
     match end {
@@ -408,39 +414,67 @@ fn is_partial(slot: &Slot, partials: &BitView<'_>) -> bool
     }
 }
 
-// Reads a JSON cell, and copies its bytes. Not inlined, so that other cells stay in registers.
-#[inline(never)]
-fn read_owned_json(
-    alloc: Global,
-    partial: bool,
-    buf: &mut ParseBuf<'_>,
-) -> Result<BinlogValue<'static>, Fault>
-    ensures { OrMemory result (ParsesAs cell_of (json_cell partial) result buf.old.0.now buf.new.0.now) }
+// Adds a value at the end. There is room for it.
+#[inline(always)]
+fn add_value(values: &mut Vec<Option<BinlogValue<'static>>>, value: BinlogValue<'static>)
+    requires { vec_len values.old < vec_capacity values.old }
+    ensures values { map (option_map cell_of) values.new.items
+        ≡ map (option_map cell_of) values.old.items ++ Some (cell_of value.entry) ∷ [] }
+    ensures len { vec_len values.new ≡ vec_len values.old + 1 }
+    ensures capacity { vec_capacity values.new ≡ vec_capacity values.old }
 {
-    Ok(read_json(alloc, partial, buf)?.into_owned(alloc)?)
+    values.push_reserved(Some(value));
 }
 
-// Returns NULL if the null bit is set, and reads the cell otherwise.
+// Reads a JSON cell, and adds it with bytes of its own. There is room for it. Not inlined, so that
+// other cells stay in registers.
+#[inline(never)]
+#[tactic(auto, unfolding(crate::specs::Plans::one_more))]
+fn add_json(
+    alloc: Global,
+    partial: bool,
+    values: &mut Vec<Option<BinlogValue<'static>>>,
+    buf: &mut ParseBuf<'_>,
+) -> Result<(), Fault>
+    requires { vec_len values.old < vec_capacity values.old }
+    ensures cell { OrMemory result (ParsesAs (λ _. map (option_map cell_of) values.new.items)
+        (one_more (map (option_map cell_of) values.old.items) (json_cell partial)) result buf.old.0.now buf.new.0.now) }
+    ensures len { OnOk result (vec_len values.new ≡ vec_len values.old + 1) }
+    ensures capacity { vec_capacity values.new ≡ vec_capacity values.old }
+{
+    let value = read_json(alloc, partial, buf)?.into_owned(alloc)?;
+    add_value(values, value);
+    Ok(())
+}
+
+// Adds NULL if the null bit is set, and reads the cell and adds it otherwise. There is room for it.
 #[inline(always)]
-#[tactic(auto, unfolding(crate::specs::Plans::slot_cell, crate::specs::Cells::cell_by))]
-fn read_nullable_cell(
+#[tactic(auto, unfolding(crate::specs::Plans::slot_cell, crate::specs::Cells::cell_by, crate::specs::Plans::one_more))]
+fn add_nullable_cell(
     alloc: Global,
     slot: &Slot,
     partials: &BitView<'_>,
     is_null: bool,
+    values: &mut Vec<Option<BinlogValue<'static>>>,
     buf: &mut ParseBuf<'_>,
-) -> Result<BinlogValue<'static>, Fault>
-    ensures { OrMemory result (ParsesAs cell_of (slot_cell is_null partials.now slot.now) result
-        buf.old.0.now buf.new.0.now) }
+) -> Result<(), Fault>
+    requires { vec_len values.old < vec_capacity values.old }
+    ensures cell { OrMemory result (ParsesAs (λ _. map (option_map cell_of) values.new.items)
+        (one_more (map (option_map cell_of) values.old.items) (slot_cell is_null partials.now slot.now))
+        result buf.old.0.now buf.new.0.now) }
+    ensures len { OnOk result (vec_len values.new ≡ vec_len values.old + 1) }
+    ensures capacity { vec_capacity values.new ≡ vec_capacity values.old }
 {
     if is_null {
-        return Ok(BinlogValue::Value(Value::NULL));
+        add_value(values, BinlogValue::Value(Value::NULL));
+        return Ok(());
     }
     match slot.form? {
-        Form::Plain(form) => Ok(BinlogValue::Value(read_plain(alloc, form, buf)?)),
-        Form::Json => {
-            let value = read_owned_json(alloc, is_partial(slot, partials), buf)?;
-            Ok(value)
+        Form::Plain(form) => {
+            let value = read_plain(alloc, form, buf)?;
+            add_value(values, BinlogValue::Value(value));
         }
+        Form::Json => add_json(alloc, is_partial(slot, partials), values, buf)?,
     }
+    Ok(())
 }

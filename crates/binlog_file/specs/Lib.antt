@@ -6,6 +6,7 @@ pub mod Description
 pub mod Events
 pub mod Lemmas
 pub mod Kept
+pub mod StoredPlans
 pub mod Tables
 pub mod TableBodies
 pub mod TableMaps

@@ -1,6 +1,7 @@
 //! The changes of rows events.
 
 ghost use Rattle.std.specs.Prelude.{◌≡◌, Some, None, Ok, Err, IfOk, IfErr};
+ghost use Rattle.std.specs.Arc.{arc_value};
 ghost use Rattle.binlog_base.specs.declared.fault.Fault.TheVariants as Fault;
 ghost use Rattle.binlog_file.specs.declared.error.EventError.TheVariants as EventError;
 ghost use Rattle.binlog_file.specs.TableMaps.{in_maps};
@@ -18,6 +19,7 @@ use binlog_table::table_map::TableMapEvent;
 use mysql_binlog_rows::rows_event::{RowPair, RowsEvent, RowsEventCtx};
 use std::alloc::{AllocError, Global};
 use std::marker::Model;
+use std::sync::Arc;
 
 /// A rows event, and its pairs of rows.
 #[derive(Drop)]
@@ -156,11 +158,11 @@ fn is_dummy(rows: &RowsEvent<'_>) -> bool
 fn with_table<'a>(
     alloc: Global,
     plans: &mut KeptPlans,
-    table: &TableMapEvent<'_>,
+    table: &Arc<TableMapEvent<'static>>,
     origin: Origin,
     rows: RowsEvent<'a>,
 ) -> Result<Given<'a>, Fault>
-    ensures given { IfOk result (λ g. Spec.IsCovered table.now origin rows.entry g.change g.error) }
+    ensures given { IfOk result (λ g. Spec.IsCovered (arc_value table.now) origin rows.entry g.change g.error) }
     ensures err { IfErr result (λ e. e ≡ Fault.Memory) }
 {
     let decoded = plans.pairs(alloc, table, &rows)?;
@@ -184,12 +186,12 @@ fn if_wanted<'a>(
     alloc: Global,
     is_wanted: bool,
     plans: &mut KeptPlans,
-    table: &TableMapEvent<'_>,
+    table: &Arc<TableMapEvent<'static>>,
     origin: Origin,
     rows: RowsEvent<'a>,
 ) -> Result<Given<'a>, Fault>
     ensures given { IfOk result
-        (λ g. Spec.IsChosen is_wanted table.now origin rows.entry g.change g.error) }
+        (λ g. Spec.IsChosen is_wanted (arc_value table.now) origin rows.entry g.change g.error) }
     ensures err { IfErr result (λ e. e ≡ Fault.Memory) }
 {
     if is_wanted {
@@ -216,7 +218,7 @@ fn change_of<'a, C: Choice>(
         return Ok(nothing());
     }
     let table_id = rows.table_id();
-    match tables.get_tme(table_id) {
+    match tables.shared_tme(table_id) {
         None => Ok(failure(EventError::UnknownTable(table_id))),
         Some(table) => {
             let is_wanted = choice.wants(origin.position, table, rows.event_type());

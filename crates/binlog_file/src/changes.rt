@@ -1,6 +1,6 @@
 //! The changes of a file in memory.
 
-ghost use Rattle.std.specs.Prelude.{◌≡◌, ◌≢◌, List, ℕ, true, false, Some, None, Ok, Err, IfOk, IfErr, IfSome, IfNone, OnOk};
+ghost use Rattle.std.specs.Prelude.{◌≡◌, ◌≢◌, ◌≤◌, ◌*◌, List, ℕ, true, false, Some, None, Ok, Err, IfOk, IfErr, IfSome, IfNone, OnOk};
 ghost use Rattle.std.specs.Option.{option_map};
 ghost use Rattle.binlog_base.specs.declared.fault.Fault.TheVariants as Fault;
 ghost use Rattle.binlog_file.specs.declared.error.EventError.TheVariants as EventError;
@@ -9,14 +9,14 @@ ghost use Rattle.binlog_file.specs.Glances.{GlanceSteps};
 ghost use Rattle.binlog_file.specs.Tables.{InForce, in_force_after};
 ghost use Rattle.binlog_file.specs.TableMaps.{held_by};
 ghost use Rattle.binlog_file.specs.Changes as Spec;
-ghost use Rattle.binlog_file.specs.Walks.{spot_of};
+ghost use Rattle.binlog_file.specs.Walks.{spot_of, most_kept_in};
 
 use crate::change::{Change, glance_gives};
 use crate::choice::Choice;
 use crate::error::{EventError, FileError};
 use crate::event::Glance;
 use crate::events::Events;
-use crate::plans::KeptPlans;
+use crate::plans::{KeptPlans, MOST_BYTES};
 use crate::tables::TableMaps;
 use binlog_table::table_map::TableMapEvent;
 use std::alloc::{AllocError, Global};
@@ -56,11 +56,36 @@ impl<'a> Walk<'a> {
 impl<'a, C: Choice + Drop> FileChanges<'a, C> {
     /// Returns an iterator over the changes of a file that are wanted. Fails with `NotABinlogFile`
     /// or `Encrypted` if its first four bytes are others than those of a binlog file.
+    ///
+    /// It keeps up to 32 MiB of table map events and plans past the end of their statements, beside
+    /// the last 64 plans.
     pub fn new(alloc: Global, file: &'a [u8], choice: C) -> Result<FileChanges<'a, C>, FileError>
         ensures ok { IfOk result (λ c. spot_of c.walk ≡ Spec.first_spot file.now) }
         ensures choice { IfOk result (λ c. c.choice ≡ choice) }
         ensures magic { IfOk result (λ _. is_binlog file.now ≡ true) }
         ensures err { IfErr result (λ e. (e ≡ no_binlog file.now) × (is_binlog file.now ≡ false)) }
+        ensures most { IfOk result (λ c. most_kept_in c.walk ≤ 32 * 1024 * 1024) }
+    {
+        FileChanges::with_kept_bytes(alloc, file, choice, MOST_BYTES)
+    }
+
+    /// Returns the same iterator with another bound: what it keeps past the end of statements takes
+    /// at most this many bytes of memory. A quarter is for table map events with the bytes of their
+    /// bodies, and three quarters for plans, each with the table map event that it was made for.
+    ///
+    /// What isn't counted: the last 64 plans, which are kept whatever they take, the table map events
+    /// in force, and 128 KiB for notes of what came, which are asked for once all is full.
+    pub fn with_kept_bytes(
+        alloc: Global,
+        file: &'a [u8],
+        choice: C,
+        most: usize,
+    ) -> Result<FileChanges<'a, C>, FileError>
+        ensures ok { IfOk result (λ c. spot_of c.walk ≡ Spec.first_spot file.now) }
+        ensures choice { IfOk result (λ c. c.choice ≡ choice) }
+        ensures magic { IfOk result (λ _. is_binlog file.now ≡ true) }
+        ensures err { IfErr result (λ e. (e ≡ no_binlog file.now) × (is_binlog file.now ≡ false)) }
+        ensures most { IfOk result (λ c. most_kept_in c.walk ≤ most) }
     {
         let events = Events::new(file)?;
         Ok(FileChanges {
@@ -68,8 +93,8 @@ impl<'a, C: Choice + Drop> FileChanges<'a, C> {
             choice,
             walk: Walk {
                 events,
-                tables: TableMaps::new(alloc),
-                plans: KeptPlans::new(alloc),
+                tables: TableMaps::with_kept_bytes(alloc, most / 4),
+                plans: KeptPlans::new(alloc, most - most / 4),
                 pending: None,
             },
         })

@@ -1,42 +1,189 @@
-//! The plans of the last tables.
+//! The plans of tables.
 
-ghost use Rattle.std.specs.Prelude.{◌≡◌, ◌<◌, ◌≤◌, IfOk, IfErr};
-ghost use Rattle.std.specs.BTreeMap.{btree_map_len};
+ghost use Rattle.std.specs.Prelude.{◌≡◌, ◌<◌, IfOk, IfErr, IfSome};
+ghost use Rattle.std.specs.Arc.{arc_value};
 ghost use Rattle.binlog_base.specs.declared.fault.Fault.TheVariants as Fault;
 ghost use Rattle.mysql_binlog_rows.specs.Images.{pair};
 ghost use Rattle.mysql_binlog_rows.specs.Cover.{Covers};
+ghost use Rattle.binlog_file.specs.StoredPlans as Spec;
 
+use crate::generations::{Found, Generations, Weighed};
 use binlog_base::fault::Fault;
 use binlog_consts::consts::EventType;
 use binlog_table::table_map::TableMapEvent;
-use mysql_binlog_rows::rows_event::{Decoded, KeptPlan, RowsEvent, pairs_by};
+use mysql_binlog_rows::rows_event::{
+    Decoded, KeptPlan, RowsEvent, pairs_by_shared, pairs_if_served,
+};
 use std::alloc::{AllocError, Global};
-use std::collections::BTreeMap;
+use std::marker::Model;
+use std::sync::Arc;
 
-/// How many plans are kept at most.
-const MOST_PLANS: usize = 1024;
+/// How many bytes the table map events and stored plans of a reading take at most, where a caller
+/// gives no other bound.
+pub(crate) const MOST_BYTES: usize = 0x200_0000;
 
-/// The most that all kept plans weigh, unless there is one plan alone.
-const MOST_WEIGHT: u64 = 0x4_0000;
+/// How many of the last plans are kept, whatever they take.
+const MOST_RECENT: usize = 64;
 
-/// A plan, and what it weighs.
+/// How many bytes hold the parts of a table map event.
+const TABLE_BYTES: usize = 768;
+
+// Returns how many bytes a table map event takes.
+fn table_bytes(table: &TableMapEvent<'_>) -> usize
+    ensures { result ≡ Spec.table_bytes table.now }
+{
+    let columns = (table.columns_count() as usize).saturating_mul(8);
+    TABLE_BYTES
+        .saturating_add(table.database_name_raw().len())
+        .saturating_add(table.table_name_raw().len())
+        .saturating_add(table.optional_metadata_raw().len())
+        .saturating_add(columns)
+}
+
+// Returns how many bytes the table map event takes that a plan was made for.
+fn maybe_table_bytes(plan: &KeptPlan) -> usize
+    ensures { result ≡ Spec.maybe_table_bytes plan.now }
+{
+    match plan.table() {
+        None => 0,
+        Some(table) => table_bytes(table),
+    }
+}
+
+// Returns how many bytes a plan takes with its table map event.
+fn weight_of(plan: &KeptPlan) -> usize
+    ensures { result ≡ Spec.plan_weight plan.now }
+{
+    plan.bytes().saturating_add(maybe_table_bytes(plan))
+}
+
+/// A plan, and how many bytes it takes with its table map event.
 #[derive(Drop)]
-struct WeighedPlan {
-    weight: u64,
+struct StoredPlan {
+    bytes: usize,
     plan: KeptPlan,
 }
 
-/// The plans of the last tables, one for each table id and kind of change: an insert and an update
-/// of one table have plans of their own, so that neither takes the other's place. They are kept past
-/// the end of statements: a plan serves again while its table map event tells the same.
+impl Model for StoredPlan {
+    ghost use Rattle.std.specs.Prelude.{◌≡◌, Option};
+    ghost use Rattle.mysql_binlog_rows.specs.Kept.{Planned};
+    ghost use Rattle.binlog_file.specs.StoredPlans.{plan_weight};
+
+    ghost Value = { Option Planned };
+
+    ghost view = { λ s. s.plan };
+
+    ghost invariant = { λ s. s.bytes ≡ plan_weight s.plan };
+}
+
+impl StoredPlan {
+    // Returns the plan.
+    fn plan(&self) -> &KeptPlan
+        ensures { result.now ≡ self.now }
+    {
+        &self.plan
+    }
+}
+
+impl Weighed for StoredPlan {
+    ghost use Rattle.binlog_file.specs.StoredPlans.{plan_weight};
+
+    ghost weight = { plan_weight };
+
+    fn weight(&self) -> usize {
+        self.bytes
+    }
+}
+
+/// One of the last plans, and its key.
+#[derive(Drop)]
+struct RecentPlan {
+    key: u64,
+    plan: KeptPlan,
+}
+
+/// The last plans, at most 64 of them, the oldest first. Contracts see how many there are.
+#[derive(Drop)]
+struct RecentPlans {
+    plans: Vec<RecentPlan>,
+}
+
+impl Model for RecentPlans {
+    ghost use Rattle.std.specs.Prelude.{◌≤◌, ℕ, vec_len};
+
+    ghost Value = { ℕ };
+
+    ghost view = { λ r. vec_len r.plans };
+
+    ghost invariant = { λ r. vec_len r.plans ≤ 64 };
+}
+
+impl RecentPlans {
+    // Returns no plans.
+    fn new(alloc: Global) -> RecentPlans
+        ensures { result ≡ 0 }
+    {
+        RecentPlans {
+            plans: Vec::new(alloc),
+        }
+    }
+
+    // Returns the place of the plan with a key.
+    fn place_of(&self, key: u64) -> Option<usize>
+        ensures { IfSome result (λ i. i < self.now) }
+    {
+        self.plans.iter().position(|recent| recent.key == key)
+    }
+
+    // Takes out the oldest plan if there are 64.
+    fn take_oldest(&mut self) -> Option<RecentPlan>
+        ensures { self.new < 64 }
+    {
+        if self.plans.len() >= MOST_RECENT {
+            Some(self.plans.remove(0))
+        } else {
+            None
+        }
+    }
+
+    // Adds a plan that is empty, and returns its place.
+    fn add(&mut self, key: u64) -> Result<usize, AllocError>
+        requires { self.old < 64 }
+        ensures { IfOk result (λ i. i < self.new) }
+    {
+        let plan = KeptPlan::new();
+        self.plans.push(RecentPlan { key, plan })?;
+        Ok(self.plans.len() - 1)
+    }
+
+    // Returns the pairs of rows of an event by the plan at a place.
+    fn pairs(
+        &mut self,
+        alloc: Global,
+        place: usize,
+        table: &Arc<TableMapEvent<'static>>,
+        rows: &RowsEvent<'_>,
+    ) -> Result<Decoded, Fault>
+        requires { place < self.old }
+        ensures covers { IfOk result (λ d. Covers (pair (arc_value table.now) rows.now)
+            rows.now.rows_data d.pairs.items d.fault) }
+        ensures err { IfErr result (λ e. e ≡ Fault.Memory) }
+    {
+        let recent = &mut self.plans[place];
+        pairs_by_shared(alloc, table, rows, &mut recent.plan)
+    }
+}
+
+/// The plans of tables, one for each table id and kind of change: an insert and an update of one
+/// table have plans of their own, so that neither takes the other's place. They are kept past the
+/// end of statements: a plan serves again while its table map event tells the same.
 ///
-/// There are at most 1,024 plans. Together they weigh at most 262,144, so that wide tables don't fill
-/// the memory; a plan that weighs more is kept alone.
+/// The last 64 plans are kept whatever they take. Those before them are stored as long as there is
+/// room.
 #[derive(Drop)]
 pub(crate) struct KeptPlans {
-    alloc: Global,
-    plans: BTreeMap<u64, WeighedPlan>,
-    weight: u64,
+    recent: RecentPlans,
+    stored: Generations<StoredPlan>,
 }
 
 // Returns the number of a kind of change, below 4: events of one kind have the same images.
@@ -54,45 +201,69 @@ fn key_of(rows: &RowsEvent<'_>) -> u64 {
     rows.table_id().wrapping_mul(4) | kind_of(rows.event_type())
 }
 
-// Returns what a plan for these events weighs: one for each column, and one for each 32 bytes of
-// optional metadata.
-fn weight_of(table: &TableMapEvent<'_>, rows: &RowsEvent<'_>) -> u64 {
-    let metadata = table.optional_metadata_raw().len() as u64 / 32;
-    rows.num_columns().saturating_add(metadata)
-}
-
 impl KeptPlans {
-    // Keeps no plan yet.
-    pub(crate) fn new(alloc: Global) -> KeptPlans
-        ensures { btree_map_len result.plans ≡ 0 }
+    // Keeps no plan yet, and stores plans of at most so many bytes later.
+    pub(crate) fn new(alloc: Global, most: usize) -> KeptPlans
+        ensures { result.stored.most ≡ most }
     {
         KeptPlans {
-            alloc,
-            plans: BTreeMap::new(alloc),
-            weight: 0,
+            recent: RecentPlans::new(alloc),
+            stored: Generations::new(alloc, most),
         }
     }
 
-    // Gives up all plans if there is no room for one more of this weight.
-    fn make_room(&mut self, weight: u64)
-        ensures { btree_map_len self.new.plans < MOST_PLANS }
+    // Stores a plan if there is room for it, or it came before.
+    fn store(&mut self, recent: RecentPlan) -> Result<(), AllocError>
+        ensures recent { self.new.recent ≡ self.old.recent }
+        ensures most { self.new.stored.most ≡ self.old.stored.most }
     {
-        let sum = self.weight.saturating_add(weight);
-        if self.plans.len() >= MOST_PLANS || sum > MOST_WEIGHT {
-            self.plans = BTreeMap::new(self.alloc);
-            self.weight = weight;
-        } else {
-            self.weight = sum;
+        let bytes = weight_of(&recent.plan);
+        if !self.stored.make_room(recent.key, bytes)? {
+            return Ok(());
         }
+        let RecentPlan { key, plan } = recent;
+        self.stored.insert(key, StoredPlan { bytes, plan })
     }
 
-    // Keeps a plan of this weight.
-    fn keep(&mut self, key: u64, weight: u64, plan: KeptPlan) -> Result<(), AllocError>
-        ensures { btree_map_len self.new.plans ≤ MOST_PLANS }
+    // Returns the place of a plan among the last ones. A new one takes the place of the oldest if
+    // there are 64.
+    fn place_of(&mut self, key: u64) -> Result<usize, AllocError>
+        ensures place { IfOk result (λ i. i < self.new.recent) }
+        ensures most { self.new.stored.most ≡ self.old.stored.most }
     {
-        self.make_room(weight);
-        self.plans.insert(key, WeighedPlan { weight, plan })?;
-        Ok(())
+        if let Some(place) = self.recent.place_of(key) {
+            return Ok(place);
+        }
+        if let Some(oldest) = self.recent.take_oldest() {
+            self.store(oldest)?;
+        }
+        self.recent.add(key)
+    }
+
+    // Returns the pairs of rows of an event by a stored plan, if there is one that serves. One that
+    // doesn't is given up.
+    fn stored_pairs(
+        &mut self,
+        alloc: Global,
+        key: u64,
+        table: &TableMapEvent<'_>,
+        rows: &RowsEvent<'_>,
+    ) -> Result<Option<Decoded>, Fault>
+        ensures covers { IfOk result (λ o. IfSome o (λ d. Covers (pair table.now rows.now)
+            rows.now.rows_data d.pairs.items d.fault)) }
+        ensures err { IfErr result (λ e. e ≡ Fault.Memory) }
+        ensures most { self.new.stored.most ≡ self.old.stored.most }
+    {
+        let Some(Found { value, is_old }) = self.stored.get(key) else {
+            return Ok(None);
+        };
+        let decoded = pairs_if_served(alloc, table, rows, value.plan())?;
+        if decoded.is_none() {
+            self.stored.remove(key);
+        } else if is_old {
+            self.stored.renew(key)?;
+        }
+        Ok(decoded)
     }
 
     /// Returns the pairs of rows of an event, up to its first fault, by the plan that is kept for the
@@ -100,25 +271,19 @@ impl KeptPlans {
     pub(crate) fn pairs(
         &mut self,
         alloc: Global,
-        table: &TableMapEvent<'_>,
+        table: &Arc<TableMapEvent<'static>>,
         rows: &RowsEvent<'_>,
     ) -> Result<Decoded, Fault>
-        ensures covers { IfOk result
-            (λ d. Covers (pair table.now rows.now) rows.now.rows_data d.pairs.items d.fault) }
+        ensures covers { IfOk result (λ d. Covers (pair (arc_value table.now) rows.now)
+            rows.now.rows_data d.pairs.items d.fault) }
         ensures err { IfErr result (λ e. e ≡ Fault.Memory) }
-        ensures few { btree_map_len self.old.plans ≤ MOST_PLANS
-            → btree_map_len self.new.plans ≤ MOST_PLANS }
+        ensures most { self.new.stored.most ≡ self.old.stored.most }
     {
         let key = key_of(rows);
-        let weight = weight_of(table, rows);
-        if let Some(kept) = self.plans.get_mut(&key) {
-            if kept.weight == weight {
-                return pairs_by(alloc, table, rows, &mut kept.plan);
-            }
+        if let Some(decoded) = self.stored_pairs(alloc, key, table, rows)? {
+            return Ok(decoded);
         }
-        let mut plan = KeptPlan::new();
-        let decoded = pairs_by(alloc, table, rows, &mut plan)?;
-        self.keep(key, weight, plan)?;
-        Ok(decoded)
+        let place = self.place_of(key)?;
+        self.recent.pairs(alloc, place, table, rows)
     }
 }

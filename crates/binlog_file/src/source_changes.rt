@@ -1,12 +1,13 @@
 //! The changes of a file one at a time, from a source of bytes.
 
-ghost use Rattle.std.specs.Prelude.{◌≡◌, ◌<◌, ◌≤◌, ◌↔◌, true, Some, None, Ok, IfOk, IsTrue, IsSome};
+ghost use Rattle.std.specs.Prelude.{◌≡◌, ◌<◌, ◌≤◌, ◌*◌, ◌↔◌, true, Some, None, Ok, IfOk, IsTrue, IsSome};
 ghost use Rattle.binlog_file.specs.Events.{Event, Place, NextGives, glance_of};
 ghost use Rattle.binlog_file.specs.Tables.{InForce, in_force_after};
 ghost use Rattle.binlog_file.specs.Changes.{Gives, TakeGives, spot, LessensTo};
 ghost use Rattle.binlog_file.specs.Stream.{IsOutside, MayGoOn};
 ghost use Rattle.binlog_file.specs.SourceChanges as Spec;
-ghost use Rattle.binlog_file.specs.SourceWalks.{reading_in, kept_in};
+ghost use Rattle.binlog_file.specs.SourceWalks.{reading_in, kept_in, most_kept_by};
+ghost use Rattle.binlog_file.specs.Readers.{reading_of};
 
 use crate::change::{Change, Given, glance_gives};
 use crate::changes::at_position;
@@ -14,7 +15,7 @@ use crate::choice::Choice;
 use crate::error::{EventError, FileError};
 use crate::event::Glance;
 use crate::file::BinlogFile;
-use crate::plans::KeptPlans;
+use crate::plans::{KeptPlans, MOST_BYTES};
 use crate::reader::{EventBuffer, EventStreamReader};
 use binlog_base::below::Source;
 use binlog_base::fault::Fault;
@@ -174,12 +175,13 @@ pub struct SourceChanges<S, C> {
 }
 
 impl<S: Source + Drop, C: Choice + Drop> SourceChanges<S, C> {
-    /// Returns an iterator over the changes of a file that are wanted, from where the file is.
-    pub fn new(alloc: Global, file: BinlogFile<S>, choice: C) -> SourceChanges<S, C>
+    // Returns an iterator whose stored plans take at most so many bytes.
+    fn with_plans(alloc: Global, file: BinlogFile<S>, choice: C, most: usize) -> SourceChanges<S, C>
         ensures choice { result.choice ≡ choice }
         ensures source { result.source ≡ file.source }
         ensures reader { result.walk.reader ≡ file.reader }
         ensures pending { result.walk.pending ≡ None }
+        ensures most { result.walk.plans.stored.most ≡ most }
     {
         let BinlogFile { source, reader } = file;
         SourceChanges {
@@ -189,10 +191,48 @@ impl<S: Source + Drop, C: Choice + Drop> SourceChanges<S, C> {
             buffer: EventBuffer::new(alloc),
             walk: SourceWalk {
                 reader,
-                plans: KeptPlans::new(alloc),
+                plans: KeptPlans::new(alloc, most),
                 pending: None,
             },
         }
+    }
+
+    /// Returns an iterator over the changes of a file that are wanted, from where the file is.
+    ///
+    /// It keeps up to 24 MiB of plans past the end of their statements, beside the last 64 plans, and
+    /// table map events as the file's reader was made to keep them.
+    pub fn new(alloc: Global, file: BinlogFile<S>, choice: C) -> SourceChanges<S, C>
+        ensures choice { result.choice ≡ choice }
+        ensures source { result.source ≡ file.source }
+        ensures reader { result.walk.reader ≡ file.reader }
+        ensures pending { result.walk.pending ≡ None }
+        ensures most { result.walk.plans.stored.most ≡ 24 * 1024 * 1024 }
+    {
+        SourceChanges::with_plans(alloc, file, choice, MOST_BYTES - MOST_BYTES / 4)
+    }
+
+    /// Returns the same iterator with another bound: what it keeps past the end of statements takes
+    /// at most this many bytes of memory. A quarter is for table map events with the bytes of their
+    /// bodies, and three quarters for plans, each with the table map event that it was made for. What
+    /// the file's reader kept before is given up.
+    ///
+    /// What isn't counted: the last 64 plans, which are kept whatever they take, the table map events
+    /// in force, and 128 KiB for notes of what came, which are asked for once all is full.
+    pub fn with_kept_bytes(
+        alloc: Global,
+        file: BinlogFile<S>,
+        choice: C,
+        most: usize,
+    ) -> SourceChanges<S, C>
+        ensures choice { result.choice ≡ choice }
+        ensures source { result.source ≡ file.source }
+        ensures reader { reading_in result.walk ≡ reading_of file.reader }
+        ensures pending { result.walk.pending ≡ None }
+        ensures most { most_kept_by result.walk ≤ most }
+    {
+        let mut changes = SourceChanges::with_plans(alloc, file, choice, most - most / 4);
+        changes.walk.reader.keep_at_most(most / 4);
+        changes
     }
 
     /// Returns the reader: where it is, and the table map events that are in force after the change

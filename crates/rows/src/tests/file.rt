@@ -4,7 +4,7 @@ use super::{TWO_COLUMNS, TWO_ROWS};
 use binlog_base::below::{Counted, Failed, Source};
 use binlog_base::fault::Fault;
 use binlog_consts::consts::EventType;
-use binlog_file::changes::{ChangeList, changes};
+use binlog_file::changes::{ChangeList, FileChanges, changes};
 use binlog_file::choice::{AllRows, Choice};
 use binlog_file::crc::crc32;
 use binlog_file::error::{EventError, FileError};
@@ -243,18 +243,24 @@ fn tables_of_a_statement(rt: HostRuntime) -> Result<(), Fail> {
     Ok(())
 }
 
-/// A file of one statement after the other, of three tables by turns.
-fn by_turns(alloc: Global) -> Result<Vec<u8>, AllocError> {
+/// Appends a statement of this table: its table map event, and a rows event of two rows.
+fn push_statement(file: &mut Vec<u8>, table_id: u8) -> Result<(), AllocError> {
+    let mut table = [0; 21];
+    table.copy_from_slice(TWO_COLUMNS);
+    table[0] = table_id;
+    push(file, 0x13, 0, &table, false)?;
+    let mut rows = [0; 25];
+    rows.copy_from_slice(TWO_ROWS);
+    rows[0] = table_id;
+    push(file, 0x1e, 0, &rows, false)
+}
+
+/// A file of one statement after the other, of so many tables by turns.
+fn by_turns(alloc: Global, tables: u8, statements: u16) -> Result<Vec<u8>, AllocError> {
     let mut file = begun(alloc, false)?;
-    for table_id in [1, 2, 3, 1, 2, 3] {
-        let mut table = [0; 21];
-        table.copy_from_slice(TWO_COLUMNS);
-        table[0] = table_id;
-        push(&mut file, 0x13, 0, &table, false)?;
-        let mut rows = [0; 25];
-        rows.copy_from_slice(TWO_ROWS);
-        rows[0] = table_id;
-        push(&mut file, 0x1e, 0, &rows, false)?;
+    for i in 0..statements {
+        let table_id = i % u16::from(tables.max(1));
+        push_statement(&mut file, table_id.to_le_bytes()[0])?;
     }
     Ok(file)
 }
@@ -269,7 +275,7 @@ fn kept_of(alloc: Global, file: &[u8], most: usize) -> Result<Option<usize>, Fai
     for event in Events::new(file)? {
         tables.take(alloc, &event?)?;
     }
-    Ok(tables.get_tme(3).map(|_| tables.kept_bytes()))
+    Ok(tables.get_tme(2).map(|_| tables.kept_bytes()))
 }
 
 /// Reads all events of a file. Returns whether the last table is in force then.
@@ -280,13 +286,13 @@ fn last_table(alloc: Global, file: &[u8], most: usize) -> Result<bool, Fail> {
     for _ in 0..13 {
         reader.read(&mut source, &mut buffer)?;
     }
-    Ok(reader.position() == file.len() as u64 && reader.get_tme(3).is_some())
+    Ok(reader.position() == file.len() as u64 && reader.get_tme(2).is_some())
 }
 
 #[test]
 fn tables_are_kept_in_bounds(rt: HostRuntime) -> Result<(), Fail> {
     let alloc = rt.alloc();
-    let file = by_turns(alloc)?;
+    let file = by_turns(alloc, 3, 6)?;
     for (most, kept) in BOUNDS {
         assert!(rt; kept_of(alloc, &file, most)? == Some(kept));
         assert!(rt; last_table(alloc, &file, most)?);
@@ -343,6 +349,32 @@ fn count_pairs<R: Read + Drop>(alloc: Global, reader: R) -> Result<u64, FileErro
         count = count.saturating_add(change.pairs().len() as u64);
     }
     Ok(count)
+}
+
+/// The count of the pairs of a file in memory, and of the same file over a reader, where so many bytes
+/// are kept at most.
+fn pairs_within(alloc: Global, file: &[u8], most: usize) -> Result<(usize, usize), FileError> {
+    let mut count: usize = 0;
+    for change in FileChanges::with_kept_bytes(alloc, file, AllRows, most)? {
+        count = count.saturating_add(change?.pairs().len());
+    }
+    let source = BinlogFile::new(alloc, Counted::new(file))?;
+    let mut read: usize = 0;
+    for change in SourceChanges::with_kept_bytes(alloc, source, AllRows, most) {
+        read = read.saturating_add(change?.pairs().len());
+    }
+    Ok((count, read))
+}
+
+#[test]
+fn plans_are_kept_in_bounds(rt: HostRuntime) -> Result<(), Fail> {
+    let alloc = rt.alloc();
+    // There is room for no plan but the last ones, for some tables, and for all.
+    let file = by_turns(alloc, 200, 600)?;
+    for most in [0, 100_000, 1 << 25] {
+        assert!(rt; pairs_within(alloc, &file, most)? == (1200, 1200));
+    }
+    Ok(())
 }
 
 /// Whether the pairs of a file over a reader are so many, or this error ends them.

@@ -164,6 +164,7 @@ fn with_table<'a>(
 ) -> Result<Given<'a>, Fault>
     ensures given { IfOk result (λ g. Spec.IsCovered (arc_value table.now) origin rows.entry g.change g.error) }
     ensures err { IfErr result (λ e. e ≡ Fault.Memory) }
+    ensures most { plans.new.stored.most ≡ plans.old.stored.most }
 {
     let decoded = plans.pairs(alloc, table, &rows)?;
     let pairs = decoded.pairs;
@@ -193,6 +194,7 @@ fn if_wanted<'a>(
     ensures given { IfOk result
         (λ g. Spec.IsChosen is_wanted (arc_value table.now) origin rows.entry g.change g.error) }
     ensures err { IfErr result (λ e. e ≡ Fault.Memory) }
+    ensures most { plans.new.stored.most ≡ plans.old.stored.most }
 {
     if is_wanted {
         with_table(alloc, plans, table, origin, rows)
@@ -213,6 +215,7 @@ fn change_of<'a, C: Choice>(
     ensures given { IfOk result (λ g. Spec.RowsGive (C.wanted choice.now) (in_maps tables.now) origin
         rows.entry g.change g.error) }
     ensures err { IfErr result (λ e. e ≡ Fault.Memory) }
+    ensures most { plans.new.stored.most ≡ plans.old.stored.most }
 {
     if is_dummy(&rows) {
         return Ok(nothing());
@@ -240,6 +243,7 @@ fn body_gives<'a, C: Choice>(
     ensures given { IfOk result (λ g. Spec.BodyGives (C.wanted choice.now) (in_maps tables.now) origin
         ctx body.now g) }
     ensures err { IfErr result (λ e. e ≡ Fault.Memory) }
+    ensures most { plans.new.stored.most ≡ plans.old.stored.most }
 {
     match RowsEvent::deserialize(ctx, &mut ParseBuf(body)) {
         Err(fault) => Ok(failure(EventError::RowsEvent(fault))),
@@ -258,6 +262,7 @@ pub(crate) fn glance_gives<'a, C: Choice>(
     ensures given { IfOk result (λ g. Spec.Gives (C.wanted choice.now) (in_maps tables.now)
         glance.entry.origin glance.entry.rows glance.entry.body g) }
     ensures err { IfErr result (λ e. e ≡ Fault.Memory) }
+    ensures most { plans.new.stored.most ≡ plans.old.stored.most }
 {
     match glance.rows {
         None => Ok(nothing()),

@@ -46,6 +46,7 @@ impl<'a> Walk<'a> {
         ensures ended { IfSome result (λ _. Spec.IsAtEnd (spot_of self.new)) }
         ensures goes_on { IfNone result (spot_of self.new ≡ spot_of self.old) }
         ensures not_ended { IfNone result (self.new.pending ≡ None) }
+        ensures most { most_kept_in self.new ≡ most_kept_in self.old }
     {
         let error = self.pending.take()?;
         self.events.stop();
@@ -129,6 +130,7 @@ fn take_glance<'a, C: Choice>(
         → Spec.TakeGives Spec.IsMemory (C.wanted choice.now) (Spec.spot p s None)
         result (spot_of walk.new) }
     ensures events { walk.new.events ≡ walk.old.events }
+    ensures most { most_kept_in walk.new ≡ most_kept_in walk.old }
 {
     // Most events hold no rows, and give nothing.
     if glance.rows.is_none() {
@@ -162,6 +164,7 @@ fn take_item<'a, C: Choice>(
         → Spec.TakeGives Spec.IsMemory (C.wanted choice.now) (Spec.spot p s None)
         result (spot_of walk.new) }
     ensures events { walk.new.events ≡ walk.old.events }
+    ensures most { most_kept_in walk.new ≡ most_kept_in walk.old }
 {
     match item {
         Ok(glance) => take_glance(alloc, choice, walk, glance),
@@ -178,7 +181,8 @@ fn next_change<'a, C: Choice>(
     choice: &C,
     walk: &mut Walk<'a>,
 ) -> Option<Result<Change<'a>, FileError>>
-    ensures { Spec.ChangeSteps (C.wanted choice.now) (spot_of walk.old) result (spot_of walk.new) }
+    ensures steps { Spec.ChangeSteps (C.wanted choice.now) (spot_of walk.old) result (spot_of walk.new) }
+    ensures most { most_kept_in walk.new ≡ most_kept_in walk.old }
 {
     loop {
         if let Some(error) = walk.end() {

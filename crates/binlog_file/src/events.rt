@@ -5,7 +5,7 @@ ghost use Rattle.binlog_base.specs.Format.{SpellsPrefix};
 ghost use Rattle.binlog_file.specs.Events as Spec;
 ghost use Rattle.binlog_file.specs.Changes.{IsMemory};
 ghost use Rattle.binlog_file.specs.Glances.{SeesAt, GlanceSteps};
-ghost use Rattle.binlog_file.specs.TableMaps.{held_by};
+ghost use Rattle.binlog_file.specs.TableMaps.{held_by, most_kept};
 
 use crate::description::FormatDescriptionEvent;
 use crate::error::{EventError, FileError};
@@ -103,6 +103,7 @@ fn see_at<'a>(
     ensures ok { IfOk result (λ r. SeesAt position in_force.now (held_by tables.old) bytes.now r.seen
         r.left.now (held_by tables.new)) }
     ensures err { IfErr result (λ e. IsMemory e ⊎ (Spec.event position in_force.now).refuses bytes.now e) }
+    ensures most { most_kept tables.new ≡ most_kept tables.old }
 {
     let mut buf = ParseBuf(bytes);
     let raw = read_raw(&mut buf)?;
@@ -119,7 +120,8 @@ impl<'a> Events<'a> {
         alloc: Global,
         tables: &mut TableMaps,
     ) -> Option<Result<Glance<'a>, FileError>>
-        ensures { GlanceSteps self.old (held_by tables.old) result self.new (held_by tables.new) }
+        ensures steps { GlanceSteps self.old (held_by tables.old) result self.new (held_by tables.new) }
+        ensures most { most_kept tables.new ≡ most_kept tables.old }
     {
         if self.left.is_empty() {
             return None;

@@ -183,8 +183,9 @@ fn description_after(
 impl Kept {
     // Takes what an event of these bytes says.
     fn take(&mut self, alloc: Global, event: &Event<'_>, raw: &Raw<'_>) -> Result<(), AllocError>
-        ensures { OnOk result (kept_by self.new ≡ Spec.kept_after (kept_by self.old)
+        ensures kept { OnOk result (kept_by self.new ≡ Spec.kept_after (kept_by self.old)
             (raw.now.head ++ raw.now.rest) event.now) }
+        ensures most { most_kept self.new.tables ≡ most_kept self.old.tables }
     {
         self.description = description_after(alloc, self.description.take(), event)?;
         self.stored.take(self.tables.ended(), event, raw)?;
@@ -198,8 +199,9 @@ impl Kept {
     fn take_plain(&mut self, event: &PlainEvent<'_>, raw: &Raw<'_>) -> Result<(), AllocError>
         requires plain { event.now.description ≡ None }
         requires no_table { event.now.table ≡ None }
-        ensures { OnOk result (kept_by self.new ≡ Spec.kept_after (kept_by self.old)
+        ensures kept { OnOk result (kept_by self.new ≡ Spec.kept_after (kept_by self.old)
             (raw.now.head ++ raw.now.rest) event.now) }
+        ensures most { most_kept self.new.tables ≡ most_kept self.old.tables }
     {
         self.stored.take_plain(self.tables.ended(), event, raw)?;
         self.tables.take_plain(event);
@@ -215,8 +217,9 @@ impl Kept {
         raw: &Raw<'_>,
     ) -> Result<(), AllocError>
         requires { event.now.header.event_type ≡ 0x13 }
-        ensures { OnOk result (kept_by self.new ≡ Spec.kept_after (kept_by self.old)
+        ensures kept { OnOk result (kept_by self.new ≡ Spec.kept_after (kept_by self.old)
             (raw.now.head ++ raw.now.rest) (event_with event.now (arc_value table.entry))) }
+        ensures most { most_kept self.new.tables ≡ most_kept self.old.tables }
     {
         self.stored.take_table(self.tables.ended(), raw)?;
         self.tables.take_table(table)?;
@@ -239,8 +242,9 @@ fn read_event<'b, S: Source>(
     buffer: &'b mut EventBuffer,
     kept: &mut Kept,
 ) -> Result<Option<Event<'b>>, EventError>
-    ensures { Spec.ReadGives (S.remaining source.old) (kept_by kept.old) result
+    ensures gives { Spec.ReadGives (S.remaining source.old) (kept_by kept.old) result
         (S.remaining source.new) (kept_by kept.new) }
+    ensures most { most_kept kept.new.tables ≡ most_kept kept.old.tables }
 {
     let Some(raw) = take_raw(source, buffer)? else {
         return Ok(None);
@@ -254,7 +258,8 @@ fn read_event<'b, S: Source>(
 // Takes a plain event of these bytes, and returns a glance at it.
 fn take_plain<'b>(kept: &mut Kept, raw: &Raw<'b>) -> Result<Glance<'b>, EventError>
     requires { is_plain raw.now ≡ true }
-    ensures { TakesRaw (kept_by kept.old) raw.now result (kept_by kept.new) }
+    ensures takes { TakesRaw (kept_by kept.old) raw.now result (kept_by kept.new) }
+    ensures most { most_kept kept.new.tables ≡ most_kept kept.old.tables }
 {
     let in_force = lend(&kept.description);
     let event = PlainEvent::of_raw(kept.position, &in_force, raw)?;
@@ -265,7 +270,8 @@ fn take_plain<'b>(kept: &mut Kept, raw: &Raw<'b>) -> Result<Glance<'b>, EventErr
 // Takes a table map event of these bytes, and returns a glance at it.
 fn take_table<'b>(alloc: Global, kept: &mut Kept, raw: &Raw<'b>) -> Result<Glance<'b>, EventError>
     requires { raw.now.header.event_type ≡ 0x13 }
-    ensures { TakesRaw (kept_by kept.old) raw.now result (kept_by kept.new) }
+    ensures takes { TakesRaw (kept_by kept.old) raw.now result (kept_by kept.new) }
+    ensures most { most_kept kept.new.tables ≡ most_kept kept.old.tables }
 {
     let in_force = lend(&kept.description);
     let event = UnreadTable::of_raw(kept.position, &in_force, raw)?;
@@ -276,7 +282,8 @@ fn take_table<'b>(alloc: Global, kept: &mut Kept, raw: &Raw<'b>) -> Result<Glanc
 
 // Takes an event of these bytes, and returns a glance at it.
 fn take_other<'b>(alloc: Global, kept: &mut Kept, raw: &Raw<'b>) -> Result<Glance<'b>, EventError>
-    ensures { TakesRaw (kept_by kept.old) raw.now result (kept_by kept.new) }
+    ensures takes { TakesRaw (kept_by kept.old) raw.now result (kept_by kept.new) }
+    ensures most { most_kept kept.new.tables ≡ most_kept kept.old.tables }
 {
     let in_force = lend(&kept.description);
     let event = Event::of_raw(kept.position, &in_force, raw)?;
@@ -286,7 +293,8 @@ fn take_other<'b>(alloc: Global, kept: &mut Kept, raw: &Raw<'b>) -> Result<Glanc
 
 // Takes the event of these bytes, and returns a glance at it.
 fn take_glance<'b>(alloc: Global, kept: &mut Kept, raw: &Raw<'b>) -> Result<Glance<'b>, EventError>
-    ensures { TakesRaw (kept_by kept.old) raw.now result (kept_by kept.new) }
+    ensures takes { TakesRaw (kept_by kept.old) raw.now result (kept_by kept.new) }
+    ensures most { most_kept kept.new.tables ≡ most_kept kept.old.tables }
 {
     if raw.is_plain() {
         take_plain(kept, raw)
@@ -304,8 +312,9 @@ fn read_glance<'b, S: Source>(
     buffer: &'b mut EventBuffer,
     kept: &mut Kept,
 ) -> Result<Option<Glance<'b>>, EventError>
-    ensures { Spec.GlanceGives (S.remaining source.old) (kept_by kept.old) result
+    ensures gives { Spec.GlanceGives (S.remaining source.old) (kept_by kept.old) result
         (S.remaining source.new) (kept_by kept.new) }
+    ensures most { most_kept kept.new.tables ≡ most_kept kept.old.tables }
 {
     let Some(raw) = take_raw(source, buffer)? else {
         return Ok(None);
@@ -354,8 +363,9 @@ impl EventStreamReader {
         buffer: &'b mut EventBuffer,
     ) -> Result<Option<Glance<'b>>, FileError>
         requires { self.old.is_over ≡ false }
-        ensures { Spec.ReaderGlances (S.remaining source.old) (reading_of self.old) result
+        ensures gives { Spec.ReaderGlances (S.remaining source.old) (reading_of self.old) result
             (S.remaining source.new) (reading_of self.new) }
+        ensures most { most_kept self.new.kept.tables ≡ most_kept self.old.kept.tables }
     {
         let position = self.kept.position;
         match read_glance(self.alloc, source, buffer, &mut self.kept) {
@@ -455,8 +465,9 @@ impl EventStreamReader {
         source: &mut S,
         buffer: &'b mut EventBuffer,
     ) -> Result<Option<Event<'b>>, FileError>
-        ensures { Spec.ReaderGives (S.remaining source.old) (reading_of self.old) result
+        ensures gives { Spec.ReaderGives (S.remaining source.old) (reading_of self.old) result
             (S.remaining source.new) (reading_of self.new) }
+        ensures most { most_kept self.new.kept.tables ≡ most_kept self.old.kept.tables }
     {
         if self.is_over {
             return Ok(None);

@@ -3,7 +3,7 @@
 ghost use Rattle.std.specs.Prelude.{◌≡◌, true};
 ghost use Rattle.binlog_file.specs.Events.{is_plain};
 ghost use Rattle.binlog_file.specs.Glances.{SeesRaw};
-ghost use Rattle.binlog_file.specs.TableMaps.{held_by};
+ghost use Rattle.binlog_file.specs.TableMaps.{held_by, most_kept};
 
 use crate::description::FormatDescriptionEvent;
 use crate::error::EventError;
@@ -36,7 +36,8 @@ fn see_plain<'a>(
     raw: &Raw<'a>,
 ) -> Result<Seen<'a>, EventError>
     requires { is_plain raw.now ≡ true }
-    ensures { SeesRaw position in_force.now (held_by tables.old) raw.now result (held_by tables.new) }
+    ensures sees { SeesRaw position in_force.now (held_by tables.old) raw.now result (held_by tables.new) }
+    ensures most { most_kept tables.new ≡ most_kept tables.old }
 {
     let event = PlainEvent::of_raw(position, in_force, raw)?;
     tables.take_plain(&event);
@@ -55,7 +56,8 @@ fn see_table<'a>(
     raw: &Raw<'a>,
 ) -> Result<Seen<'a>, EventError>
     requires { raw.now.header.event_type ≡ 0x13 }
-    ensures { SeesRaw position in_force.now (held_by tables.old) raw.now result (held_by tables.new) }
+    ensures sees { SeesRaw position in_force.now (held_by tables.old) raw.now result (held_by tables.new) }
+    ensures most { most_kept tables.new ≡ most_kept tables.old }
 {
     let event = UnreadTable::of_raw(position, in_force, raw)?;
     let table = event.table(alloc, tables)?;
@@ -74,7 +76,8 @@ fn see_other<'a>(
     tables: &mut TableMaps,
     raw: &Raw<'a>,
 ) -> Result<Seen<'a>, EventError>
-    ensures { SeesRaw position in_force.now (held_by tables.old) raw.now result (held_by tables.new) }
+    ensures sees { SeesRaw position in_force.now (held_by tables.old) raw.now result (held_by tables.new) }
+    ensures most { most_kept tables.new ≡ most_kept tables.old }
 {
     let event = Event::of_raw(position, in_force, raw)?;
     tables.take(alloc, &event)?;
@@ -92,7 +95,8 @@ pub(crate) fn see<'a>(
     tables: &mut TableMaps,
     raw: &Raw<'a>,
 ) -> Result<Seen<'a>, EventError>
-    ensures { SeesRaw position in_force.now (held_by tables.old) raw.now result (held_by tables.new) }
+    ensures sees { SeesRaw position in_force.now (held_by tables.old) raw.now result (held_by tables.new) }
+    ensures most { most_kept tables.new ≡ most_kept tables.old }
 {
     if raw.is_plain() {
         see_plain(position, in_force, tables, raw)

@@ -44,6 +44,7 @@ impl SourceWalk {
         ensures kept { kept_in self.new ≡ kept_in self.old }
         ensures over { IsSome error → self.new.reader.is_over ≡ true }
         ensures on { error ≡ None → self.new.reader.is_over ≡ self.old.reader.is_over }
+        ensures most { most_kept_by self.new ≡ most_kept_by self.old }
     {
         if error.is_some() {
             self.reader.stop();
@@ -57,6 +58,7 @@ impl SourceWalk {
         ensures pending { self.new.pending ≡ None }
         ensures kept { kept_in self.new ≡ kept_in self.old }
         ensures over { self.new.reader.is_over ≡ true }
+        ensures most { most_kept_by self.new ≡ most_kept_by self.old }
     {
         self.reader.stop();
         self.pending.take()
@@ -74,6 +76,7 @@ fn owned_gives<C: Choice>(
         (kept_in walk.old).in_force.tables glance.entry.origin glance.entry.rows glance.entry.body g) }
     ensures kept { kept_in walk.new ≡ kept_in walk.old }
     ensures over { walk.new.reader.is_over ≡ walk.old.reader.is_over }
+    ensures most { most_kept_by walk.new ≡ most_kept_by walk.old }
 {
     let tables = walk.reader.tables();
     let given = glance_gives(alloc, choice, &mut walk.plans, tables, glance)?;
@@ -95,6 +98,7 @@ fn take<C: Choice>(
         (spot r (kept_in walk.old).in_force walk.new.pending) }
     ensures kept { kept_in walk.new ≡ kept_in walk.old }
     ensures on { walk.new.pending ≡ None → walk.new.reader.is_over ≡ walk.old.reader.is_over }
+    ensures most { most_kept_by walk.new ≡ most_kept_by walk.old }
 {
     // Most events hold no rows, and give nothing.
     if glance.rows.is_none() {
@@ -129,6 +133,7 @@ fn read_one<S: Source, C: Choice>(
     ensures takes { Spec.SourceTakes (C.wanted choice.now) (S.remaining source.old) (reading_in walk.old)
         None result (S.remaining source.new) (reading_in walk.new) walk.new.pending }
     ensures fewer { Spec.turns (reading_in walk.new) < Spec.turns (reading_in walk.old) }
+    ensures most { most_kept_by walk.new ≡ most_kept_by walk.old }
 {
     match walk.reader.glance(source, buffer) {
         Ok(Some(glance)) => take(alloc, choice, walk, glance),
@@ -151,8 +156,9 @@ fn next_change<S: Source, C: Choice>(
     buffer: &mut EventBuffer,
     walk: &mut SourceWalk,
 ) -> Option<Result<Change<'static>, FileError>>
-    ensures { Spec.SourceSteps (C.wanted choice.now) (S.remaining source.old) (reading_in walk.old)
+    ensures steps { Spec.SourceSteps (C.wanted choice.now) (S.remaining source.old) (reading_in walk.old)
         walk.old.pending result (S.remaining source.new) (reading_in walk.new) walk.new.pending }
+    ensures most { most_kept_by walk.new ≡ most_kept_by walk.old }
 {
     while walk.goes_on() {
         if let Some(change) = read_one(alloc, choice, source, buffer, walk) {

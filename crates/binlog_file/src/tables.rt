@@ -134,8 +134,7 @@ impl TableMaps {
     }
 
     /// Returns an empty set of tables. What it keeps past the end of statements takes at most this
-    /// many bytes of memory, beside 64 KiB for notes of what came, which it asks for once that is
-    /// half full.
+    /// many bytes of memory, beside 64 KiB for notes of what came, which it asks for once all is full.
     pub fn with_kept_bytes(alloc: Global, most: usize) -> TableMaps
         ensures tables { (id : ℕ) → in_maps result id ≡ no_tables id }
         ensures ended { result.ended ≡ false }

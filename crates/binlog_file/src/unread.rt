@@ -6,7 +6,7 @@ ghost use Rattle.binlog_table.specs.TableMap.{TableMap};
 ghost use Rattle.binlog_file.specs.Events.{event_of_raw, glance_of};
 ghost use Rattle.binlog_file.specs.Changes.{IsMemory};
 ghost use Rattle.binlog_file.specs.TableBodies.{ReadsTable, event_with, LeavesTable};
-ghost use Rattle.binlog_file.specs.TableMaps.{held_by};
+ghost use Rattle.binlog_file.specs.TableMaps.{held_by, most_kept};
 
 use crate::description::FormatDescriptionEvent;
 use crate::error::EventError;
@@ -80,6 +80,7 @@ impl<'a> UnreadTable<'a> {
         ensures err { IfErr result (λ e. IsMemory e ⊎ ReadsTable self.now.server
             self.now.post_header_len self.now.parts.body (Err e)) }
         ensures held { held_by tables.new ≡ held_by tables.old }
+        ensures most { most_kept tables.new ≡ most_kept tables.old }
     {
         tables.table_of(alloc, self.server, self.post_header_len, self.parts.body())
     }

@@ -30,7 +30,7 @@ returns-in_err-seen-clause-err c =
     let d = c.args.in_force.now in
     let x = c.args.bytes.now in
     let e = c.in_err-seen.field-0.0 in
-    handed_on c.from_residual-in_err-seen.result e (λ (f : EventError). IsMemory f ⊎ (event c.args.position d).refuses x f) c.from_residual-in_err-seen.ensures.1 (elim c.in_err-seen.ensures [
+    handed_on c.from_residual-in_err-seen.result e (λ (f : EventError). IsMemory f ⊎ (event c.args.position d).refuses x f) c.from_residual-in_err-seen.ensures.1 (elim c.in_err-seen.ensures.sees [
       | inl memory ↦ inl memory
       | inr refused ↦
           let left = c.read_raw.new.buf.0.now in
@@ -42,6 +42,6 @@ returns-clause-ok c =
     let d = c.args.in_force.now in
     let x = c.args.bytes.now in
     let left = c.read_raw.new.buf.0.now in
-    let sees = c.in_ok-seen.ensures in
+    let sees = c.in_ok-seen.ensures.sees in
     let spelled = read_event c.args.position d (Ok sees.0) x left (from_raw c.args.position d c.in_ok-raw.raw x left (Ok sees.0) c.in_ok-raw.ensures sees.2) in
     (sees.0, sees.1, spelled, long_enough c.args.position d sees.0 x left spelled, sees.3)

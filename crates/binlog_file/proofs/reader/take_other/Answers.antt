@@ -5,9 +5,9 @@ use Rattle.binlog_file.specs.Events.{event_of_raw}
 use Rattle.binlog_file.specs.Readers.{kept_by}
 use Rattle.binlog_file.proofs.reader.take_other.Goals as goal
 
-pub returns : goal.returns
-returns c =
+pub returns-clause-takes : goal.returns-clause-takes
+returns-clause-takes c =
     let k = kept_by c.args.kept.now in
     let e = c.in_ok-event.event in
     let read = subst (λ (d : Option Description). (x : List ℕ) → Parses (event_of_raw k.at d c.args.raw.now) (Ok e) x x) c.lend-in_force.ensures c.in_ok-event.ensures in
-    (e, c.glance.ensures, read, c.in_ok-take.ensures)
+    (e, c.glance.ensures, read, c.in_ok-take.ensures.kept)

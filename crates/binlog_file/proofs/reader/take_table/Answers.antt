@@ -17,8 +17,8 @@ handed_on : (k l : Kept) (r : Raw) (result : Result Glance EventError) (e : Even
 handed_on k l r (Ok g) e is h = absurd is
 handed_on k l r (Err d) e is h = subst (λ (x : EventError). TakesRaw k r (Err x) l) (sym is) h
 
-pub returns-in_err-table : goal.returns-in_err-table
-returns-in_err-table c =
+pub returns-in_err-table-clause-takes : goal.returns-in_err-table-clause-takes
+returns-in_err-table-clause-takes c =
     let k = kept_by c.args.kept.now in
     let e = c.in_err-table.field-0.0 in
     let left = subst (λ (d : Option Description). LeavesTable (event_of_raw k.at d c.args.raw.now) (Ok c.in_ok-event.event)) c.lend-in_force.ensures c.in_ok-event.ensures.leaves in
@@ -28,11 +28,11 @@ returns-in_err-table c =
       | inr refused ↦ inr (left.1 e refused)
     ])
 
-pub returns : goal.returns
-returns c =
+pub returns-clause-takes : goal.returns-clause-takes
+returns-clause-takes c =
     let k = kept_by c.args.kept.now in
     let u = c.in_ok-event.event in
     let t = arc_value c.in_ok-table.table in
     let left = subst (λ (d : Option Description). LeavesTable (event_of_raw k.at d c.args.raw.now) (Ok u)) c.lend-in_force.ensures c.in_ok-event.ensures.leaves in
     let same = ap (λ (s : InForce). kept_after (kept k.at k.description s k.stored) (c.args.raw.now.head ++ c.args.raw.now.rest) (event_with u t)) c.table.ensures.held in
-    (event_with u t, c.glance.ensures t, left.0 t c.in_ok-table.ensures.ok, c.in_ok-take_table.ensures ∙ same)
+    (event_with u t, c.glance.ensures t, left.0 t c.in_ok-table.ensures.ok, c.in_ok-take_table.ensures.kept ∙ same)

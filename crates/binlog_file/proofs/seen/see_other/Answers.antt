@@ -7,8 +7,8 @@ use Rattle.binlog_file.specs.Glances.{seen}
 use Rattle.binlog_file.proofs.TablesLeft.{held_as}
 use Rattle.binlog_file.proofs.seen.see_other.Goals as goal
 
-pub returns : goal.returns
-returns c =
+pub returns-clause-sees : goal.returns-clause-sees
+returns-clause-sees c =
     let e = c.in_ok-event.event in (
       e,
       ap (λ (g : Glance). seen g c.description_again.result) c.glance.ensures ∙ ap (λ (d : Option Description). seen (glance_of e) d) c.description_again.ensures,

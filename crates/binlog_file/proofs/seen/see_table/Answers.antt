@@ -16,16 +16,16 @@ handed_on : (at : ℕ) (d : Option Description) (s t : InForce) (r : Raw) (resul
 handed_on at d s t r (Ok g) e is h = absurd is
 handed_on at d s t r (Err f) e is h = subst (λ (x : EventError). SeesRaw at d s r (Err x) t) (sym is) h
 
-pub returns-in_err-table : goal.returns-in_err-table
-returns-in_err-table c =
+pub returns-in_err-table-clause-sees : goal.returns-in_err-table-clause-sees
+returns-in_err-table-clause-sees c =
     let e = c.in_err-table.field-0.0 in
     handed_on c.args.position c.args.in_force.now (held_by c.args.tables.now) (held_by c.table.new.tables) c.args.raw.now c.from_residual-in_err-table.result e c.from_residual-in_err-table.ensures.1 (elim c.in_err-table.ensures.err [
       | inl memory ↦ inl memory
       | inr refused ↦ inr (c.in_ok-event.ensures.leaves.1 e refused)
     ])
 
-pub returns : goal.returns
-returns c =
+pub returns-clause-sees : goal.returns-clause-sees
+returns-clause-sees c =
     let e = event_with c.in_ok-event.event (arc_value c.in_ok-table.table) in
     let held = held_as (held_by c.take_table.new.self) (in_force_after (held_by c.table.new.tables) e) c.in_ok-take_table.ensures.tables c.in_ok-take_table.ensures.ended in (
       e,

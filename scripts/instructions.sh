@@ -14,26 +14,27 @@
 # costs is the difference of two tables, such as `N` and `NN`. With `one` it counts the call of `decode_pairs` on an insert and on an update of
 # one row of the ten columns. Build the program with `rt run` in crates/rows.
 #
-# With `kept` and `trees` it counts in tests; run `rt test` in crates/rows first. `kept` reads the events of `one` a second time, by the plan
-# that is kept. `trees` calls `jsonb::Value::parse` for a tree of 10,000 numbers and two of 10,000 keys and values.
+# With `kept` and `trees` it counts in tests, which `rt test` builds. `kept`, in crates/tests_rows, reads the events of `one` a second time, by
+# the plan that is kept. `trees`, in crates/tests_values, calls `jsonb::Value::parse` for a tree of 10,000 numbers and two of 10,000 keys and
+# values.
 set -eu
 here=$(cd "$(dirname "$0")/.." && pwd)
-tests=$here/crates/rows/out/rows_tests
 # The instructions of the calls of a function in a test.
 instructions_in_test() {
     valgrind --tool=callgrind --callgrind-out-file=/dev/null --collect-atstart=no "--toggle-collect=$1" "$tests" "$2" 2>&1 |
         sed -n 's/^==[0-9]*== Collected : //p'
 }
-case "${1:-}" in
-kept | trees)
+# Sets `tests` to the test program of a crate.
+find_tests() {
+    tests=$here/crates/$1/out/$1_tests
     if [ ! -x "$tests" ]; then
-        echo "$tests is not built: run 'rt test' in crates/rows first" >&2
+        echo "$tests is not built: run 'rt test' in crates/$1 first" >&2
         exit 2
     fi
-    ;;
-esac
+}
 case "${1:-}" in
 kept)
+    find_tests tests_rows
     for test in insert update; do
         echo "$test of one row: $(instructions_in_test '*read_again*' "tests::kept::${test}_read_twice")"
         echo "the same with full metadata: $(instructions_in_test '*read_again*' "tests::kept::named_${test}_read_twice")"
@@ -41,6 +42,7 @@ kept)
     exit
     ;;
 trees)
+    find_tests tests_values
     for test in ten_thousand_numbers ten_thousand_keys_by_ten ten_thousand_keys_by_a_thousand; do
         echo "$test: $(($(instructions_in_test '*jsonb::value::Value::parse' "tests::trees::$test") / 10000)) instructions each"
     done

@@ -1,20 +1,23 @@
 #!/usr/bin/env bash
-# Refuses each request for memory in turn: of the tests of the module `memory`, and of the program.
+# Refuses each request for memory in turn: of the tests of the modules `memory`, and of the program.
 #
 # usage: scripts/memory.sh
 #
-# It preloads scripts/refuse.c, which it builds with `cc`, into the test program and the program that `rt ci` leaves in the folders `out`
-# (`rt test` and `rt run` in crates/rows build them too). A test runs with its request 1, 2, .. refused, until a run
-# makes fewer requests; that run must pass. In each run before it the call that was refused memory must say so: the test ends with its error.
-# The requests that the program makes before it decodes are refused as `fault Memory` too. So no run ends with an answer in place of a refusal.
-# The tests whose names begin with `nothing` make no more requests than the test `nothing`, which is empty. Every other run makes more: a test more
-# than that one, and the program more than without words. A decimal that is cut short makes one more, for its packed bytes.
+# It preloads scripts/refuse.c, which it builds with `cc`, into the test programs and the program that `rt ci` leaves in the folders `out`
+# (`rt test` in crates/tests_tables, crates/tests_values and crates/tests_rows, and `rt run` in crates/rows, build them too). A test runs with
+# its request 1, 2, .. refused, until a run makes fewer requests; that run must pass. In each run before it the call that was refused memory
+# must say so: the test ends with its error. The requests that the program makes before it decodes are refused as `fault Memory` too. So no
+# run ends with an answer in place of a refusal.
+# The tests whose names begin with `nothing` make no more requests than the test `nothing` of tests_rows, which is empty. Every other run makes
+# more: a test more than that one, and the program more than without words. A decimal that is cut short makes one more, for its packed bytes.
 # The status is 0 if all of this holds, 1 if it doesn't, and 2 if a program or `cc` isn't there.
 set -eu
 here=$(cd "$(dirname "$0")/.." && pwd)
-tests=$here/crates/rows/out/rows_tests
+tables=$here/crates/tests_tables/out/tests_tables_tests
+values=$here/crates/tests_values/out/tests_values_tests
+rows=$here/crates/tests_rows/out/tests_rows_tests
 program=$here/crates/rows/out/rows
-for file in "$tests" "$program"; do
+for file in "$tables" "$values" "$rows" "$program"; do
     if [ ! -x "$file" ]; then
         echo "$file is not built: run 'rt ci' first" >&2
         exit 2
@@ -43,10 +46,10 @@ run() {
 
 # Whether the run ended as one that was refused memory: a test with the error, the program with the line of the fault and no other.
 was_refused() {
-    if [ "$1" = "$tests" ]; then
-        [ "$status" -eq 101 ] && grep -qxE 'error: (Memory|AllocError|AllocFailed)' "$folder/err"
-    else
+    if [ "$1" = "$program" ]; then
         [ "$status" -eq 1 ] && [ "$(cat "$folder/out")" = 'fault Memory' ]
+    else
+        [ "$status" -eq 101 ] && grep -qxE 'error: (Memory|AllocError|AllocFailed)' "$folder/err"
     fi
 }
 
@@ -65,28 +68,29 @@ each_request() {
 }
 
 count=0
-"$tests" --list >"$folder/list"
-names=$(sed -n 's/^\(tests::memory::[A-Za-z0-9_]*\): test$/\1/p' "$folder/list")
-[ -n "$names" ] || fail "there are no tests of the module memory"
-[ "$(wc -l <<<"$names")" -eq "$(grep -c '^tests::memory::' "$folder/list")" ] || fail "a test of the module memory has another name than expected"
-for name in nothing two_decimals two_decimals_compared decimal_cut_short; do
-    grep -qx "tests::memory::$name" <<<"$names" || fail "there is no test $name"
-done
-run 0 "$tests" tests::memory::nothing
+run 0 "$rows" tests::memory::nothing
+[ "$status" -eq 0 ] || fail "nothing: status $status"
 least=$requests
-for name in $names; do
-    run 0 "$tests" "$name"
-    case $name in
-    tests::memory::nothing*) [ "$status" -eq 0 ] && [ "$requests" -eq "$least" ] || fail "$name makes $requests requests" ;;
-    *) each_request '' "$tests" "$name" ;;
-    esac
+for tests in "$tables" "$values" "$rows"; do
+    "$tests" --list >"$folder/list"
+    names=$(sed -n 's/^\(tests::memory::[A-Za-z0-9_]*\): test$/\1/p' "$folder/list")
+    [ -n "$names" ] || fail "$tests has no tests of the module memory"
+    [ "$(wc -l <<<"$names")" -eq "$(grep -c '^tests::memory::' "$folder/list")" ] || fail "a test of the module memory has another name than expected"
+    grep -q '^tests::memory::nothing' <<<"$names" || fail "$tests has no test whose name begins with nothing"
+    for name in $names; do
+        run 0 "$tests" "$name"
+        case $name in
+        tests::memory::nothing*) [ "$status" -eq 0 ] && [ "$requests" -eq "$least" ] || fail "$name makes $requests requests" ;;
+        *) each_request '' "$tests" "$name" ;;
+        esac
+    done
 done
-run 0 "$tests" tests::memory::two_decimals
+run 0 "$values" tests::memory::two_decimals
 made=$requests
 [ "$status" -eq 0 ] || fail "two_decimals: status $status"
-run 0 "$tests" tests::memory::two_decimals_compared
+run 0 "$values" tests::memory::two_decimals_compared
 [ "$status" -eq 0 ] && [ "$requests" -eq "$made" ] || fail "comparing two decimals: status $status, $((requests - made)) requests"
-run 0 "$tests" tests::memory::decimal_cut_short
+run 0 "$values" tests::memory::decimal_cut_short
 [ "$status" -eq 0 ] && [ "$requests" -eq $((least + 1)) ] || fail "a decimal cut short: status $status, $((requests - least)) requests"
 
 # Two inserted rows, an update with other columns in each image, and a partial update of a JSON document.

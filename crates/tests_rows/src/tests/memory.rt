@@ -9,6 +9,7 @@ use binlog_base::below::{Column, ColumnType, MyDeserialize, MySerialize, ParseBu
 use binlog_base::fault::Fault;
 use binlog_consts::consts::EventType;
 use binlog_table::table_map::TableMapEvent;
+use binlog_values::jsondiff::JsonDiff;
 use mysql_binlog_rows::row::{BinlogRow, BinlogRowToRowError};
 use mysql_binlog_rows::rows_event::{RowPair, RowsEvent, RowsEventCtx, RowsEventRows};
 use mysql_binlog_rows::value::BinlogValue;
@@ -39,6 +40,17 @@ fn begins(alloc: Global) -> Result<bool, Fault> {
 #[test]
 fn nothing_for_events(rt: HostRuntime) {
     assert!(rt; begins(rt.alloc()) == Ok(true));
+}
+
+/// Returns whether the bytes are a diff with the path `$.a` and a value.
+fn replaces(bytes: &[u8]) -> Result<bool, Fault> {
+    let found: JsonDiff<'_> = ParseBuf(bytes).parse(())?;
+    Ok(found.path() == b"$.a".as_slice() && found.value().is_some())
+}
+
+#[test]
+fn nothing_for_diffs(rt: HostRuntime) {
+    assert!(rt; replaces(partial::REPLACED) == Ok(true));
 }
 
 /// Returns whether the events have this many pairs, and no fault.
@@ -287,5 +299,27 @@ fn copies_of_rows(rt: HostRuntime) -> Result<(), Fail> {
 fn values_of_rows(rt: HostRuntime) -> Result<(), Fail> {
     assert!(rt; images::unwrapped(rt.alloc(), 8)?.len() == 1);
     assert!(rt; plain_len(rt.alloc(), text_row(rt.alloc())?)? == 1);
+    Ok(())
+}
+
+/// Returns a copy of a diff that owns its bytes.
+fn owned_diff(alloc: Global, diff: &JsonDiff<'_>) -> Result<JsonDiff<'static>, AllocError> {
+    diff.clone(alloc)?.into_owned(alloc)
+}
+
+/// Returns whether a copy of a diff that owns its bytes is equal to it.
+fn has_diff_copy(alloc: Global, diff: &JsonDiff<'_>) -> Result<bool, Fault> {
+    Ok(owned_diff(alloc, diff)? == *diff)
+}
+
+/// Returns whether the diff that the bytes are has an equal copy.
+fn is_diff_copied(alloc: Global, bytes: &[u8]) -> Result<bool, Fault> {
+    let diff: JsonDiff<'_> = ParseBuf(bytes).parse(())?;
+    has_diff_copy(alloc, &diff)
+}
+
+#[test]
+fn copies_of_diffs(rt: HostRuntime) -> Result<(), Fail> {
+    assert!(rt; is_diff_copied(rt.alloc(), partial::REPLACED)?);
     Ok(())
 }

@@ -46,20 +46,6 @@ fn nothing_for_json(rt: HostRuntime) -> Result<(), Fail> {
     Ok(())
 }
 
-/// The diff of the operation REPLACE, the path `$.a`, and the number 7.
-const REPLACED: &[u8] = &[0, 3, 0x24, 0x2e, 0x61, 3, 5, 7, 0];
-
-/// Returns whether the bytes are a diff with the path `$.a` and a value.
-fn replaces(bytes: &[u8]) -> Result<bool, Fault> {
-    let found: JsonDiff<'_> = ParseBuf(bytes).parse(())?;
-    Ok(found.path() == b"$.a".as_slice() && found.value().is_some())
-}
-
-#[test]
-fn nothing_for_diffs(rt: HostRuntime) {
-    assert!(rt; replaces(REPLACED) == Ok(true));
-}
-
 /// Returns the number of these bytes, of four digits, two of them after the point.
 fn decimal(alloc: Global, mut bytes: &[u8]) -> Result<Decimal, Fault> {
     Decimal::read_bin(alloc, &mut bytes, 4, 2, true)
@@ -447,27 +433,5 @@ fn copies_of_trees(rt: HostRuntime) -> Result<(), Fail> {
         let value: Json<'_> = ParseBuf(bytes).parse(())?;
         assert!(rt; has_tree_copy(rt.alloc(), &value.parse(rt.alloc())?)?);
     }
-    Ok(())
-}
-
-/// Returns a copy of a diff that owns its bytes.
-fn owned_diff(alloc: Global, diff: &JsonDiff<'_>) -> Result<JsonDiff<'static>, AllocError> {
-    diff.clone(alloc)?.into_owned(alloc)
-}
-
-/// Returns whether a copy of a diff that owns its bytes is equal to it.
-fn has_diff_copy(alloc: Global, diff: &JsonDiff<'_>) -> Result<bool, Fault> {
-    Ok(owned_diff(alloc, diff)? == *diff)
-}
-
-/// Returns whether the diff that the bytes are has an equal copy.
-fn is_diff_copied(alloc: Global, bytes: &[u8]) -> Result<bool, Fault> {
-    let diff: JsonDiff<'_> = ParseBuf(bytes).parse(())?;
-    has_diff_copy(alloc, &diff)
-}
-
-#[test]
-fn copies_of_diffs(rt: HostRuntime) -> Result<(), Fail> {
-    assert!(rt; is_diff_copied(rt.alloc(), REPLACED)?);
     Ok(())
 }

@@ -14,7 +14,7 @@
 # costs is the difference of two tables, such as `N` and `NN`. With `one` it counts the call of `decode_pairs` on an insert and on an update of
 # one row of the ten columns. Build the program with `rt run` in crates/rows.
 #
-# With `kept` and `trees` it counts in tests, which `rt test` builds. `kept`, in crates/tests_rows, reads the events of `one` a second time, by
+# With `kept` and `trees` it counts in tests, which `rt test` builds. `kept`, in crates/tests_streams, reads the events of `one` a second time, by
 # the plan that is kept. `trees`, in crates/tests_values, calls `jsonb::Value::parse` for a tree of 10,000 numbers and two of 10,000 keys and
 # values.
 set -eu
@@ -34,7 +34,7 @@ find_tests() {
 }
 case "${1:-}" in
 kept)
-    find_tests tests_rows
+    find_tests tests_streams
     for test in insert update; do
         echo "$test of one row: $(instructions_in_test '*read_again*' "tests::kept::${test}_read_twice")"
         echo "the same with full metadata: $(instructions_in_test '*read_again*' "tests::kept::named_${test}_read_twice")"

@@ -2,12 +2,9 @@
 //! made of them.
 
 mod cells;
-mod filter;
 mod images;
-mod kept;
 mod memory;
 mod partial;
-mod servers;
 
 use binlog_base::below::{Column, ColumnType, MySerialize, ParseBuf, Value};
 use binlog_base::fault::Fault;

@@ -1,6 +1,6 @@
 //! Tests of plans that are kept for later events.
 
-use super::{TWO_ROWS, images, read};
+use super::{TWO_ROWS, UPDATED, read};
 use binlog_base::below::{ParseBuf, Server};
 use binlog_base::fault::Fault;
 use binlog_consts::consts::EventType;
@@ -128,7 +128,7 @@ const CASES: [(Case, u128); 9] = [
         (
             SIGNED,
             Server::MariaDb,
-            images::UPDATED,
+            UPDATED,
             EventType::UPDATE_ROWS_EVENT,
         ),
         12,
@@ -137,7 +137,7 @@ const CASES: [(Case, u128); 9] = [
         (
             SIGNED,
             Server::MariaDb,
-            images::UPDATED,
+            UPDATED,
             EventType::UPDATE_ROWS_EVENT,
         ),
         0,

@@ -200,6 +200,8 @@ def build(folder):
     copy = Path(folder) / "workspace"
     shutil.copytree(ROOT, copy, ignore=shutil.ignore_patterns(".git", "out", "must-fail"))
     crate = copy / "crates" / "rows"
+    crates = copy / "crates.txt"
+    crates.write_text(crates.read_text().replace("\nrows: ", "\nrows: binlog_file "))
     for name in NOT_NEEDED:
         path = crate / name
         shutil.rmtree(path) if path.is_dir() else path.unlink(missing_ok=True)

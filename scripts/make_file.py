@@ -2,6 +2,7 @@
 """Writes a binlog file of ROWS inserted rows of twelve columns, as a MariaDB server writes it, with checksums.
 
 usage: scripts/make_file.py ROWS OUT [single [TABLES [random]]] [--columns COUNT] [--width COUNT] [--present COUNT] [--plain] [--once]
+       scripts/make_file.py ROWS OUT --event LETTERS
 
 The rows are in rows events of at most 8 KB, 10,000 rows a statement. With `single` each row is a statement of its own: a table map event and a
 rows event of one row. The table map event has full metadata: signs, character sets, names, the values of the ENUM and a key. With TABLES there
@@ -17,13 +18,18 @@ For wide tables:
 --present COUNT   so many columns in the image, the first ones, if not all
 --plain           no optional metadata
 --once            all tables are mapped once, at the beginning, and all rows events are of one statement
+
+With --event there are two events after the description: the table map event and the one rows event that make_rows.py prints for these LETTERS.
 """
 import argparse
 import functools
 import itertools
 import struct
+import subprocess
+import sys
 import zlib
 from dataclasses import dataclass
+from pathlib import Path
 
 EVENT_SIZE = 8192
 ROWS_OF_A_STATEMENT = 10000
@@ -208,6 +214,7 @@ def words():
     parser.add_argument("--present", type=int)
     parser.add_argument("--plain", action="store_true")
     parser.add_argument("--once", action="store_true")
+    parser.add_argument("--event")
     said = parser.parse_args()
     if said.columns < len(COLUMNS):
         parser.error(f"a table has at least {len(COLUMNS)} columns")
@@ -219,8 +226,21 @@ def order(tables, is_random):
     return (value % tables for value in (numbers() if is_random else itertools.count()))
 
 
+def write_event(said):
+    """Writes the file of one rows event."""
+    command = [sys.executable, Path(__file__).with_name("make_rows.py"), said.event, str(said.rows)]
+    table, rows = subprocess.run(command, check=True, capture_output=True, text=True).stdout.split()[-2:]
+    with open(said.out, "wb") as out:
+        file = File(out, None)
+        file.event(0x13, bytes.fromhex(table))
+        file.event(0x1E, bytes.fromhex(rows))
+        print(f"{file.position} bytes")
+
+
 def main():
     said = words()
+    if said.event:
+        return write_event(said)
     width = said.width or said.columns
     shape = Shape(said.columns, width, min(said.present or width, width), not said.plain)
     step = 1 if said.single else ROWS_OF_A_STATEMENT

@@ -10,6 +10,7 @@
 # run ends with an answer in place of a refusal.
 # The tests whose names begin with `nothing` make no more requests than the test `nothing` of tests_rows, which is empty. Every other run makes
 # more: a test more than that one, and the program more than without words. A decimal that is cut short makes one more, for its packed bytes.
+# A second row that is lent makes none.
 # The status is 0 if all of this holds, 1 if it doesn't, and 2 if a program or `cc` isn't there.
 set -eu
 here=$(cd "$(dirname "$0")/.." && pwd)
@@ -90,6 +91,10 @@ made=$requests
 [ "$status" -eq 0 ] || fail "two_decimals: status $status"
 run 0 "$values" tests::memory::two_decimals_compared
 [ "$status" -eq 0 ] && [ "$requests" -eq "$made" ] || fail "comparing two decimals: status $status, $((requests - made)) requests"
+run 0 "$rows" tests::memory::lent_row
+made=$requests
+run 0 "$rows" tests::memory::two_lent_rows
+[ "$status" -eq 0 ] && [ "$requests" -eq "$made" ] || fail "a second lent row: status $status, $((requests - made)) requests"
 run 0 "$values" tests::memory::decimal_cut_short
 [ "$status" -eq 0 ] && [ "$requests" -eq $((least + 1)) ] || fail "a decimal cut short: status $status, $((requests - least)) requests"
 

@@ -7,11 +7,14 @@ pub mod Collected
 pub mod Rest
 pub mod Changed
 pub mod Followed
+pub mod LentShown
+pub mod LentFollowed
 pub mod Filled
 pub mod RawRead
 pub mod EventRead
 pub mod Sized
 pub mod SourceFollowed
+pub mod SourceLent
 pub mod Headers
 pub mod Moved
 pub mod Checkpointed

@@ -106,11 +106,12 @@ origin_of e = record { position = e.position; timestamp = e.header.timestamp; se
 -- what the changes of a file need of an event
 pub record Glance : Type 0 where
   pub origin : Origin
+  pub header : Header
   pub rows : Option RowsEventCtx
   pub body : List ℕ
 
 abbrev pub glance_of : Event → Glance
-glance_of e = record { origin = origin_of e; rows = e.rows; body = e.body }
+glance_of e = record { origin = origin_of e; header = e.header; rows = e.rows; body = e.body }
 
 -- the event is neither a format description nor a table map event
 abbrev pub is_plain : Raw → Bool

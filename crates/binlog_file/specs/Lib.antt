@@ -11,6 +11,8 @@ pub mod Tables
 pub mod TableBodies
 pub mod TableMaps
 pub mod Changes
+pub mod LentChanges
+pub mod LentEvents
 pub mod Glances
 pub mod Walks
 pub mod Stream

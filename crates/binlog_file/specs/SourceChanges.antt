@@ -3,6 +3,8 @@ use Rattle.std.specs.Prelude.{◌≡◌, ℕ, ◌+◌, ◌-◌, ◌*◌, ◌^◌
 use Rattle.binlog_file.specs.declared.error.FileError.{FileError}
 use Rattle.binlog_file.specs.Events.{Place}
 use Rattle.binlog_file.specs.Stream.{Kept, Reading, IsOutside}
+use Rattle.binlog_file.specs.declared.lent_changes.LentEvent.{LentEvent}
+use Rattle.binlog_file.specs.LentEvents.{NextEvent}
 use Rattle.binlog_file.specs.Changes.{Wanted, Change, Spot, spot, TakeGives, ChangeGives, count, LessensTo}
 
 -- The bytes that a reading finds: none at its end; else those of its source, where they are known, if the
@@ -40,3 +42,9 @@ items_left r pending = 2 * turns r + count pending
 pub record SourceSteps (wanted : Wanted) (old : Option (List ℕ)) (r : Reading) (p : Option FileError) (item : Option (Result Change FileError)) (new : Option (List ℕ)) (s : Reading) (q : Option FileError) : Type 0 where
   pub gives : SourceGives wanted old r p item new s q
   pub lessens : LessensTo (items_left r p) item (items_left s q)
+
+-- ---- events whose pairs of rows are lent
+
+-- whatever bytes the old reading finds, this is their next event, or the error in place of it
+abbrev pub SourceEvent : Wanted → Option (List ℕ) → Reading → Option FileError → Option (Result LentEvent FileError) → Option (List ℕ) → Reading → Option FileError → Type 0
+SourceEvent wanted old r p item new s q = (x : List ℕ) → Finds r old x → (z : List ℕ) × Finds s new z × NextEvent IsOutside wanted (spot_at r.kept p x) item (spot_at s.kept q z)

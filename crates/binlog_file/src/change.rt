@@ -148,7 +148,7 @@ fn failure<'a>(error: EventError) -> Given<'a>
 }
 
 // Returns whether the event is MySQL's that only ends a statement.
-fn is_dummy(rows: &RowsEvent<'_>) -> bool
+pub(crate) fn is_dummy(rows: &RowsEvent<'_>) -> bool
     ensures { result ≡ Spec.is_dummy rows.now }
 {
     rows.table_id() == 0x00ff_ffff && rows.flags_raw() % 2 == 1
@@ -271,7 +271,7 @@ pub(crate) fn glance_gives<'a, C: Choice>(
             choice,
             plans,
             tables,
-            glance.origin,
+            glance.origin(),
             ctx,
             glance.body,
         ),

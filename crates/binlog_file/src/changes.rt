@@ -1,6 +1,6 @@
 //! The changes of a file in memory.
 
-ghost use Rattle.std.specs.Prelude.{◌≡◌, ◌≢◌, ◌≤◌, ◌*◌, List, ℕ, true, false, Some, None, Ok, Err, IfOk, IfErr, IfSome, IfNone, OnOk};
+ghost use Rattle.std.specs.Prelude.{◌≡◌, ◌≢◌, ◌≤◌, ◌<◌, ◌*◌, List, ℕ, true, false, length, Some, None, Ok, Err, IfOk, IfErr, IfSome, IfNone, IsSome, OnOk};
 ghost use Rattle.std.specs.Option.{option_map};
 ghost use Rattle.binlog_base.specs.declared.fault.Fault.TheVariants as Fault;
 ghost use Rattle.binlog_file.specs.declared.error.EventError.TheVariants as EventError;
@@ -9,6 +9,8 @@ ghost use Rattle.binlog_file.specs.Glances.{GlanceSteps};
 ghost use Rattle.binlog_file.specs.Tables.{InForce, in_force_after};
 ghost use Rattle.binlog_file.specs.TableMaps.{held_by};
 ghost use Rattle.binlog_file.specs.Changes as Spec;
+ghost use Rattle.binlog_file.specs.LentChanges.{PairGives};
+ghost use Rattle.binlog_file.specs.LentEvents.{NextEvent, GoesOnUnless};
 ghost use Rattle.binlog_file.specs.Walks.{spot_of, most_kept_in};
 
 use crate::change::{Change, glance_gives};
@@ -16,9 +18,11 @@ use crate::choice::Choice;
 use crate::error::{EventError, FileError};
 use crate::event::Glance;
 use crate::events::Events;
+use crate::lent_changes::{LentChange, LentEvent, show};
 use crate::plans::{KeptPlans, MOST_BYTES};
 use crate::tables::TableMaps;
 use binlog_table::table_map::TableMapEvent;
+use mysql_binlog_rows::rows_event::LentPair;
 use std::alloc::{AllocError, Global};
 
 /// Where a reading of changes is: the events that are left, the tables in force, the plans that are
@@ -32,6 +36,8 @@ struct Walk<'a> {
 }
 
 /// An iterator over the changes of a file that are wanted, up to and including its first error.
+///
+/// Its changes own their rows. `next_event` and `next_pair` lend them, one pair at a time.
 #[derive(Drop)]
 pub struct FileChanges<'a, C: Choice + Drop> {
     alloc: Global,
@@ -51,6 +57,15 @@ impl<'a> Walk<'a> {
         let error = self.pending.take()?;
         self.events.stop();
         Some(error)
+    }
+
+    // Ends the reading.
+    fn stop(&mut self)
+        ensures ended { Spec.IsAtEnd (spot_of self.new) }
+        ensures most { most_kept_in self.new ≡ most_kept_in self.old }
+    {
+        self.events.stop();
+        self.pending = None;
     }
 }
 
@@ -101,12 +116,58 @@ impl<'a, C: Choice + Drop> FileChanges<'a, C> {
         })
     }
 
-    /// Returns the table map event that is in force for a table id after the change that was given
-    /// last.
+    /// Returns the table map event that is in force for a table id after the change or event that was
+    /// given last.
     pub fn get_tme(&self, table_id: u64) -> Option<&TableMapEvent<'static>>
         ensures { option_map (λ t. t.now) result ≡ (spot_of self.now.walk).in_force.tables table_id }
     {
         self.walk.tables.get_tme(table_id)
+    }
+
+    /// Reads the next event: a rows event that is wanted, or any other event as it is. `None` where no
+    /// bytes are left, and after an error.
+    ///
+    /// No pair of rows is read by this call, and none is read if the caller doesn't ask for it by
+    /// `next_pair`: what is left of an event, faults included, is passed over. May be called by turns
+    /// with `next`.
+    ///
+    /// Fails as `next` does but for the faults of pairs. Nothing is left after an error.
+    pub fn next_event(&mut self) -> Option<Result<LentEvent<'a>, FileError>>
+        ensures event { NextEvent Spec.IsMemory (C.wanted self.old.choice) (spot_of self.old.walk) result
+            (spot_of self.new.walk) }
+        ensures fewer { IsSome result
+            → Spec.most_left (spot_of self.new.walk) < Spec.most_left (spot_of self.old.walk) }
+        ensures choice { self.new.choice ≡ self.old.choice }
+        ensures most { most_kept_in self.new.walk ≡ most_kept_in self.old.walk }
+    {
+        next_event(self.alloc, &self.choice, &mut self.walk)
+    }
+
+    /// Reads the next pair of rows of an event into a buffer, whose cells then borrow the file. `None`
+    /// where all pairs were read. One buffer serves for all events.
+    ///
+    /// Fails with `RowsData` if the pair can't be read, and with `Memory` if memory is refused. After
+    /// an error nothing is left of the event, nor of this reading. The buffer then holds no row, as
+    /// after `None`.
+    pub fn next_pair(
+        &mut self,
+        change: &mut LentChange<'a>,
+        pair: &mut LentPair<'a>,
+    ) -> Option<Result<(), FileError>>
+        ensures pair { PairGives change.old pair.new result change.new }
+        ensures fewer { IsSome result → length change.new.left < length change.old.left }
+        ensures reading { GoesOnUnless (Spec.IsAtEnd (spot_of self.new.walk)) result
+            (spot_of self.old.walk) (spot_of self.new.walk) }
+        ensures choice { self.new.choice ≡ self.old.choice }
+        ensures most { most_kept_in self.new.walk ≡ most_kept_in self.old.walk }
+    {
+        match change.next_pair(pair)? {
+            Ok(()) => Some(Ok(())),
+            Err(error) => {
+                self.walk.stop();
+                Some(Err(error))
+            }
+        }
     }
 }
 
@@ -137,7 +198,7 @@ fn take_glance<'a, C: Choice>(
         walk.pending = None;
         return None;
     }
-    let position = glance.origin.position;
+    let position = glance.position;
     match glance_gives(alloc, choice, &mut walk.plans, &walk.tables, glance) {
         Ok(given) => {
             let (change, error) = given.into_parts();
@@ -193,6 +254,56 @@ fn next_change<'a, C: Choice>(
             return Some(Ok(change));
         }
     }
+}
+
+// Returns the event of a glance, or the error in place of it.
+#[tactic(auto, using(crate::proofs::LentFollowed::item_shown, crate::proofs::LentFollowed::item_failed, crate::proofs::LentFollowed::item_refused))]
+fn show_item<'a, C: Choice>(
+    alloc: Global,
+    choice: &C,
+    walk: &mut Walk<'a>,
+    item: Result<Glance<'a>, FileError>,
+) -> Result<LentEvent<'a>, FileError>
+    requires { walk.old.pending ≡ None }
+    ensures event { (old : Spec.Spot) → old.pending ≡ None
+        → GlanceSteps old.place old.in_force (Some item.entry) walk.old.events (held_by walk.old.tables)
+        → NextEvent Spec.IsMemory (C.wanted choice.now) old (Some result) (spot_of walk.new) }
+    ensures fewer { length walk.new.events.left ≤ length walk.old.events.left }
+    ensures pending { walk.new.pending ≡ None }
+    ensures most { most_kept_in walk.new ≡ most_kept_in walk.old }
+{
+    let glance = match item {
+        Ok(glance) => glance,
+        Err(error) => {
+            walk.stop();
+            return Err(error);
+        }
+    };
+    let shown = show(alloc, choice, &mut walk.plans, &walk.tables, glance);
+    if shown.is_err() {
+        walk.stop();
+    }
+    shown
+}
+
+// Returns the next event, or the error with which the reading ends.
+#[tactic(auto, using(crate::proofs::LentFollowed::pending_now, crate::proofs::LentFollowed::item_shrinks))]
+fn next_event<'a, C: Choice>(
+    alloc: Global,
+    choice: &C,
+    walk: &mut Walk<'a>,
+) -> Option<Result<LentEvent<'a>, FileError>>
+    ensures event { NextEvent Spec.IsMemory (C.wanted choice.now) (spot_of walk.old) result
+        (spot_of walk.new) }
+    ensures fewer { IsSome result
+        → Spec.most_left (spot_of walk.new) < Spec.most_left (spot_of walk.old) }
+    ensures most { most_kept_in walk.new ≡ most_kept_in walk.old }
+{
+    if let Some(error) = walk.end() {
+        return Some(Err(error));
+    }
+    let item = walk.events.glance(alloc, &mut walk.tables)?;
+    Some(show_item(alloc, choice, walk, item))
 }
 
 impl<'a, C: Choice + Drop> Iterator for FileChanges<'a, C> {

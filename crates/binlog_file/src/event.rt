@@ -94,11 +94,12 @@ impl<'a> Raw<'a> {
     }
 }
 
-/// What the changes of a file need of an event: where it comes from, what is needed to read it as a
-/// rows event, if it is one, and its body.
+/// What the changes of a file need of an event: where it begins, its header, what is needed to read it
+/// as a rows event, if it is one, and its body.
 #[derive(Drop)]
 pub(crate) struct Glance<'a> {
-    pub(crate) origin: Origin,
+    pub(crate) position: u64,
+    pub(crate) header: BinlogEventHeader,
     pub(crate) rows: Option<RowsEventCtx>,
     pub(crate) body: &'a [u8],
 }
@@ -108,7 +109,29 @@ impl<'a> Model for Glance<'a> {
 
     ghost Value = { Spec.Glance };
 
-    ghost view = { λ g. record { origin = g.origin; rows = g.rows; body = g.body.now } };
+    ghost view = { λ g. record {
+      origin = record {
+        position = g.position;
+        timestamp = g.header.timestamp;
+        server_id = g.header.server_id;
+      };
+      header = g.header;
+      rows = g.rows;
+      body = g.body.now;
+    } };
+}
+
+impl<'a> Glance<'a> {
+    // Returns where the event comes from.
+    pub(crate) fn origin(&self) -> Origin
+        ensures { result ≡ self.now.origin }
+    {
+        Origin {
+            position: self.position,
+            timestamp: self.header.timestamp(),
+            server_id: self.header.server_id(),
+        }
+    }
 }
 
 /// What an event ends with: its checksum, where events have one.
@@ -538,11 +561,8 @@ impl<'a> PlainEvent<'a> {
         ensures { result ≡ Spec.glance_of self.now }
     {
         Glance {
-            origin: Origin {
-                position: self.position,
-                timestamp: self.header.timestamp(),
-                server_id: self.header.server_id(),
-            },
+            position: self.position,
+            header: self.header,
             rows: self.rows,
             body: self.body,
         }
@@ -720,7 +740,8 @@ impl<'a> Event<'a> {
         ensures { result ≡ Spec.glance_of self.now }
     {
         Glance {
-            origin: self.origin(),
+            position: self.position,
+            header: self.header,
             rows: self.rows,
             body: self.body,
         }

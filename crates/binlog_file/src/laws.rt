@@ -1,11 +1,16 @@
 //! Laws of binlog files, as public calls that do nothing.
 
-ghost use Rattle.std.specs.Prelude.{ℕ, List, Option};
+ghost use Rattle.std.specs.Prelude.{ℕ, List, Option, Result};
+ghost use Rattle.mysql_binlog_rows.specs.Images.{Pair};
 ghost use Rattle.binlog_file.specs.declared.error.FileError.{FileError};
+ghost use Rattle.binlog_file.specs.declared.lent_changes.LentEvent.{LentEvent};
 ghost use Rattle.binlog_file.specs.Description.{Description};
 ghost use Rattle.binlog_file.specs.Events.{Event, AreEvents};
 ghost use Rattle.binlog_file.specs.Tables.{InForce};
-ghost use Rattle.binlog_file.specs.Stream.{Kept};
+ghost use Rattle.binlog_file.specs.Stream.{IsOutside, Kept};
+ghost use Rattle.binlog_file.specs.Changes.{Wanted, IsMemory, Spot};
+ghost use Rattle.binlog_file.specs.LentChanges.{LentChange, PairGives, CoversOn};
+ghost use Rattle.binlog_file.specs.LentEvents.{NextEvent, ChangesOn};
 ghost use Rattle.binlog_file.specs.Checkpoints.{Reached, LeadsTo, GoesOnWith, checkpoint_of};
 
 /// The checkpoint of a reader leads back to where the reader is: after its events, the same
@@ -16,4 +21,16 @@ pub fn checkpoints_lead_back()
     ensures goes_on { (c : List ℕ) (d : Option Description) (s : InForce) → LeadsTo c d s
         → (rest : List ℕ) (at : ℕ) (es : List Event) (end : Option FileError)
         → AreEvents at d rest es end → GoesOnWith c rest es end }
+{}
+
+/// The changes whose pairs are lent are the changes that own their pairs: the pairs that `next_pair`
+/// gives for an event are those of its change, with the same error after them, and what `next_event`
+/// gives is what `next` gives, event by event.
+pub fn lent_changes_are_the_changes()
+    ensures pairs { (old : LentChange) (p : Pair) (item : Option (Result (Unit {0}) FileError))
+        (new : LentChange) → PairGives old p item new → CoversOn old p item new }
+    ensures in_memory { (wanted : Wanted) (old : Spot) (item : Option (Result LentEvent FileError))
+        (new : Spot) → NextEvent IsMemory wanted old item new → ChangesOn IsMemory wanted old item new }
+    ensures from_source { (wanted : Wanted) (old : Spot) (item : Option (Result LentEvent FileError))
+        (new : Spot) → NextEvent IsOutside wanted old item new → ChangesOn IsOutside wanted old item new }
 {}

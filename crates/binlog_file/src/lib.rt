@@ -13,6 +13,7 @@ pub mod file;
 mod generations;
 pub mod header;
 pub mod laws;
+pub mod lent_changes;
 mod notes;
 pub mod origin;
 mod plans;

@@ -5,6 +5,7 @@ ghost use Rattle.std.specs.Arc.{arc_value};
 ghost use Rattle.binlog_base.specs.declared.fault.Fault.TheVariants as Fault;
 ghost use Rattle.mysql_binlog_rows.specs.Images.{pair};
 ghost use Rattle.mysql_binlog_rows.specs.Cover.{Covers};
+ghost use Rattle.mysql_binlog_rows.specs.Rows.{Reads};
 ghost use Rattle.binlog_file.specs.StoredPlans as Spec;
 
 use crate::generations::{Found, Generations, Weighed};
@@ -12,7 +13,7 @@ use binlog_base::fault::Fault;
 use binlog_consts::consts::EventType;
 use binlog_table::table_map::TableMapEvent;
 use mysql_binlog_rows::rows_event::{
-    Decoded, KeptPlan, RowsEvent, pairs_by_shared, pairs_if_served,
+    Decoded, KeptPlan, RowsEvent, RowsEventRows, pairs_by_shared, pairs_if_served,
 };
 use std::alloc::{AllocError, Global};
 use std::marker::Model;
@@ -172,6 +173,25 @@ impl RecentPlans {
         let recent = &mut self.plans[place];
         pairs_by_shared(alloc, table, rows, &mut recent.plan)
     }
+
+    // Returns an iterator over the pairs that this rows data has, by the plan at a place.
+    fn rows<'d>(
+        &mut self,
+        alloc: Global,
+        place: usize,
+        table: &Arc<TableMapEvent<'static>>,
+        rows: &RowsEvent<'_>,
+        rows_data: &'d [u8],
+    ) -> Result<RowsEventRows<'d>, Fault>
+        requires place { place < self.old }
+        requires data { rows_data.now ≡ rows.now.rows_data }
+        ensures reads { IfOk result (λ r. Reads (arc_value table.now) rows.now r.plans) }
+        ensures left { IfOk result (λ r. r.left ≡ rows.now.rows_data) }
+        ensures err { IfErr result (λ e. e ≡ Fault.Memory) }
+    {
+        let recent = &mut self.plans[place];
+        rows.lent_rows_by_shared(alloc, rows_data, table, &mut recent.plan)
+    }
 }
 
 /// The plans of tables, one for each table id and kind of change: an insert and an update of one
@@ -264,6 +284,57 @@ impl KeptPlans {
             self.stored.renew(key)?;
         }
         Ok(decoded)
+    }
+
+    // Returns an iterator over the pairs that this rows data has by a stored plan, if there is one that
+    // serves. One that doesn't is given up.
+    fn stored_rows<'d>(
+        &mut self,
+        alloc: Global,
+        key: u64,
+        table: &TableMapEvent<'_>,
+        rows: &RowsEvent<'_>,
+        rows_data: &'d [u8],
+    ) -> Result<Option<RowsEventRows<'d>>, Fault>
+        requires data { rows_data.now ≡ rows.now.rows_data }
+        ensures reads { IfOk result (λ o. IfSome o (λ r. Reads table.now rows.now r.plans)) }
+        ensures left { IfOk result (λ o. IfSome o (λ r. r.left ≡ rows.now.rows_data)) }
+        ensures err { IfErr result (λ e. e ≡ Fault.Memory) }
+        ensures most { self.new.stored.most ≡ self.old.stored.most }
+    {
+        let Some(Found { value, is_old }) = self.stored.get(key) else {
+            return Ok(None);
+        };
+        let pairs = rows.lent_rows_if_served(alloc, rows_data, table, value.plan())?;
+        if pairs.is_none() {
+            self.stored.remove(key);
+        } else if is_old {
+            self.stored.renew(key)?;
+        }
+        Ok(pairs)
+    }
+
+    /// Returns an iterator over the pairs of rows of an event, whose rows data this is, by the plan
+    /// that is kept for the table. `Memory` if memory can't be allocated.
+    pub(crate) fn rows<'d>(
+        &mut self,
+        alloc: Global,
+        table: &Arc<TableMapEvent<'static>>,
+        rows: &RowsEvent<'_>,
+        rows_data: &'d [u8],
+    ) -> Result<RowsEventRows<'d>, Fault>
+        requires data { rows_data.now ≡ rows.now.rows_data }
+        ensures reads { IfOk result (λ r. Reads (arc_value table.now) rows.now r.plans) }
+        ensures left { IfOk result (λ r. r.left ≡ rows.now.rows_data) }
+        ensures err { IfErr result (λ e. e ≡ Fault.Memory) }
+        ensures most { self.new.stored.most ≡ self.old.stored.most }
+    {
+        let key = key_of(rows);
+        if let Some(pairs) = self.stored_rows(alloc, key, table, rows, rows_data)? {
+            return Ok(pairs);
+        }
+        let place = self.place_of(key)?;
+        self.recent.rows(alloc, place, table, rows, rows_data)
     }
 
     /// Returns the pairs of rows of an event, up to its first fault, by the plan that is kept for the

@@ -1,11 +1,13 @@
 //! The changes of a file one at a time, from a source of bytes.
 
-ghost use Rattle.std.specs.Prelude.{◌≡◌, ◌<◌, ◌≤◌, ◌*◌, ◌↔◌, true, Some, None, Ok, IfOk, IsTrue, IsSome};
+ghost use Rattle.std.specs.Prelude.{◌≡◌, ◌<◌, ◌≤◌, ◌*◌, ◌↔◌, ◌⊎◌, true, length, Some, None, Ok, IfOk, IfErr, IsErr, IsTrue, IsSome};
 ghost use Rattle.binlog_file.specs.Events.{Event, Place, NextGives, glance_of};
 ghost use Rattle.binlog_file.specs.Tables.{InForce, in_force_after};
 ghost use Rattle.binlog_file.specs.Changes.{Gives, TakeGives, spot, LessensTo};
 ghost use Rattle.binlog_file.specs.Stream.{IsOutside, MayGoOn};
 ghost use Rattle.binlog_file.specs.SourceChanges as Spec;
+ghost use Rattle.binlog_file.specs.LentChanges.{PairGives};
+ghost use Rattle.binlog_file.specs.LentEvents.{Shows, GivesError, GoesOnUnless};
 ghost use Rattle.binlog_file.specs.SourceWalks.{reading_in, kept_in, most_kept_by};
 ghost use Rattle.binlog_file.specs.Readers.{reading_of};
 
@@ -15,10 +17,12 @@ use crate::choice::Choice;
 use crate::error::{EventError, FileError};
 use crate::event::Glance;
 use crate::file::BinlogFile;
+use crate::lent_changes::{LentChange, LentEvent, show};
 use crate::plans::{KeptPlans, MOST_BYTES};
 use crate::reader::{EventBuffer, EventStreamReader};
 use binlog_base::below::Source;
 use binlog_base::fault::Fault;
+use mysql_binlog_rows::rows_event::LentPair;
 use std::alloc::Global;
 
 /// Where a reading of changes from a source is: its reader, the plans that are kept, and the error
@@ -65,6 +69,58 @@ impl SourceWalk {
     }
 }
 
+// Returns the event that was glanced at, or the error with which the reading ends.
+fn show_event<'b, C: Choice>(
+    alloc: Global,
+    choice: &C,
+    walk: &mut SourceWalk,
+    glance: Glance<'b>,
+) -> Result<LentEvent<'b>, FileError>
+    ensures ok { IfOk result (Shows (C.wanted choice.now) (kept_in walk.old).in_force.tables glance.entry) }
+    ensures err { IfErr result (GivesError (C.wanted choice.now) (kept_in walk.old).in_force.tables
+        glance.entry) }
+    ensures over { IsTrue walk.new.reader.is_over
+        ↔ (IsErr result ⊎ (walk.old.reader.is_over ≡ true)) }
+    ensures kept { kept_in walk.new ≡ kept_in walk.old }
+    ensures pending { walk.new.pending ≡ walk.old.pending }
+    ensures most { most_kept_by walk.new ≡ most_kept_by walk.old }
+{
+    let shown = show(alloc, choice, &mut walk.plans, walk.reader.tables(), glance);
+    if shown.is_err() {
+        walk.reader.stop();
+    }
+    shown
+}
+
+// Returns the next event of the source, or the error with which the reading ends.
+#[tactic(auto, using(crate::proofs::SourceLent::source_ended, crate::proofs::SourceLent::source_over, crate::proofs::SourceLent::source_pending))]
+fn next_event<'b, S: Source, C: Choice>(
+    alloc: Global,
+    choice: &C,
+    source: &mut S,
+    buffer: &'b mut EventBuffer,
+    walk: &mut SourceWalk,
+) -> Option<Result<LentEvent<'b>, FileError>>
+    ensures event { Spec.SourceEvent (C.wanted choice.now) (S.remaining source.old) (reading_in walk.old)
+        walk.old.pending result (S.remaining source.new) (reading_in walk.new) walk.new.pending }
+    ensures fewer { IsSome result → Spec.items_left (reading_in walk.new) walk.new.pending
+        < Spec.items_left (reading_in walk.old) walk.old.pending }
+    ensures most { most_kept_by walk.new ≡ most_kept_by walk.old }
+{
+    if !walk.goes_on() {
+        let error = walk.end()?;
+        return Some(Err(error));
+    }
+    match walk.reader.glance(source, buffer) {
+        Ok(Some(glance)) => Some(show_event(alloc, choice, walk, glance)),
+        Ok(None) => {
+            walk.reader.stop();
+            None
+        }
+        Err(error) => Some(Err(error)),
+    }
+}
+
 // Returns what an event gives that was read, which owns its bytes.
 fn owned_gives<C: Choice>(
     alloc: Global,
@@ -105,7 +161,7 @@ fn take<C: Choice>(
         walk.pending = None;
         return None;
     }
-    let position = glance.origin.position;
+    let position = glance.position;
     match owned_gives(alloc, choice, walk, glance) {
         Ok(given) => {
             let (change, error) = given.into_parts();
@@ -171,6 +227,8 @@ fn next_change<S: Source, C: Choice>(
 
 /// An iterator over the changes of a file that are wanted, up to and including its first error. It
 /// reads the file from a source, one event at a time into a buffer that is used again.
+///
+/// Its changes own their rows. `next_event` and `next_pair` lend them, one pair at a time.
 #[derive(Drop)]
 pub struct SourceChanges<S, C> {
     alloc: Global,
@@ -241,12 +299,71 @@ impl<S: Source + Drop, C: Choice + Drop> SourceChanges<S, C> {
         changes
     }
 
-    /// Returns the reader: where it is, and the table map events that are in force after the change
-    /// that was given last.
+    /// Returns the reader: where it is, and the table map events that are in force after the change or
+    /// event that was given last.
     pub fn reader(&self) -> &EventStreamReader
         ensures { result.now ≡ self.now.walk.reader }
     {
         &self.walk.reader
+    }
+
+    /// Reads the next event into a buffer: a rows event that is wanted, or any other event as it is.
+    /// `None` where no bytes are left, and after an error.
+    ///
+    /// No pair of rows is read by this call, and none is read if the caller doesn't ask for it by
+    /// `next_pair`: what is left of an event, faults included, is passed over. May be called by turns
+    /// with `next`.
+    ///
+    /// Fails as `next` does but for the faults of pairs. Nothing is left after an error.
+    pub fn next_event<'b>(
+        &mut self,
+        buffer: &'b mut EventBuffer,
+    ) -> Option<Result<LentEvent<'b>, FileError>>
+        ensures event { Spec.SourceEvent (C.wanted self.old.choice) (S.remaining self.old.source)
+            (reading_in self.old.walk) self.old.walk.pending result (S.remaining self.new.source)
+            (reading_in self.new.walk) self.new.walk.pending }
+        ensures fewer { IsSome result → Spec.items_left (reading_in self.new.walk) self.new.walk.pending
+            < Spec.items_left (reading_in self.old.walk) self.old.walk.pending }
+        ensures choice { self.new.choice ≡ self.old.choice }
+        ensures most { most_kept_by self.new.walk ≡ most_kept_by self.old.walk }
+    {
+        next_event(
+            self.alloc,
+            &self.choice,
+            &mut self.source,
+            buffer,
+            &mut self.walk,
+        )
+    }
+
+    /// Reads the next pair of rows of an event into a buffer, whose cells then borrow the event's bytes.
+    /// `None` where all pairs were read.
+    ///
+    /// Fails with `RowsData` if the pair can't be read, and with `Memory` if memory is refused. After
+    /// an error nothing is left of the event, nor of this reading. The buffer then holds no row, as
+    /// after `None`.
+    pub fn next_pair<'b>(
+        &mut self,
+        change: &mut LentChange<'b>,
+        pair: &mut LentPair<'b>,
+    ) -> Option<Result<(), FileError>>
+        ensures pair { PairGives change.old pair.new result change.new }
+        ensures fewer { IsSome result → length change.new.left < length change.old.left }
+        ensures reading { GoesOnUnless
+            ((self.new.walk.reader.is_over ≡ true) × (self.new.walk.pending ≡ None)) result
+            self.old.walk self.new.walk }
+        ensures kept { kept_in self.new.walk ≡ kept_in self.old.walk }
+        ensures source { self.new.source ≡ self.old.source }
+        ensures choice { self.new.choice ≡ self.old.choice }
+        ensures most { most_kept_by self.new.walk ≡ most_kept_by self.old.walk }
+    {
+        match change.next_pair(pair)? {
+            Ok(()) => Some(Ok(())),
+            Err(error) => {
+                self.walk.end();
+                Some(Err(error))
+            }
+        }
     }
 }
 

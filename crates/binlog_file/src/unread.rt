@@ -12,7 +12,6 @@ use crate::description::FormatDescriptionEvent;
 use crate::error::EventError;
 use crate::event::{Glance, Parts, Raw, has_checksum, parts_of};
 use crate::header::BinlogEventHeader;
-use crate::origin::Origin;
 use crate::tables::TableMaps;
 use binlog_base::below::Server;
 use binlog_table::table_map::TableMapEvent;
@@ -97,11 +96,8 @@ impl<'a> UnreadTable<'a> {
         ensures { (t : TableMap) → result ≡ glance_of (event_with self.now t) }
     {
         Glance {
-            origin: Origin {
-                position: self.position,
-                timestamp: self.header.timestamp(),
-                server_id: self.header.server_id(),
-            },
+            position: self.position,
+            header: self.header,
             rows: None,
             body: self.parts.body(),
         }

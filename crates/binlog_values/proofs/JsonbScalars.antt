@@ -10,10 +10,10 @@ use Rattle.binlog_base.specs.declared.fault.Fault.TheVariants.{InvalidUtf8, Opaq
 use Rattle.binlog_base.specs.Faults.{OfBytes}
 use Rattle.binlog_base.specs.Format.{Format, IsExact}
 use Rattle.binlog_base.specs.Lemmas.Faults.{bind_of_bytes, cond_of_bytes}
-use Rattle.binlog_values.specs.declared.time.MysqlTime.{MysqlTime}
-use Rattle.binlog_values.specs.PackedDecimals.{counted_decimal}
-use Rattle.binlog_values.specs.Times.{date_of, time_of, datetime_of}
-use Rattle.binlog_values.specs.Lemmas.PackedDecimals.{exact_counted_decimal}
+use Rattle.binlog_decimal.specs.declared.time.MysqlTime.{MysqlTime}
+use Rattle.binlog_decimal.specs.PackedDecimals.{counted_decimal}
+use Rattle.binlog_decimal.specs.Times.{date_of, time_of, datetime_of}
+use Rattle.binlog_decimal.specs.Lemmas.PackedDecimals.{exact_counted_decimal}
 use Rattle.binlog_values.specs.JsonbValues.{Scalar, Null, Boolean, I16, U16, I32, U32, I64, U64, F64, Text, Opaque}
 use Rattle.binlog_values.specs.JsonbTrees.{text, decimal, date_time, packed_number, packed_time, opaque_scalar, tree_scalar}
 

@@ -1,18 +1,5 @@
 -- The proofs of this crate.
-pub mod DecimalSteps
-pub mod DigitCharacters
-pub mod DecimalPacking
-pub mod DecimalBytes
-pub mod DecimalTexts
-pub mod DecimalPrinting
-pub mod DecimalPutting
-pub mod DecimalShown
-pub mod DecimalNumbers
-pub mod DecimalRanges
-pub mod DecimalSources
-pub mod DecimalGrammar
 pub mod JsonbElements
-pub mod DecimalOrders
 pub mod JsonbInside
 pub mod JsonbUnfolding
 pub mod JsonbWalk
@@ -21,9 +8,8 @@ pub mod JsonbDenoting
 pub mod JsonbCounting
 pub mod JsonbScalars
 pub mod JsonbLimits
-pub mod InlineTexts
-pub mod TimeTexts
 pub mod JsonbOpaques
 pub mod JsonbClones
 pub mod JsonbStacked
 pub mod JsonbParsing
+pub mod LentDocuments

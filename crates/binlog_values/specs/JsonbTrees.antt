@@ -11,10 +11,10 @@ use Rattle.binlog_base.specs.declared.below.columns.column_type.ColumnType.TheVa
 use Rattle.binlog_base.specs.declared.fault.Fault.{Fault}
 use Rattle.binlog_base.specs.declared.fault.Fault.TheVariants.{InvalidUtf8, OpaqueTooShort}
 use Rattle.binlog_base.specs.Format.{◌>>=◌}
-use Rattle.binlog_values.specs.declared.time.MysqlTime.{MysqlTime}
-use Rattle.binlog_values.specs.Decimals.{DecimalView}
-use Rattle.binlog_values.specs.PackedDecimals.{counted_decimal}
-use Rattle.binlog_values.specs.Times.{date_of, time_of, datetime_of}
+use Rattle.binlog_decimal.specs.declared.time.MysqlTime.{MysqlTime}
+use Rattle.binlog_decimal.specs.Decimals.{DecimalView}
+use Rattle.binlog_decimal.specs.PackedDecimals.{counted_decimal}
+use Rattle.binlog_decimal.specs.Times.{date_of, time_of, datetime_of}
 use Rattle.binlog_values.specs.JsonbValues.{Frame, Scalar, Null, Boolean, I16, U16, I32, U32, I64, U64, F64, Text, Opaque, JsonbValue, scalar, nested, key_at, element_at}
 
 -- ---- scalars

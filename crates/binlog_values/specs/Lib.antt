@@ -1,15 +1,18 @@
--- The definitions that the contracts of this crate use.
-pub mod Times
-pub mod TimeText
-pub mod TimeCharacters
-pub mod Decimals
-pub mod DecimalGroups
-pub mod DecimalMasks
-pub mod DecimalPacking
-pub mod DecimalReads
-pub mod PackedDecimals
-pub mod DecimalLaws
-pub mod DecimalText
+-- The definitions that the contracts of this crate use. Those of decimals and times are of
+-- `binlog_decimal`.
+pub use Rattle.binlog_decimal.specs.Times
+pub use Rattle.binlog_decimal.specs.TimeText
+pub use Rattle.binlog_decimal.specs.TimeCharacters
+pub use Rattle.binlog_decimal.specs.Decimals
+pub use Rattle.binlog_decimal.specs.DecimalGroups
+pub use Rattle.binlog_decimal.specs.DecimalMasks
+pub use Rattle.binlog_decimal.specs.DecimalPacking
+pub use Rattle.binlog_decimal.specs.DecimalReads
+pub use Rattle.binlog_decimal.specs.PackedDecimals
+pub use Rattle.binlog_decimal.specs.LentDecimals
+pub use Rattle.binlog_decimal.specs.DecimalLaws
+pub use Rattle.binlog_decimal.specs.DecimalOrder
+pub use Rattle.binlog_decimal.specs.DecimalText
 pub mod JsonbTypes
 pub mod JsonbLayout
 pub mod JsonbValues
@@ -26,5 +29,6 @@ pub mod JsonbVisits
 pub mod JsonbContainers
 pub mod JsonbStack
 pub mod JsonDiffs
+pub mod LentDocuments
 pub mod JsonEquality
 pub mod Lemmas

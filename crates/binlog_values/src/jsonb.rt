@@ -16,6 +16,7 @@ mod types;
 mod value;
 
 pub use complex::ComplexValue;
+pub(crate) use container::Node;
 pub use dom::{JsonContainer, JsonDom, JsonNumber, JsonScalar};
 pub use elements::{ArrayIter, ObjectIter, ObjectKeys};
 pub use format::{Array, ComplexType, Large, Object, Small, StorageFormat};

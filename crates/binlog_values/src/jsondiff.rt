@@ -18,7 +18,7 @@ use crate::jsonb::Value;
 use binlog_base::below::{IntRepr, LenEnc, MyDeserialize, ParseBuf, RawBytes};
 use binlog_base::fault::Fault;
 use std::alloc::{AllocError, Global};
-use std::borrow::CowStr;
+use std::borrow::{CowSlice, CowStr};
 use std::marker::Model;
 use thiserror::Error;
 
@@ -125,6 +125,21 @@ impl<'a> JsonDiff<'a> {
         ensures { option_map (λ v. view_of v.now) result ≡ self.now.value }
     {
         self.value.as_ref()
+    }
+
+    /// Returns the same diff, which borrows the bytes of this one. This takes no memory.
+    pub fn lent(&self) -> JsonDiff<'_>
+        ensures { result ≡ self.now }
+    {
+        let value = match &self.value {
+            Some(value) => Some(value.lent()),
+            None => None,
+        };
+        JsonDiff {
+            operation: self.operation,
+            path: RawBytes::new(CowSlice::Borrowed(self.path.as_bytes())),
+            value,
+        }
     }
 
     /// Returns the same diff, with bytes of its own. Fails if memory is refused.

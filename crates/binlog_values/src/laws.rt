@@ -8,53 +8,12 @@ ghost use Rattle.binlog_values.specs.JsonbValues.{Frame, JsonbValue, nested, ele
 ghost use Rattle.binlog_values.specs.JsonbDocuments.{document_of, layer, weight};
 ghost use Rattle.binlog_values.specs.JsonbHeaders.{headers, AreDisjoint, IsWhole};
 ghost use Rattle.binlog_values.specs.JsonbParsed.{document};
-ghost use Rattle.binlog_values.specs.PackedDecimals.{packed_decimal, counted_decimal};
-ghost use Rattle.binlog_values.specs.DecimalLaws.{PackedReadsBack, PackedHasSize, EqualWherePackedAlike, OrderedAsNumbers, PrintedReadsBack, PackedWhereInRange, TextsAreNumerals};
 
-/// States that if a prefix of some bytes is a packed decimal, that decimal is read from them.
-/// Otherwise reading fails, and the bytes determine the fault.
-pub fn packed_decimals_are_exact()
-    ensures decimal { (precision scale : ℕ) (keep : Bool) → IsExact (packed_decimal precision scale keep) }
-    ensures counted { (keep : Bool) → IsExact (counted_decimal keep) }
-{}
-
-/// States that a decimal that is written in packed form is read back as the same decimal: the sign,
-/// the digits, and how many digits are before and after the point. The packed form has the expected
-/// size.
-pub fn packed_decimals_read_back()
-    ensures again { PackedReadsBack }
-    ensures size { PackedHasSize }
-{}
-
-/// States that two decimals compare as equal if and only if their packed forms are the same.
-pub fn equal_decimals_are_packed_alike()
-    ensures { EqualWherePackedAlike }
-{}
-
-/// States that decimals with the same number of digits before the point and the same number after
-/// it are ordered as their numbers, with negative zero just below zero.
-#[tactic(auto, using(crate::proofs::DecimalOrders::ordered_as_numbers))]
-pub fn decimals_are_ordered_as_numbers()
-    ensures { OrderedAsNumbers }
-{}
-
-/// States that if a decimal was read from a text, its printed text can be read again, and gives the
-/// same number with the same digits after the point.
-pub fn printed_decimals_read_back()
-    ensures { PrintedReadsBack }
-{}
-
-/// States that bytes of the right length are a packed decimal if and only if the number of each
-/// group has no more digits than the group.
-pub fn decimals_are_packed_in_range()
-    ensures { PackedWhereInRange }
-{}
-
-/// States that a text is read as a decimal if and only if, once all but one of the zeros at its
-/// start are dropped, it is an optional sign, digits, an optional point and digits.
-pub fn texts_are_numerals()
-    ensures { TextsAreNumerals }
-{}
+pub use binlog_decimal::laws::{
+    decimals_are_ordered_as_numbers, decimals_are_packed_in_range, equal_decimals_are_packed_alike,
+    packed_decimals_are_exact, packed_decimals_read_back, printed_decimals_read_back,
+    texts_are_numerals,
+};
 
 /// States that the bytes of a container determine each of its elements, or the element's fault.
 #[tactic(auto, using(crate::specs::Lemmas::JsonbValues::exact_element))]

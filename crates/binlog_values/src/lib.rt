@@ -1,10 +1,10 @@
-//! Values of MySQL's binary log: packed decimals, their text and their order, the text of times,
-//! binary JSON by element and as trees, and JSON diffs.
+//! Values of MySQL's binary log: binary JSON by element and as trees, JSON diffs, and the decimals
+//! and times of `binlog_decimal`.
 #![tactic(auto)]
 
-pub mod decimal;
-mod digits;
+pub mod documents;
 pub mod jsonb;
 pub mod jsondiff;
 pub mod laws;
-pub mod time;
+
+pub use binlog_decimal::{decimal, time};

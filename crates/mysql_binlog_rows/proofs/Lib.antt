@@ -3,7 +3,6 @@ pub mod Covers
 pub mod Loop
 pub mod Plans
 pub mod SamePlan
-pub mod Places
 pub mod PlanReads
 pub mod AlikePlans
 pub mod Nexts

@@ -4,8 +4,8 @@ use Rattle.std.proofs.lemmas.List.{get_or-drop, drop-drop, drop_all, append-nil}
 use Rattle.binlog_base.specs.declared.fault.Fault.{Fault}
 use Rattle.binlog_base.specs.Format.{◌>>=◌}
 use Rattle.binlog_base.specs.Lemmas.Format.{ok_is, err_is}
-use Rattle.mysql_binlog_rows.specs.Cells.{Cell}
-use Rattle.mysql_binlog_rows.specs.Plans.{Slot, ends, slot_cell, slot_cells, one_more}
+use Rattle.binlog_cells.specs.Cells.{Cell, one_more}
+use Rattle.mysql_binlog_rows.specs.Plans.{Slot, ends, slot_cell, slot_cells}
 
 abbrev pub Read : Type 0
 Read = Result (List (Option Cell) × List ℕ) Fault

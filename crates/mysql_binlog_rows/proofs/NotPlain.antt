@@ -4,7 +4,7 @@ use Rattle.std.specs.Option.{option_map}
 use Rattle.binlog_base.specs.Values.{PlainValue}
 use Rattle.mysql_binlog_rows.specs.declared.row.binlog_row.BinlogRowToRowError.{BinlogRowToRowError}
 use Rattle.mysql_binlog_rows.specs.declared.row.binlog_row.BinlogRowToRowError.TheVariants as error
-use Rattle.mysql_binlog_rows.specs.Cells.{Cell, PlainCell}
+use Rattle.binlog_cells.specs.Cells.{Cell, PlainCell}
 use Rattle.mysql_binlog_rows.specs.NotPlain.{IsNotPlain, IsRefused}
 
 pub refused_at : (before : List (Option PlainValue)) (i : ℕ) (value : Option Cell) (later : List (Option Cell)) (e : BinlogRowToRowError) → length before ≡ i → IsNotPlain i value e

@@ -17,7 +17,7 @@ use Rattle.binlog_table.specs.TableColumns.{Column, column_at, column_then, colu
 use Rattle.binlog_table.specs.Lemmas.TableColumns.{no_column}
 use Rattle.mysql_binlog_rows.specs.RowsEvent.{RowsEvent, image_columns, has_before, has_after}
 use Rattle.mysql_binlog_rows.specs.RowsEventWritten.{IsRowsEvent}
-use Rattle.mysql_binlog_rows.specs.Cells.{Cell, cell}
+use Rattle.binlog_cells.specs.Cells.{Cell, cell}
 use Rattle.mysql_binlog_rows.specs.Images.{BinlogRow, row_column, row_of, is_json, nullable_cell, cells, options_of, image, maybe_image, has_options, pair}
 use Rattle.mysql_binlog_rows.specs.Plans.{Planned, slot_of, nothing_then, planned_then, first_column, after_first, planned_from, unless_refused, plan_of, plans_of, walked_in, slot_count, slot_cell, slot_cells, planned_image, planned_maybe, planned_pair}
 use Rattle.mysql_binlog_rows.specs.Rows.{IsDescribed, columns_in}

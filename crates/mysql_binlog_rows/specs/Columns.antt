@@ -10,25 +10,21 @@ use Rattle.mysql_binlog_rows.specs.Rows.{plans_of_events, most_of_events}
 abbrev pub plans_in : Columns → Plans
 plans_in (columns.Events events) = plans_of_events events
 plans_in (columns.Plans made) = made.plans
-plans_in (columns.Shared made) = made.plans
 
 -- whether the plans are made
 abbrev pub is_planned : Columns → Bool
 is_planned (columns.Events events) = false
 is_planned (columns.Plans made) = true
-is_planned (columns.Shared made) = true
 
 -- the steps that making them took for this event; 0 before
 abbrev pub steps_in : Columns → ℕ
 steps_in (columns.Events events) = 0
 steps_in (columns.Plans made) = made.steps
-steps_in (columns.Shared made) = made.steps
 
 -- the most steps: those that were made, once the plans are made
 abbrev pub most_in : Columns → ℕ
 most_in (columns.Events events) = most_of_events events
 most_in (columns.Plans made) = made.steps
-most_in (columns.Shared made) = made.steps
 
 -- the plans and their steps stay as they are, once they are made
 pub record PlansKept (old new : Columns) : Type 0 where

@@ -16,7 +16,7 @@ use Rattle.binlog_table.specs.Keys.{unless}
 use Rattle.binlog_table.specs.Extracted.{field_fault}
 use Rattle.binlog_table.specs.TableColumns.{Column, column_at}
 use Rattle.mysql_binlog_rows.specs.RowsEvent.{RowsEvent, image_columns}
-use Rattle.mysql_binlog_rows.specs.Cells.{Cell, PlainCell, cell}
+use Rattle.binlog_cells.specs.Cells.{Cell, PlainCell, cell}
 
 -- ---- the columns of a row
 

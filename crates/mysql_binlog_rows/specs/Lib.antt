@@ -1,8 +1,10 @@
 -- The definitions that the contracts of this crate use.
 pub mod RowsEvent
 pub mod RowsEventWritten
-pub mod Cells
-pub mod OldTimes
+pub use Rattle.binlog_cells.specs.Cells
+pub use Rattle.binlog_cells.specs.Pieces
+pub use Rattle.binlog_cells.specs.LentCells
+pub use Rattle.binlog_cells.specs.OldTimes
 pub mod Images
 pub mod RowValues
 pub mod NotPlain
@@ -13,8 +15,9 @@ pub mod Memory
 pub mod Cover
 pub mod Laws
 pub mod Rows
+pub mod LentPairs
 pub mod Kept
 pub mod Columns
 pub mod Decodes
-pub mod Equality
+pub use Rattle.binlog_cells.specs.Equality
 pub mod Lemmas

@@ -4,7 +4,7 @@ use Rattle.std.specs.Option.{option_map}
 use Rattle.binlog_base.specs.Values.{PlainValue}
 use Rattle.mysql_binlog_rows.specs.declared.row.binlog_row.BinlogRowToRowError.{BinlogRowToRowError}
 use Rattle.mysql_binlog_rows.specs.declared.row.binlog_row.BinlogRowToRowError.TheVariants as error
-use Rattle.mysql_binlog_rows.specs.Cells.{Cell, PlainCell, to_plain}
+use Rattle.binlog_cells.specs.Cells.{Cell, PlainCell, to_plain}
 
 -- there is a value at index i, and it is not plain
 abbrev pub IsNotPlain : ℕ → Option Cell → BinlogRowToRowError → Type 0

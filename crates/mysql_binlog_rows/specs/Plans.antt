@@ -1,5 +1,5 @@
 -- What an iterator over pairs keeps of a table map event, and how it reads images by that.
-use Rattle.std.specs.Prelude.{ℕ, suc, Bool, true, false, List, [], ◌∷◌, ◌++◌, drop, slice_index_or, unwrap_or, Option, Some, None, Result, Ok, Err, ◌+◌, if◌then◌else◌}
+use Rattle.std.specs.Prelude.{ℕ, suc, Bool, true, false, List, [], ◌∷◌, drop, slice_index_or, unwrap_or, Option, Some, None, Result, Ok, Err, ◌+◌, if◌then◌else◌}
 use Rattle.std.specs.Bool.{beq}
 use Rattle.std.specs.Cmp.Lexicographic.{pointwise}
 use Rattle.std.specs.Option.{option_map}
@@ -14,9 +14,9 @@ use Rattle.binlog_table.specs.TableMap.{TableMap}
 use Rattle.binlog_table.specs.ColumnTypes.{json_count}
 use Rattle.binlog_table.specs.Extracted.{field_fault}
 use Rattle.binlog_table.specs.TableColumns.{Column, table_columns}
-use Rattle.mysql_binlog_rows.specs.declared.value.form.Form.{Form}
+use Rattle.binlog_cells.specs.declared.value.form.Form.{Form}
 use Rattle.mysql_binlog_rows.specs.RowsEvent.{RowsEvent, image_columns}
-use Rattle.mysql_binlog_rows.specs.Cells.{Cell, PlainCell, form_of, cell_by}
+use Rattle.binlog_cells.specs.Cells.{Cell, PlainCell, form_of, cell_by}
 use Rattle.mysql_binlog_rows.specs.Images.{BinlogRow, Pair, default_name, row_flags, row_column, is_json, partial_bits, has_options}
 
 -- ---- what is kept
@@ -154,10 +154,6 @@ unfoldable pub slot_cells : List Bool → List Slot → Option Fault → List Bo
 slot_cells partials [] end nulls = ends end
 slot_cells partials (s ∷ slots) end nulls =
     sequence (slot_cell (slice_index_or nulls 0 false) partials s) (λ v. map_value (slot_cells partials slots end (drop 1 nulls)) (λ vs. Some v ∷ vs))
-
--- these values, and then that of a cell
-unfoldable pub one_more : List (Option Cell) → Format Cell → Format (List (Option Cell))
-one_more values f = map_value f (λ v. values ++ Some v ∷ [])
 
 -- the partial bits of an image; none where it has no options
 abbrev pub planned_options : Bool → Plan → Format (List Bool)

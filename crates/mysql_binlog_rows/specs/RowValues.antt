@@ -1,6 +1,6 @@
 -- The values of a row.
 use Rattle.std.specs.Prelude.{List, [], ◌∷◌, Option, Some, None, ⊤}
-use Rattle.mysql_binlog_rows.specs.Cells.{Cell}
+use Rattle.binlog_cells.specs.Cells.{Cell}
 
 -- no value was taken out of the row
 abbrev pub AreThere : List (Option Cell) → Type 0

@@ -1,5 +1,5 @@
 -- The layout of a rows event of MySQL's binary log.
-use Rattle.std.specs.Prelude.{ℕ, ◌+◌, ◌-◌, ◌^◌, ◌==◌, min, Bool, true, false, List, [], length, Option, Some, None}
+use Rattle.std.specs.Prelude.{◌≡◌, ◌++◌, ℕ, ◌+◌, ◌-◌, ◌^◌, ◌==◌, min, Bool, true, false, List, [], length, Option, Some, None}
 use Rattle.std.specs.Option.{option_map}
 use Rattle.binlog_base.specs.declared.bits.BitOrder.TheVariants.{LeastSignificantFirst}
 use Rattle.binlog_base.specs.Format.{Format, take_bytes, no_bytes, sequence, map_value, choice, all_left}
@@ -57,6 +57,10 @@ rows_event ctx =
     sequence (bitmap (has_after ctx.event_type) count) (λ after.
     map_value all_left (λ rows.
     record { event_type = ctx.event_type; table_id = id; flags = flags; extra_data = extra; num_columns = count; before = before; after = after; rows_data = rows })))))))
+
+-- the last of the bytes are these
+abbrev pub EndsWith : List ℕ → List ℕ → Type 0
+EndsWith bytes end = (start : List ℕ) × (bytes ≡ start ++ end)
 
 -- which columns are in an image: a bit for each column of the event
 abbrev pub image_columns : ℕ → Option (List ℕ) → Option (List Bool)

@@ -2,7 +2,7 @@
 //! that does nothing.
 
 ghost use Rattle.mysql_binlog_rows.specs.Laws.{OneListOfPairs, NoProperPrefix, OneCover};
-ghost use Rattle.mysql_binlog_rows.specs.OldTimes.{OldTimesHaveSigns};
+ghost use Rattle.binlog_cells.specs.OldTimes.{OldTimesHaveSigns};
 ghost use Rattle.mysql_binlog_rows.specs.RowsEventWritten.{WrittenEventsSpellThemselves, ReadEventsKeepExtraData, WrittenEventsReadBack};
 
 /// States that rows data can be split into pairs of rows in only one way.

@@ -10,4 +10,4 @@ pub use decode::{
 };
 pub use event::{RowsEvent, RowsEventCtx};
 pub use kept::KeptPlan;
-pub use rows::{RowPair, RowsEventRows};
+pub use rows::{LentPair, RowPair, RowsEventRows};

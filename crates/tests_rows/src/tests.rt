@@ -3,6 +3,7 @@
 
 mod cells;
 mod images;
+mod lent;
 mod memory;
 mod partial;
 

@@ -5,6 +5,7 @@
 mod file;
 mod filter;
 mod kept;
+mod lent;
 mod servers;
 mod threads;
 

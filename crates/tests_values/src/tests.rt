@@ -2,6 +2,7 @@
 
 mod decimals;
 mod jsonb;
+mod lent;
 mod memory;
 mod readers;
 mod times;

@@ -20,7 +20,7 @@ use std::marker::{Model, PhantomData};
 
 /// A container of a storage format and a kind, over bytes that it borrows.
 #[derive(Drop)]
-pub(super) struct Lent<'a, T: StorageFormat, U: ComplexType> {
+pub(crate) struct Lent<'a, T: StorageFormat, U: ComplexType> {
     element_count: u32,
     bytes: &'a [u8],
     format: PhantomData<(T, U)>,
@@ -45,7 +45,7 @@ impl<'a, T: StorageFormat, U: ComplexType> Model for Lent<'a, T, U> {
 
 /// A type, and bytes that begin with a value of that type.
 #[derive(Clone, Copy)]
-pub(super) struct TypedBytes<'a> {
+pub(crate) struct TypedBytes<'a> {
     pub value_type: JsonbType,
     pub bytes: &'a [u8],
 }
@@ -232,6 +232,17 @@ impl<'a, T: StorageFormat, U: ComplexType> ComplexValue<'a, T, U> {
         Lent {
             element_count: self.element_count,
             bytes: self.bytes.as_slice(),
+            format: PhantomData,
+        }
+    }
+
+    // Returns the same container, which borrows the bytes of this one.
+    pub(super) fn borrowed(&self) -> ComplexValue<'_, T, U>
+        ensures { result ≡ self.now }
+    {
+        ComplexValue {
+            element_count: self.element_count,
+            bytes: CowSlice::Borrowed(self.bytes.as_slice()),
             format: PhantomData,
         }
     }

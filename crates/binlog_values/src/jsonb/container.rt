@@ -1,9 +1,9 @@
 //! Containers of any kind, and what is read of their entries.
 
-ghost use Rattle.std.specs.Prelude.{◌≡◌, ◌≤◌, ◌<◌, length, IfOk, IfErr, Ok};
+ghost use Rattle.std.specs.Prelude.{◌≡◌, ◌≤◌, ◌<◌, [], length, IfOk, IfErr, Ok};
 ghost use Rattle.binlog_base.specs.Format.{ParsesAs};
 ghost use Rattle.binlog_base.specs.Items.{result_map};
-ghost use Rattle.binlog_values.specs.JsonbValues.{scalar, literal_value, opaque_value, value, element_at};
+ghost use Rattle.binlog_values.specs.JsonbValues.{scalar, literal_value, opaque_value, value, json, element_at};
 ghost use Rattle.binlog_values.specs.JsonbViews.{view_of};
 ghost use Rattle.binlog_values.specs.JsonbTrees.{entry_key};
 ghost use Rattle.binlog_values.specs.JsonbHeaders.{IsWhole};
@@ -22,7 +22,7 @@ use binlog_base::fault::Fault;
 
 // A container of one of the four kinds.
 #[derive(Drop)]
-pub(super) enum Container<'a> {
+pub(crate) enum Container<'a> {
     SmallArray(Lent<'a, Small, Array>),
     LargeArray(Lent<'a, Large, Array>),
     SmallObject(Lent<'a, Small, Object>),
@@ -31,7 +31,7 @@ pub(super) enum Container<'a> {
 
 // A scalar, over bytes that it borrows.
 #[derive(Clone, Copy)]
-pub(super) enum LentScalar<'a> {
+pub(crate) enum LentScalar<'a> {
     Null,
     Bool(bool),
     I16(i16),
@@ -45,9 +45,9 @@ pub(super) enum LentScalar<'a> {
     Opaque(ColumnType, &'a [u8]),
 }
 
-// The value of an entry.
+// A value, whose scalars are over bytes that it borrows.
 #[derive(Drop)]
-pub(super) enum Node<'a> {
+pub(crate) enum Node<'a> {
     Container(Container<'a>),
     Scalar(LentScalar<'a>),
 }
@@ -107,6 +107,19 @@ impl<'a> Node<'a> {
             JsonbType::JSONB_TYPE_OPAQUE => read_opaque(buf)?,
         };
         Ok(Node::Scalar(value))
+    }
+
+    // Reads a document at the start of the bytes. Those after it are ignored.
+    #[tactic(auto, unfolding(crate::specs::JsonbValues::json, crate::specs::JsonbValues::typed_value))]
+    pub fn read_root(bytes: &'a [u8]) -> Result<Node<'a>, Fault>
+        ensures { ParsesAs node_view json result bytes.now [] }
+    {
+        if bytes.is_empty() {
+            return Ok(Node::Scalar(LentScalar::Null));
+        }
+        let mut buf = ParseBuf(bytes);
+        let value_type = JsonbType::try_from(read_byte(&mut buf)?)?;
+        Node::read(value_type, &mut buf)
     }
 
     // Returns a value over its bytes.
@@ -207,6 +220,19 @@ impl<'a> Container<'a> {
             Container::LargeArray(container) => container.len(),
             Container::SmallObject(container) => container.len(),
             Container::LargeObject(container) => container.len(),
+        }
+    }
+
+    // Returns the bytes of an entry's key, which are none in an array.
+    pub fn entry_key(&self, pos: u32) -> Result<&'a [u8], Fault>
+        requires { pos < (frame self.now).count }
+        ensures { result_map (λ key. key.now) result ≡ entry_key (frame self.now) pos }
+    {
+        match self {
+            Container::SmallArray(container) => container.entry_key(pos),
+            Container::LargeArray(container) => container.entry_key(pos),
+            Container::SmallObject(container) => container.entry_key(pos),
+            Container::LargeObject(container) => container.entry_key(pos),
         }
     }
 

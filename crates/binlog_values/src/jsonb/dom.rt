@@ -4,8 +4,8 @@ ghost use Rattle.std.specs.Prelude.{◌≡◌, IfOk};
 ghost use Rattle.binlog_values.specs.JsonbDoms.{number_view, scalar_view, dom_view, items_view, members_view};
 
 use super::opaque::JsonOpaque;
-use crate::decimal::Decimal;
-use crate::time::MysqlTime;
+use binlog_decimal::decimal::Decimal;
+use binlog_decimal::time::MysqlTime;
 use std::alloc::{AllocError, Global};
 use std::collections::BTreeMap;
 

@@ -6,10 +6,12 @@ ghost use Rattle.std.specs.Iterator.{YieldsFirstBy, item_count};
 ghost use Rattle.binlog_base.specs.Faults.{OfBytes};
 ghost use Rattle.binlog_base.specs.Items.{result_map};
 ghost use Rattle.binlog_values.specs.JsonbValues.{element_at, key_at};
-ghost use Rattle.binlog_values.specs.JsonbElements.{from, entry_at};
+ghost use Rattle.binlog_values.specs.JsonbElements.{from, entry_at, elem_in, key_in};
+ghost use Rattle.binlog_values.specs.JsonbContainers.{frame, node_view};
 ghost use Rattle.binlog_values.specs.JsonbViews.{view_of};
 
 use super::complex::{ComplexValue, Lent};
+use super::container::{Container, Node};
 use super::format::{Array, ComplexType, Object, StorageFormat};
 use super::strings::ObjectKey;
 use super::value::Value;
@@ -119,6 +121,50 @@ impl<'a, T: StorageFormat> ComplexValue<'a, T, Array> {
         ArrayIter {
             array: self,
             pos: 0,
+        }
+    }
+}
+
+impl<'a> Container<'a> {
+    // Returns the value of an element that is there.
+    fn element(&self, pos: u32) -> Result<Value<'a>, Fault>
+        requires { pos < (frame self.now).count }
+        ensures { result_map view_of result ≡ element_at (frame self.now) pos }
+    {
+        match self {
+            Container::SmallArray(container) => container.element(pos),
+            Container::LargeArray(container) => container.element(pos),
+            Container::SmallObject(container) => container.element(pos),
+            Container::LargeObject(container) => container.element(pos),
+        }
+    }
+}
+
+impl<'a> Node<'a> {
+    // Returns the value of the element at an index; `None` where there is none.
+    #[tactic(auto, using(crate::proofs::JsonbElements::value_of_bytes))]
+    pub fn elem_at(&self, pos: u32) -> Result<Option<Value<'a>>, Fault>
+        ensures { result_map (option_map view_of) result ≡ elem_in (node_view self.now) pos }
+    {
+        match self {
+            Node::Container(container) if pos < container.element_count() => {
+                Ok(Some(container.element(pos)?))
+            }
+            _ => Ok(None),
+        }
+    }
+
+    // Returns the key of the entry at an index; `None` where there is none.
+    pub fn key_at(&self, pos: u32) -> Result<Option<ObjectKey<'a>>, Fault>
+        ensures { result ≡ key_in (node_view self.now) pos }
+    {
+        match self {
+            Node::Container(container)
+                if !container.is_array() && pos < container.element_count() => {
+                let key = container.entry_key(pos)?;
+                Ok(Some(ObjectKey::new(CowSlice::Borrowed(key))))
+            }
+            _ => Ok(None),
         }
     }
 }

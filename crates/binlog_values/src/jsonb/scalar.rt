@@ -11,10 +11,10 @@ use super::container::LentScalar;
 use super::dom::{JsonNumber, JsonScalar};
 use super::opaque::JsonOpaque;
 use super::text::text_of;
-use crate::decimal::Decimal;
-use crate::time::MysqlTime;
 use binlog_base::below::{ColumnType, ParseBuf};
 use binlog_base::fault::Fault;
+use binlog_decimal::decimal::Decimal;
+use binlog_decimal::time::MysqlTime;
 use byteorder::{ByteOrder, LittleEndian};
 use std::alloc::Global;
 

@@ -98,6 +98,13 @@ impl<'a> JsonbString<'a> {
         self.0.as_str(alloc)
     }
 
+    // Returns the same string, which borrows the bytes of this one.
+    pub(super) fn lent(&self) -> JsonbString<'_>
+        ensures { result ≡ self.now }
+    {
+        JsonbString::new(CowSlice::Borrowed(self.str_raw()))
+    }
+
     // Returns the same string, with bytes of its own.
     pub(super) fn clone(&self, alloc: Global) -> Result<JsonbString<'a>, AllocError>
         ensures { IfOk result (λ copy. copy ≡ self.now) }
@@ -213,6 +220,13 @@ impl<'a> OpaqueValue<'a> {
         ensures { IfOk result (λ text. cow_str_bytes text ≡ utf8_lossy self.now.data) }
     {
         self.data.as_str(alloc)
+    }
+
+    // Returns the same value, which borrows the bytes of this one.
+    pub(super) fn lent(&self) -> OpaqueValue<'_>
+        ensures { result ≡ self.now }
+    {
+        OpaqueValue::new(self.value_type, CowSlice::Borrowed(self.data_raw()))
     }
 
     // Returns the same value, with bytes of its own.

@@ -253,6 +253,29 @@ impl<'a> PartialEq for Value<'a> {
 }
 
 impl<'a> Value<'a> {
+    /// Returns the same value, which borrows the bytes of this one. This takes no memory.
+    pub fn lent(&self) -> Value<'_>
+        ensures { view_of result ≡ view_of self.now }
+    {
+        match self {
+            Value::Null => Value::Null,
+            Value::Bool(value) => Value::Bool(*value),
+            Value::I16(number) => Value::I16(*number),
+            Value::U16(number) => Value::U16(*number),
+            Value::I32(number) => Value::I32(*number),
+            Value::U32(number) => Value::U32(*number),
+            Value::I64(number) => Value::I64(*number),
+            Value::U64(number) => Value::U64(*number),
+            Value::F64(bits) => Value::F64(*bits),
+            Value::String(text) => Value::String(text.lent()),
+            Value::SmallArray(container) => Value::SmallArray(container.borrowed()),
+            Value::LargeArray(container) => Value::LargeArray(container.borrowed()),
+            Value::SmallObject(container) => Value::SmallObject(container.borrowed()),
+            Value::LargeObject(container) => Value::LargeObject(container.borrowed()),
+            Value::Opaque(value) => Value::Opaque(value.lent()),
+        }
+    }
+
     /// Returns the same value, with bytes of its own. Fails if memory is refused.
     pub fn clone(&self, alloc: Global) -> Result<Value<'a>, AllocError>
         ensures { IfOk result (λ copy. view_of copy ≡ view_of self.now) }

@@ -3,12 +3,12 @@
 ghost use Rattle.std.specs.Prelude.{◌≡◌, ◌<◌, length, map, set, Some, None, IsTrue, ◌↔◌, IfOk, IfErr};
 ghost use Rattle.std.specs.Option.{option_map};
 ghost use Rattle.std.specs.Rc.{rc_slice_items};
-ghost use Rattle.mysql_binlog_rows.specs.Cells.{PlainCell, cell_of};
+ghost use Rattle.binlog_cells.specs.Cells.{PlainCell, cell_of};
 ghost use Rattle.binlog_base.specs.Values.{plain_of, value_at};
-ghost use Rattle.mysql_binlog_rows.specs.Equality.{same_cell};
+ghost use Rattle.binlog_cells.specs.Equality.{same_cell};
 ghost use Rattle.mysql_binlog_rows.specs.RowValues.{AreThere};
 ghost use Rattle.mysql_binlog_rows.specs.NotPlain.{IsNotPlain, IsRefused};
-ghost use Rattle.mysql_binlog_rows.specs.Lemmas.Equality.{same_cell_is_equivalence};
+ghost use Rattle.binlog_cells.specs.Lemmas.Equality.{same_cell_is_equivalence};
 ghost use Rattle.mysql_binlog_rows.specs.declared.row.binlog_row.BinlogRowToRowError.TheVariants as RowError;
 ghost use Rattle.std.specs.Option.{option_eq};
 ghost use Rattle.std.specs.Ordering.{on, eq_of_both};
@@ -35,7 +35,7 @@ impl Model for BinlogRow {
     ghost use Rattle.std.specs.Prelude.{map};
     ghost use Rattle.std.specs.Option.{option_map};
     ghost use Rattle.std.specs.Rc.{rc_slice_items};
-    ghost use Rattle.mysql_binlog_rows.specs.Cells.{cell_of};
+    ghost use Rattle.binlog_cells.specs.Cells.{cell_of};
     ghost use Rattle.mysql_binlog_rows.specs.Images as Spec;
 
     ghost Value = { Spec.BinlogRow };

@@ -6,19 +6,23 @@ ghost use Rattle.binlog_base.specs.declared.fault.Fault.TheVariants as Fault;
 ghost use Rattle.binlog_base.specs.Format.{Parses, ParsesAs, OrMemory};
 ghost use Rattle.binlog_base.specs.Items.{result_map};
 ghost use Rattle.binlog_table.specs.ColumnsLeft.{seen_column};
-ghost use Rattle.mysql_binlog_rows.specs.Cells.{cell_of, json_cell};
+ghost use Rattle.binlog_cells.specs.Cells.{cell_of, json_cell, one_more};
+ghost use Rattle.binlog_cells.specs.LentCells.{lent_values};
 ghost use Rattle.binlog_base.specs.Values.{column_flags_of};
 ghost use Rattle.mysql_binlog_rows.specs.Images.{default_name, row_flags};
 ghost use Rattle.mysql_binlog_rows.specs.Memory.{in_usize, names_bytes, plan_bytes};
-ghost use Rattle.mysql_binlog_rows.specs.Plans.{column_in, json_place_of, slot_of, first_column, after_first, planned_from, plan_of, planned_options, planned_image, is_partial_slot, slot_cell, slot_cells, one_more};
+ghost use Rattle.mysql_binlog_rows.specs.Plans.{column_in, json_place_of, slot_of, first_column, after_first, planned_from, plan_of, planned_options, planned_image, is_partial_slot, slot_cell, slot_cells};
 
 use super::binlog_row::BinlogRow;
-use crate::value::{BinlogValue, Form, form_of, read_json, read_plain};
+use super::lent_row::LentRow;
 use binlog_base::below::{
     Column, ColumnFlags, ColumnList, ColumnType, IntRepr, LenEnc, MyDeserialize, ParseBuf, Value,
 };
 use binlog_base::bits::{BitOrder, BitView};
 use binlog_base::fault::Fault;
+use binlog_cells::value::{
+    BinlogValue, Form, LentCell, form_of, put_cell, put_json, put_plain, read_json, read_plain,
+};
 use binlog_consts::consts::Flags;
 use binlog_table::table_map::TableMapEvent;
 use binlog_table::table_map::optional::{ColumnName, TableColumn, TableColumns};
@@ -363,6 +367,26 @@ impl Plan {
         let values = read_cells(alloc, &self.slots, self.fault, &partials, &nulls, buf)?;
         Ok(BinlogRow::new(values, self.columns.clone()?))
     }
+
+    /// Reads one image into a row that lends its cells, as `read` does. What the row held before is
+    /// gone, and its memory is used again.
+    #[tactic(auto, unfolding(crate::specs::Plans::planned_image))]
+    pub fn read_lent<'b>(
+        &self,
+        has_options: bool,
+        row: &mut LentRow<'b>,
+        buf: &mut ParseBuf<'b>,
+    ) -> Result<(), Fault>
+        ensures { OrMemory result (ParsesAs (λ _. row.new) (planned_image has_options self.now)
+            result buf.old.0.now buf.new.0.now) }
+    {
+        let partials = self.read_partials(has_options, buf)?;
+        let nulls: BitView<'_> = buf.parse((BitOrder::LeastSignificantFirst, self.count))?;
+        let cells = &mut row.cells;
+        read_lent_cells(&self.slots, self.fault, &partials, &nulls, cells, buf)?;
+        row.columns = Some(self.columns.clone()?);
+        Ok(())
+    }
 }
 
 // Reads a value for each column in the image. If `end` is the fault of a column, it is returned
@@ -429,7 +453,7 @@ fn add_value(values: &mut Vec<Option<BinlogValue<'static>>>, value: BinlogValue<
 // Reads a JSON cell, and adds it with bytes of its own. There is room for it. Not inlined, so that
 // other cells stay in registers.
 #[inline(never)]
-#[tactic(auto, unfolding(crate::specs::Plans::one_more))]
+#[tactic(auto, unfolding(binlog_cells::specs::Cells::one_more))]
 fn add_json(
     alloc: Global,
     partial: bool,
@@ -449,7 +473,7 @@ fn add_json(
 
 // Adds NULL if the null bit is set, and reads the cell and adds it otherwise. There is room for it.
 #[inline(always)]
-#[tactic(auto, unfolding(crate::specs::Plans::slot_cell, crate::specs::Cells::cell_by, crate::specs::Plans::one_more))]
+#[tactic(auto, unfolding(crate::specs::Plans::slot_cell, binlog_cells::specs::Cells::cell_by, binlog_cells::specs::Cells::one_more))]
 fn add_nullable_cell(
     alloc: Global,
     slot: &Slot,
@@ -477,4 +501,60 @@ fn add_nullable_cell(
         Form::Json => add_json(alloc, is_partial(slot, partials), values, buf)?,
     }
     Ok(())
+}
+
+// Reads a cell for each column in the image, in place of the cells that are there. If `end` is the
+// fault of a column, it is returned after the cells before that column are read.
+fn read_lent_cells<'b>(
+    slots: &[Slot],
+    end: Option<Fault>,
+    partials: &BitView<'_>,
+    nulls: &BitView<'_>,
+    cells: &mut Vec<LentCell<'b>>,
+    buf: &mut ParseBuf<'b>,
+) -> Result<(), Fault>
+    ensures { OrMemory result (ParsesAs (λ _. lent_values cells.new.items) (slot_cells partials.now
+        slots.now end nulls.now) result buf.old.0.now buf.new.0.now) }
+{
+    cells.clear();
+    cells.reserve(slots.len())?;
+    let mut at = 0;
+    for slot in slots {
+        put_lent_cell(slot, partials, is_set(nulls, at), cells, buf)?;
+        at += 1;
+    }
+    match end {
+        None => Ok(()),
+        Some(fault) => Err(fault),
+    }
+}
+
+// Puts NULL at the end of the cells if the null bit is set, and reads the cell otherwise. There is
+// room for it.
+#[inline(always)]
+#[tactic(auto, unfolding(crate::specs::Plans::slot_cell, binlog_cells::specs::Cells::cell_by, binlog_cells::specs::Cells::one_more))]
+fn put_lent_cell<'b>(
+    slot: &Slot,
+    partials: &BitView<'_>,
+    is_null: bool,
+    cells: &mut Vec<LentCell<'b>>,
+    buf: &mut ParseBuf<'b>,
+) -> Result<(), Fault>
+    requires { vec_len cells.old < vec_capacity cells.old }
+    ensures cell { ParsesAs (λ _. lent_values cells.new.items)
+        (one_more (lent_values cells.old.items) (slot_cell is_null partials.now slot.now))
+        result buf.old.0.now buf.new.0.now }
+    ensures len { OnOk result (vec_len cells.new ≡ vec_len cells.old + 1) }
+    ensures capacity { vec_capacity cells.new ≡ vec_capacity cells.old }
+{
+    if is_null {
+        return Ok(put_cell(cells, LentCell::Null));
+    }
+    match slot.form? {
+        Form::Plain(form) => put_plain(form, cells, buf),
+        Form::Json => {
+            put_json(is_partial(slot, partials), cells, buf)?;
+            Ok(())
+        }
+    }
 }

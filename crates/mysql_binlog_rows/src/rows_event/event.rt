@@ -1,7 +1,7 @@
 //! The rows event, and how it is read from its body.
 
 ghost use Rattle.std.specs.Prelude.{◌≡◌};
-ghost use Rattle.mysql_binlog_rows.specs.RowsEvent.{has_before, has_after, bitmap_length};
+ghost use Rattle.mysql_binlog_rows.specs.RowsEvent.{EndsWith, has_before, has_after, bitmap_length};
 
 mod write;
 
@@ -92,7 +92,8 @@ impl<'a> RowsEvent<'a> {
     ghost use Rattle.binlog_consts.specs.Flags.{rows_event_flags, rows_event_flags_of};
     ghost use Rattle.binlog_base.specs.Format.{Parses};
     ghost use Rattle.mysql_binlog_rows.specs.RowsEvent.{rows_event, extra_data, bitmap, image_columns, event_len};
-    ghost use Rattle.binlog_base.specs.Format.{choice, no_bytes};
+    ghost use Rattle.binlog_base.specs.Format.{choice, no_bytes, ParsesAs, ReadsAs};
+    ghost use Rattle.std.specs.Prelude.{true};
     ghost use Rattle.mysql_binlog_rows.specs.RowsEventWritten.{IsRowsEvent};
 
     // Reads the extra data: a length of two bytes, which counts these two bytes as well, and the
@@ -163,6 +164,23 @@ impl<'a> RowsEvent<'a> {
         })
     }
 
+    /// Reads a rows event from all bytes of its body, as `deserialize` does, and returns it with its
+    /// rows data. These borrow the body's bytes and not the event, so they outlive it. This takes no
+    /// memory.
+    pub fn read_lent(
+        ctx: RowsEventCtx,
+        buf: &mut ParseBuf<'a>,
+    ) -> Result<(RowsEvent<'a>, &'a [u8]), Fault>
+        ensures parses { ParsesAs (λ r. r.0) (rows_event ctx) result buf.old.0.now buf.new.0.now }
+        ensures reads { ReadsAs true (λ r. r.0) (rows_event ctx) result buf.old.0.now buf.new.0.now }
+        ensures rows_data { IfOk result (λ r. r.1.now ≡ r.0.rows_data) }
+    {
+        let body = buf.0;
+        let event = RowsEvent::deserialize(ctx, buf)?;
+        let rows_data = same_end(body, event.rows_data());
+        Ok((event, rows_data))
+    }
+
     /// Returns the event's type.
     pub fn event_type(&self) -> EventType
         ensures { result ≡ self.now.event_type }
@@ -215,7 +233,8 @@ impl<'a> RowsEvent<'a> {
     // Returns the bytes of the bitmap of the images before the change; `None` where the event has
     // none.
     pub(super) fn bitmap_before(&self) -> Option<&[u8]>
-        ensures { option_map (λ b. b.now) result ≡ self.now.before }
+        ensures bitmap { option_map (λ b. b.now) result ≡ self.now.before }
+        ensures event { IsRowsEvent self.now }
     {
         Some(self.columns_before_image.as_ref()?.as_bytes())
     }
@@ -267,6 +286,14 @@ impl<'a> RowsEvent<'a> {
             .saturating_add(self.rows_data.len());
         len.min(MAX_LEN)
     }
+}
+
+// Returns the end of the body that has these bytes.
+fn same_end<'a>(body: &'a [u8], end: &[u8]) -> &'a [u8]
+    requires { EndsWith body.now end.now }
+    ensures { result.now ≡ end.now }
+{
+    &body[body.len() - end.len()..]
 }
 
 // Returns how many bytes a bitmap has; 0 where there is none.

@@ -7,6 +7,7 @@ ghost use Rattle.std.specs.Rc.{rc_value};
 ghost use Rattle.binlog_base.specs.declared.fault.Fault.TheVariants as Fault;
 ghost use Rattle.binlog_table.specs.TableMap.{TableMap};
 ghost use Rattle.mysql_binlog_rows.specs.RowsEvent.{RowsEvent as Event, bitmap_length};
+ghost use Rattle.mysql_binlog_rows.specs.RowsEventWritten.{IsRowsEvent};
 ghost use Rattle.mysql_binlog_rows.specs.Rows.{Reads, IsOf, plans_of_events};
 ghost use Rattle.mysql_binlog_rows.specs.Kept.{Serves, KeptServes, kept_bytes, told_bytes};
 ghost use Rattle.mysql_binlog_rows.specs.Memory.{in_usize};
@@ -138,7 +139,8 @@ impl Planned {
     ) -> Result<Planned, AllocError>
         requires { (rc_value plans).plans
             ≡ plans_of_events (record { table = arc_value table; event = event.now }) }
-        ensures { IfOk result (λ p. Serves p (arc_value table.entry) event.now) }
+        ensures serves { IfOk result (λ p. Serves p (arc_value table.entry) event.now) }
+        ensures event { IfOk result (λ _. IsRowsEvent event.now) }
     {
         Ok(Planned {
             table,
@@ -251,16 +253,18 @@ impl Default for KeptPlan {
 impl<'a> RowsEvent<'a> {
     ghost use Rattle.mysql_binlog_rows.specs.Rows.{IsOf, Reads};
 
-    // Returns an iterator over the pairs of rows, as `rows_by` does. `shared` is the same table map
-    // event as `table`, if the caller shares it.
-    fn rows_by_table<'b>(
-        &'b self,
+    // Returns an iterator over the pairs of rows, as `lent_rows_by` does. `shared` is the same table
+    // map event as `table`, if the caller shares it.
+    fn rows_by_table<'d>(
+        &self,
         alloc: Global,
+        rows_data: &'d [u8],
         table: &TableMapEvent<'_>,
         shared: Option<&Arc<TableMapEvent<'static>>>,
         kept: &mut KeptPlan,
-    ) -> Result<RowsEventRows<'b>, Fault>
-        requires { IfSome shared (λ t. arc_value t.now ≡ table.now) }
+    ) -> Result<RowsEventRows<'d>, Fault>
+        requires data { rows_data.now ≡ self.now.rows_data }
+        requires shared { IfSome shared (λ t. arc_value t.now ≡ table.now) }
         ensures reads { IfOk result (λ r. Reads table.now self.now r.plans) }
         ensures left { IfOk result (λ r. r.left ≡ self.now.rows_data) }
         ensures planned { IfOk result (λ r. r.is_planned ≡ true) }
@@ -270,13 +274,8 @@ impl<'a> RowsEvent<'a> {
         ensures kept { IfOk result (λ _. KeptServes kept.new table.now self.now) }
         ensures err { IfErr result (λ e. e ≡ Fault.Memory) }
     {
-        if let Some(plans) = kept.plans(table, self) {
-            let plans = plans.clone()?;
-            let shared = Shared {
-                plans,
-                is_new: false,
-            };
-            return Ok(RowsEventRows::by_plans(alloc, self.rows_data(), shared));
+        if let Some(rows) = self.lent_rows_if_served(alloc, rows_data, table, kept)? {
+            return Ok(rows);
         }
         let plans = Rc::new(alloc, Plans::make(alloc, &Events { table, event: self })?)?;
         let own_table = shared_or_copied(alloc, table, shared)?;
@@ -285,7 +284,7 @@ impl<'a> RowsEvent<'a> {
             plans,
             is_new: true,
         };
-        Ok(RowsEventRows::by_plans(alloc, self.rows_data(), shared))
+        Ok(RowsEventRows::by_plans(alloc, rows_data, shared))
     }
 
     /// Returns an iterator over the pairs of rows, as `rows` does, by a plan that is kept.
@@ -313,8 +312,7 @@ impl<'a> RowsEvent<'a> {
         ensures kept { IfOk result (λ _. KeptServes kept.new table.now self.now) }
         ensures err { IfErr result (λ e. e ≡ Fault.Memory) }
     {
-        let not_shared: Option<&Arc<TableMapEvent<'static>>> = None;
-        self.rows_by_table(alloc, table, not_shared, kept)
+        self.lent_rows_by(alloc, self.rows_data(), table, kept)
     }
 
     /// Returns an iterator over the pairs of rows, as `rows_by` does. A plan that is kept shares the
@@ -335,7 +333,7 @@ impl<'a> RowsEvent<'a> {
         ensures kept { IfOk result (λ _. KeptServes kept.new (arc_value table.now) self.now) }
         ensures err { IfErr result (λ e. e ≡ Fault.Memory) }
     {
-        self.rows_by_table(alloc, table, Some(table), kept)
+        self.lent_rows_by_shared(alloc, self.rows_data(), table, kept)
     }
 
     /// Returns an iterator over the pairs of rows, as `rows_by` does, if the plan that is kept serves
@@ -353,6 +351,73 @@ impl<'a> RowsEvent<'a> {
         ensures serves { IfOk result (λ o. IsSome o ↔ KeptServes kept.now table.now self.now) }
         ensures err { IfErr result (λ e. e ≡ Fault.Memory) }
     {
+        self.lent_rows_if_served(alloc, self.rows_data(), table, kept)
+    }
+
+    /// Returns an iterator over the pairs of rows, as `rows_by` does. `rows_data` are the rows data of
+    /// this event, as `read_lent` returns them. The iterator borrows them alone, so it and the cells
+    /// that it lends outlive the event.
+    pub fn lent_rows_by<'d>(
+        &self,
+        alloc: Global,
+        rows_data: &'d [u8],
+        table: &TableMapEvent<'_>,
+        kept: &mut KeptPlan,
+    ) -> Result<RowsEventRows<'d>, Fault>
+        requires { rows_data.now ≡ self.now.rows_data }
+        ensures reads { IfOk result (λ r. Reads table.now self.now r.plans) }
+        ensures left { IfOk result (λ r. r.left ≡ self.now.rows_data) }
+        ensures planned { IfOk result (λ r. r.is_planned ≡ true) }
+        ensures again { KeptServes kept.old table.now self.now → IfOk result (λ r. r.steps ≡ 0) }
+        ensures anew { ¬ (KeptServes kept.old table.now self.now)
+            → IfOk result (IsOf table.now self.now) }
+        ensures kept { IfOk result (λ _. KeptServes kept.new table.now self.now) }
+        ensures err { IfErr result (λ e. e ≡ Fault.Memory) }
+    {
+        let not_shared: Option<&Arc<TableMapEvent<'static>>> = None;
+        self.rows_by_table(alloc, rows_data, table, not_shared, kept)
+    }
+
+    /// Returns an iterator over the pairs of rows, as `rows_by_shared` does, that borrows the rows data
+    /// alone, as that of `lent_rows_by` does.
+    pub fn lent_rows_by_shared<'d>(
+        &self,
+        alloc: Global,
+        rows_data: &'d [u8],
+        table: &Arc<TableMapEvent<'static>>,
+        kept: &mut KeptPlan,
+    ) -> Result<RowsEventRows<'d>, Fault>
+        requires { rows_data.now ≡ self.now.rows_data }
+        ensures reads { IfOk result (λ r. Reads (arc_value table.now) self.now r.plans) }
+        ensures left { IfOk result (λ r. r.left ≡ self.now.rows_data) }
+        ensures planned { IfOk result (λ r. r.is_planned ≡ true) }
+        ensures again { KeptServes kept.old (arc_value table.now) self.now
+            → IfOk result (λ r. r.steps ≡ 0) }
+        ensures anew { ¬ (KeptServes kept.old (arc_value table.now) self.now)
+            → IfOk result (IsOf (arc_value table.now) self.now) }
+        ensures kept { IfOk result (λ _. KeptServes kept.new (arc_value table.now) self.now) }
+        ensures err { IfErr result (λ e. e ≡ Fault.Memory) }
+    {
+        self.rows_by_table(alloc, rows_data, table, Some(table), kept)
+    }
+
+    /// Returns an iterator over the pairs of rows, as `rows_if_served` does, that borrows the rows data
+    /// alone, as that of `lent_rows_by` does.
+    pub fn lent_rows_if_served<'d>(
+        &self,
+        alloc: Global,
+        rows_data: &'d [u8],
+        table: &TableMapEvent<'_>,
+        kept: &KeptPlan,
+    ) -> Result<Option<RowsEventRows<'d>>, Fault>
+        requires { rows_data.now ≡ self.now.rows_data }
+        ensures reads { IfOk result (λ o. IfSome o (λ r. Reads table.now self.now r.plans)) }
+        ensures left { IfOk result (λ o. IfSome o (λ r. r.left ≡ self.now.rows_data)) }
+        ensures planned { IfOk result (λ o. IfSome o (λ r. r.is_planned ≡ true)) }
+        ensures again { IfOk result (λ o. IfSome o (λ r. r.steps ≡ 0)) }
+        ensures serves { IfOk result (λ o. IsSome o ↔ KeptServes kept.now table.now self.now) }
+        ensures err { IfErr result (λ e. e ≡ Fault.Memory) }
+    {
         match kept.plans(table, self) {
             None => Ok(None),
             Some(plans) => {
@@ -361,7 +426,7 @@ impl<'a> RowsEvent<'a> {
                     plans,
                     is_new: false,
                 };
-                Ok(Some(RowsEventRows::by_plans(alloc, self.rows_data(), shared)))
+                Ok(Some(RowsEventRows::by_plans(alloc, rows_data, shared)))
             }
         }
     }

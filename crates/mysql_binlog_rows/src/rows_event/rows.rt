@@ -13,6 +13,9 @@ ghost use Rattle.mysql_binlog_rows.specs.Memory.{in_usize, maybe_bytes, plans_by
 ghost use Rattle.mysql_binlog_rows.specs.Rows.{Reads, PairGives, at_rest, columns_in, plans_of_events, most_of_events};
 ghost use Rattle.mysql_binlog_rows.specs.Columns.{plans_in, is_planned, PlansKept};
 
+mod lent;
+
+pub use self::lent::LentPair;
 use super::event::RowsEvent;
 use crate::row::{BinlogRow, Plan};
 use binlog_base::below::ParseBuf;
@@ -81,7 +84,7 @@ impl<'a> Model for Events<'a> {
     ghost view = { λ u. record { table = u.table.now; event = u.event.now } };
 }
 
-/// Plans that are kept for later events too. If they were made for an earlier event, no step was
+/// Plans that may be kept for later events too. If they were made for an earlier event, no step was
 /// taken for this one.
 #[derive(Drop)]
 pub(super) struct Shared {
@@ -98,12 +101,12 @@ impl Model for Shared {
     ghost view = { λ s. made_by s.is_new (rc_value s.plans) };
 }
 
-/// The events before the first pair is read, and the plans from then on; or plans that are kept.
+/// The events before the first pair is read, and the plans from then on. Plans that are kept are there
+/// from the start. The plans are behind a pointer, so that an iterator is small where it is moved.
 #[derive(Drop)]
 enum Columns<'a> {
     Events(Events<'a>),
-    Plans(Plans),
-    Shared(Shared),
+    Plans(Shared),
 }
 
 /// An iterator over the pairs of rows of a rows event, up to and including its first fault.
@@ -302,6 +305,19 @@ impl Plans {
 }
 
 impl Shared {
+    // Makes the plans of both images of an event. Fails with `Memory` if memory is refused.
+    pub(super) fn make(alloc: Global, events: &Events<'_>) -> Result<Shared, Fault>
+        ensures plans { IfOk result (λ s. s.plans ≡ plans_of_events events.now) }
+        ensures most { IfOk result (λ s. s.steps ≤ most_of_events events.now) }
+        ensures err { IfErr result (λ e. e ≡ Fault.Memory) }
+    {
+        let plans = Rc::new(alloc, Plans::make(alloc, events)?)?;
+        Ok(Shared {
+            plans,
+            is_new: true,
+        })
+    }
+
     // Returns how many steps it took to make the plans for this event.
     fn steps(&self) -> u128
         ensures value { result ≡ self.now.steps }
@@ -325,12 +341,11 @@ fn pair_from<'a>(
     ensures made { result ≢ Err Fault.Memory → is_planned columns.new ≡ true }
 {
     match &*columns {
-        Columns::Plans(plans) => plans.next_pair(alloc, rows_data),
-        Columns::Shared(shared) => shared.plans.next_pair(alloc, rows_data),
+        Columns::Plans(shared) => shared.plans.next_pair(alloc, rows_data),
         Columns::Events(events) => {
-            let plans = Plans::make(alloc, events)?;
-            let answer = plans.next_pair(alloc, rows_data);
-            *columns = Columns::Plans(plans);
+            let shared = Shared::make(alloc, events)?;
+            let answer = shared.plans.next_pair(alloc, rows_data);
+            *columns = Columns::Plans(shared);
             answer
         }
     }
@@ -379,7 +394,7 @@ impl<'a> RowsEventRows<'a> {
         RowsEventRows {
             alloc,
             rows_data,
-            columns: Columns::Shared(plans),
+            columns: Columns::Plans(plans),
         }
     }
 
@@ -398,8 +413,7 @@ impl<'a> RowsEventRows<'a> {
     {
         match &self.columns {
             Columns::Events(_) => 0,
-            Columns::Plans(plans) => plans.steps,
-            Columns::Shared(shared) => shared.steps(),
+            Columns::Plans(shared) => shared.steps(),
         }
     }
 }

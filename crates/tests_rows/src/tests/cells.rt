@@ -1,5 +1,6 @@
 //! Tests of single cells.
 
+use super::lent::lends_cell;
 use super::{all, has_text};
 use ColumnType::{
     MYSQL_TYPE_BIT, MYSQL_TYPE_BLOB, MYSQL_TYPE_DATE, MYSQL_TYPE_DATETIME, MYSQL_TYPE_DATETIME2,
@@ -50,13 +51,16 @@ fn write_cell(
     }
 }
 
-/// Returns whether a cell is read as it is described, and takes all of its bytes.
+/// Returns whether a cell is read as it is described, and takes all of its bytes, and whether a row
+/// lends it as it is owned.
 fn is_read(rt: &HostRuntime, unsigned: bool, cell: Cell) -> bool {
     let (column_type, metadata, bytes, text) = cell;
     let mut room = InlineText::new();
     let mut buf = ParseBuf(bytes);
     let read = buf.parse((rt.alloc(), column_type, metadata, unsigned, false));
-    write_cell(&mut room, read, buf.len()).is_ok() && room.as_str() == text
+    write_cell(&mut room, read, buf.len()).is_ok()
+        && room.as_str() == text
+        && lends_cell(rt.alloc(), column_type, metadata, unsigned, bytes) == Ok(true)
 }
 
 /// Whole numbers and floats.

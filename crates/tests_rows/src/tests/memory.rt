@@ -4,15 +4,15 @@
 //! error of the call that was refused memory; if none was, it asserts the answer. The tests whose
 //! names begin with `nothing` ask for no more memory than the test program itself does.
 
-use super::{TWO_COLUMNS, TWO_ROWS, decode, has_parts, image_counts, images, partial, read};
+use super::{TWO_COLUMNS, TWO_ROWS, decode, has_parts, image_counts, images, lent, partial, read};
 use binlog_base::below::{Column, ColumnType, MyDeserialize, MySerialize, ParseBuf, Value};
 use binlog_base::fault::Fault;
 use binlog_consts::consts::EventType;
 use binlog_table::table_map::TableMapEvent;
 use binlog_values::jsondiff::JsonDiff;
 use mysql_binlog_rows::row::{BinlogRow, BinlogRowToRowError};
-use mysql_binlog_rows::rows_event::{RowPair, RowsEvent, RowsEventCtx, RowsEventRows};
-use mysql_binlog_rows::value::BinlogValue;
+use mysql_binlog_rows::rows_event::{LentPair, RowPair, RowsEvent, RowsEventCtx, RowsEventRows};
+use mysql_binlog_rows::value::{BinlogValue, Timestamp, Year};
 use std::alloc::{AllocError, Global};
 use std::rc::RcSlice;
 use std::test::Fail;
@@ -256,6 +256,97 @@ fn is_bytes(value: &BinlogValue<'_>, text: &[u8]) -> bool {
 #[test]
 fn cells(rt: HostRuntime) -> Result<(), Fail> {
     assert!(rt; is_bytes(&text_cell(rt.alloc())?, b"ab"));
+    Ok(())
+}
+
+/// Returns how many cells the next lent row after a change has; 0 where there is none.
+fn next_len<'a>(rows: &mut RowsEventRows<'a>, pair: &mut LentPair<'a>) -> Result<usize, Fault> {
+    match rows.next_lent(pair) {
+        None => Ok(0),
+        Some(Err(fault)) => Err(fault),
+        Some(Ok(())) => Ok(pair.after().map_or(0, |row| row.len())),
+    }
+}
+
+/// Returns how many cells the next two lent rows after a change have.
+pub(super) fn two_lens<'a>(
+    rows: &mut RowsEventRows<'a>,
+    pair: &mut LentPair<'a>,
+) -> Result<usize, Fault> {
+    let first = next_len(rows, pair)?;
+    Ok(first.wrapping_add(next_len(rows, pair)?))
+}
+
+/// Returns how many cells so many rows of the event of two rows have that are lent.
+fn lent_cells(alloc: Global, rows_count: usize) -> Result<usize, Fault> {
+    let table: TableMapEvent<'_> = ParseBuf(TWO_COLUMNS).parse(8)?;
+    let event = read(TWO_ROWS, EventType::WRITE_ROWS_EVENT, 10)?;
+    cells_lent(alloc, &event, &table, rows_count)
+}
+
+/// Returns how many cells so many rows of an event have, at most two.
+fn cells_lent(
+    alloc: Global,
+    event: &RowsEvent<'_>,
+    table: &TableMapEvent<'_>,
+    rows_count: usize,
+) -> Result<usize, Fault> {
+    let mut rows = event.rows(alloc, table);
+    let mut pair = LentPair::new(alloc);
+    if rows_count < 2 {
+        return next_len(&mut rows, &mut pair);
+    }
+    two_lens(&mut rows, &mut pair)
+}
+
+#[test]
+fn lent_row(rt: HostRuntime) -> Result<(), Fail> {
+    assert!(rt; lent_cells(rt.alloc(), 1)? == 2);
+    Ok(())
+}
+
+#[test]
+fn two_lent_rows(rt: HostRuntime) -> Result<(), Fail> {
+    assert!(rt; lent_cells(rt.alloc(), 2)? == 4);
+    Ok(())
+}
+
+/// Returns how many cells an owned copy of a lent row of two columns has.
+fn owned_cells(alloc: Global) -> Result<usize, Fault> {
+    let table: TableMapEvent<'_> = ParseBuf(TWO_COLUMNS).parse(8)?;
+    let event = read(TWO_ROWS, EventType::WRITE_ROWS_EVENT, 10)?;
+    cells_owned(alloc, &event, &table)
+}
+
+/// Returns how many cells an owned copy of the first row of an event has.
+fn cells_owned(
+    alloc: Global,
+    event: &RowsEvent<'_>,
+    table: &TableMapEvent<'_>,
+) -> Result<usize, Fault> {
+    let mut rows = event.rows(alloc, table);
+    let mut pair = LentPair::new(alloc);
+    let _ = next_len(&mut rows, &mut pair)?;
+    let (_, after) = pair.to_owned(alloc)?;
+    Ok(after.map_or(0, |row| row.len()))
+}
+
+#[test]
+fn texts_of_lent_cells(rt: HostRuntime) -> Result<(), Fail> {
+    let timestamp = Timestamp {
+        seconds: 7,
+        microseconds: 5,
+    };
+    assert!(rt;
+        lent::is_year(rt.alloc(), Year(2019), "2019")?
+            && lent::is_timestamp(rt.alloc(), timestamp, "7.000005")?
+    );
+    Ok(())
+}
+
+#[test]
+fn copy_of_a_lent_row(rt: HostRuntime) -> Result<(), Fail> {
+    assert!(rt; owned_cells(rt.alloc())? == 2);
     Ok(())
 }
 

@@ -83,7 +83,7 @@ fn is_cell(alloc: Global, bytes: &[u8], value: &Value<'_>) -> bool {
 }
 
 /// Shared entries: 14 values in a container of 34 bytes, with the length of the cell before them.
-const SHARED: &[u8] = &[
+pub(super) const SHARED: &[u8] = &[
     0x23, 0, 0, 0, 2, 2, 0, 0x22, 0, 2, 0x0a, 0, 2, 0x0a, 0, 2, 0, 0x18, 0, 2, 0x0a, 0, 2, 0x0a, 0,
     2, 0, 0x0e, 0, 2, 0x0a, 0, 2, 0x0a, 0, 0, 0, 4, 0,
 ];
@@ -143,11 +143,12 @@ fn plain_values(rt: HostRuntime) {
 
 /// A table of two JSON columns.
 pub(super) const TABLE: &[u8] = b"\x01\0\0\0\0\0\x01\0\x01d\0\x01t\0\x02\xf5\xf5\x02\x04\x04\x03";
-/// Partial updates of the second column: a diff, and a whole document.
+/// A partial update of the second column, which has a diff.
 pub(super) const DIFF: &[u8] =
     b"\x01\0\0\0\0\0\x01\0\x02\0\x02\0\x02\x01\x02\0\x05\0\0\0\x02\x03$.a";
 
-const WHOLE: &[u8] = b"\x01\0\0\0\0\0\x01\0\x02\0\x02\0\x02\0\0\x03\0\0\0\x05\x2a\0";
+/// A partial update of the second column, which has the whole document.
+pub(super) const WHOLE: &[u8] = b"\x01\0\0\0\0\0\x01\0\x02\0\x02\0\x02\0\0\x03\0\0\0\x05\x2a\0";
 
 /// Returns the row after the change of the only pair; `None` where the row before it isn't empty.
 fn changed(alloc: Global, rows: &[u8]) -> Option<BinlogRow> {

@@ -1,5 +1,6 @@
 //! Tests of binlog files.
 
+use super::lent::lends;
 use super::{TWO_COLUMNS, TWO_ROWS};
 use binlog_base::below::{Counted, Failed, Source};
 use binlog_base::fault::Fault;
@@ -32,7 +33,7 @@ const DESCRIPTION: &[u8; 99] = b"\x04\08.0.36\0\0\0\0\0\0\0\0\0\0\0\0\0\0\0\0\0\
     \x01";
 
 /// Appends an event with these flags: its header, its body, and its checksum if it has one.
-fn push(
+pub(super) fn push(
     file: &mut Vec<u8>,
     event_type: u8,
     flags: u8,
@@ -66,12 +67,16 @@ fn described(alloc: Global, at: usize, byte: u8) -> Result<Vec<u8>, AllocError> 
 }
 
 /// A file with a format description event by which events have checksums or not.
-fn begun(alloc: Global, has_checksums: bool) -> Result<Vec<u8>, AllocError> {
+pub(super) fn begun(alloc: Global, has_checksums: bool) -> Result<Vec<u8>, AllocError> {
     described(alloc, 98, u8::from(has_checksums))
 }
 
 /// A file of the table map event and these rows events, each with its flags.
-fn with_rows(alloc: Global, has_checksums: bool, rows: &[u8]) -> Result<Vec<u8>, AllocError> {
+pub(super) fn with_rows(
+    alloc: Global,
+    has_checksums: bool,
+    rows: &[u8],
+) -> Result<Vec<u8>, AllocError> {
     let mut file = begun(alloc, has_checksums)?;
     push(&mut file, 0x13, 0, TWO_COLUMNS, has_checksums)?;
     for flags in rows {
@@ -84,7 +89,7 @@ fn with_rows(alloc: Global, has_checksums: bool, rows: &[u8]) -> Result<Vec<u8>,
 }
 
 /// Whether the changes have so many pairs each, and this error follows them.
-fn are(list: &ChangeList<'_>, pairs: &[usize], error: Option<FileError>) -> bool {
+pub(super) fn are(list: &ChangeList<'_>, pairs: &[usize], error: Option<FileError>) -> bool {
     list.error == error
         && list.changes.len() == pairs.len()
         && list
@@ -94,12 +99,14 @@ fn are(list: &ChangeList<'_>, pairs: &[usize], error: Option<FileError>) -> bool
             .all(|(change, count)| change.pairs().len() == *count)
 }
 
-/// Whether the changes of a file have so many pairs each, and no error follows them.
+/// Whether the changes of a file have so many pairs each, and no error follows them. The rows are
+/// owned, and then lent.
 fn gives(alloc: Global, file: &[u8], pairs: &[usize]) -> Result<bool, AllocError> {
-    Ok(are(&changes(alloc, file, AllRows)?, pairs, None))
+    Ok(are(&changes(alloc, file, AllRows)?, pairs, None) && lends(alloc, file)?)
 }
 
-/// Whether the changes of a file have so many pairs each, and this error follows them.
+/// Whether the changes of a file have so many pairs each, and this error follows them. The rows are
+/// owned, and then lent.
 fn fails(
     alloc: Global,
     file: &[u8],
@@ -108,7 +115,7 @@ fn fails(
     error: EventError,
 ) -> Result<bool, AllocError> {
     let error = Some(FileError { position, error });
-    Ok(are(&changes(alloc, file, AllRows)?, pairs, error))
+    Ok(are(&changes(alloc, file, AllRows)?, pairs, error) && lends(alloc, file)?)
 }
 
 #[test]

@@ -7,6 +7,7 @@
 ghost use Rattle.std.specs.Prelude.{◌≤◌};
 
 use super::jsonb::{has_element, has_key_a};
+use super::lent::{self, OBJECT};
 use super::trees;
 use binlog_base::below::{
     BareBytes, ColumnType, EofBytes, LenEnc, MyDeserialize, MySerialize, ParseBuf, RawBytes,
@@ -350,9 +351,6 @@ fn is_copied(alloc: Global, bytes: &[u8]) -> Result<bool, Fault> {
     has_json_copy(alloc, &value)
 }
 
-/// An object of the key `a` and the literal null.
-const OBJECT: &[u8] = b"\0\x01\0\x0c\0\x0b\0\x01\0\x04\0\0a";
-
 #[test]
 fn copies_of_json(rt: HostRuntime) -> Result<(), Fail> {
     let alloc = rt.alloc();
@@ -432,6 +430,26 @@ fn copies_of_trees(rt: HostRuntime) -> Result<(), Fail> {
     for bytes in [trees::OVERLAPPING, OBJECT] {
         let value: Json<'_> = ParseBuf(bytes).parse(())?;
         assert!(rt; has_tree_copy(rt.alloc(), &value.parse(rt.alloc())?)?);
+    }
+    Ok(())
+}
+
+#[test]
+fn lent_documents(rt: HostRuntime) -> Result<(), Fail> {
+    assert!(rt; lent::is_document(rt.alloc(), OBJECT)?);
+    Ok(())
+}
+
+#[test]
+fn lent_diffs(rt: HostRuntime) -> Result<(), Fail> {
+    assert!(rt; lent::are_diffs(rt.alloc(), lent::DIFFS)?);
+    Ok(())
+}
+
+#[test]
+fn lent_decimals(rt: HostRuntime) -> Result<(), Fail> {
+    for (packed, text) in lent::DECIMALS {
+        assert!(rt; lent::shows(rt.alloc(), packed, text)?);
     }
     Ok(())
 }

@@ -1,3 +1,4 @@
+use Rattle.std.proofs.lemmas.Grind.{common_steps}
 use Rattle.std.proofs.Common.{◌≡◌, Err, sym, arith}
 use Rattle.mysql_binlog_rows.specs.Plans.{first_column}
 use Rattle.mysql_binlog_rows.proofs.Plans.{plan_passes, plan_stops, plan_stops_after, plan_ends}
@@ -29,3 +30,12 @@ returns-clause-planned c =
           rw (w.fault-is, w.index-is) (sym (plan_stops_after c.args.table.now slots columns c.loop-index.walk.columns w.skip_columns.new.self.columns c.args.present.now c.loop-index.index w.absent_from-absent.result w.in-Err-skip_columns.passed w.in-Err-skip_columns.e _
           w.in-Err-skip_columns.ensures.gives w.absent_from-absent.ensures.within w.absent_from-absent.ensures.absent c.loop-index.invariant.so_far))
     ]
+
+pub loop-index-preserved-in_ok-push-in-Ok : goal.loop-index-preserved-in_ok-push-in-Ok
+loop-index-preserved-in_ok-push-in-Ok c = grind (arith, common_steps)
+
+pub loop-index-preserved-in_ok-push-in-Ok-2 : goal.loop-index-preserved-in_ok-push-in-Ok-2
+loop-index-preserved-in_ok-push-in-Ok-2 c = grind (arith, common_steps)
+
+pub loop-index-preserved-in_ok-push-in-Ok-3 : goal.loop-index-preserved-in_ok-push-in-Ok-3
+loop-index-preserved-in_ok-push-in-Ok-3 c = grind (arith, common_steps)

@@ -5,7 +5,7 @@ use Rattle.base64.specs.Engines.{standard}
 use Rattle.base64.specs.GeneralPurpose.{encode_of}
 use Rattle.binlog_base.specs.ColumnTypes.{column_number}
 use Rattle.binlog_values.specs.JsonbOpaques.{type_prefix}
-use Rattle.binlog_values.proofs.InlineTexts.{all_written}
+use Rattle.binlog_decimal.proofs.InlineTexts.{all_written}
 use Rattle.binlog_values.proofs.JsonbOpaques.{appended}
 use Rattle.binlog_values.proofs.jsonb.opaque.JsonOpaque.write_text.Goals as goal
 

@@ -1,6 +1,6 @@
 use Rattle.std.proofs.Common.{◌≡◌, take, map}
 use Rattle.std.specs.Option.{option_map}
-use Rattle.mysql_binlog_rows.specs.Cells.{cell_of}
+use Rattle.binlog_cells.specs.Cells.{cell_of}
 use Rattle.mysql_binlog_rows.proofs.row.binlog_row.BinlogRow.clone.Given as goal
 
 abbrev pub invariant-loop-value : goal.invariant-loop-value

@@ -3,8 +3,8 @@ use Rattle.std.specs.Option.{option_map}
 use Rattle.std.proofs.lemmas.List.{length-map}
 use Rattle.std.proofs.lemmas.Result.{err_from_is_err_and}
 use Rattle.binlog_base.specs.Values.{plain_of}
-use Rattle.mysql_binlog_rows.specs.declared.value.BinlogValue.{BinlogValue}
-use Rattle.mysql_binlog_rows.specs.Cells.{Cell, PlainCell, cell_of}
+use Rattle.binlog_cells.specs.declared.value.BinlogValue.{BinlogValue}
+use Rattle.binlog_cells.specs.Cells.{Cell, PlainCell, cell_of}
 use Rattle.mysql_binlog_rows.specs.NotPlain.{IsRefused}
 use Rattle.mysql_binlog_rows.proofs.NotPlain.{refused_at}
 use Rattle.mysql_binlog_rows.proofs.row.binlog_row.BinlogRow.into_row.Goals as goal

@@ -2,7 +2,7 @@ use Rattle.std.proofs.Common.{◌≡◌, map, set, Some, subst}
 use Rattle.std.specs.Option.{option_map}
 use Rattle.std.specs.Rc.{rc_slice_items}
 use Rattle.std.proofs.lemmas.List.{map-set}
-use Rattle.mysql_binlog_rows.specs.Cells.{cell_of}
+use Rattle.binlog_cells.specs.Cells.{cell_of}
 use Rattle.mysql_binlog_rows.specs.Images.{BinlogRow}
 use Rattle.mysql_binlog_rows.proofs.row.binlog_row.BinlogRow.place.Goals as goal
 

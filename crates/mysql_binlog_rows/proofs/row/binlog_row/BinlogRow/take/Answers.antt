@@ -3,7 +3,7 @@ use Rattle.std.specs.Option.{option_map}
 use Rattle.std.specs.Rc.{rc_slice_items}
 use Rattle.std.proofs.lemmas.List.{map-set, length-map}
 use Rattle.std.proofs.lemmas.Option.{slice_get_past}
-use Rattle.mysql_binlog_rows.specs.Cells.{cell_of}
+use Rattle.binlog_cells.specs.Cells.{cell_of}
 use Rattle.mysql_binlog_rows.specs.Images.{BinlogRow}
 use Rattle.mysql_binlog_rows.proofs.row.binlog_row.BinlogRow.take.Goals as goal
 

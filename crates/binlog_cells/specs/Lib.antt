@@ -1,0 +1,7 @@
+-- The definitions that the contracts of this crate use.
+pub mod Cells
+pub mod Pieces
+pub mod LentCells
+pub mod OldTimes
+pub mod Equality
+pub mod Lemmas

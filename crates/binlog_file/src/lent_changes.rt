@@ -1,0 +1,326 @@
+//! Events whose pairs of rows are lent one at a time.
+
+ghost use Rattle.std.specs.Prelude.{◌≡◌, ◌≢◌, ◌<◌, ◌⊎◌, None, Some, IfOk, IfErr, IsSome, length};
+ghost use Rattle.std.specs.Arc.{arc_value};
+ghost use Rattle.binlog_base.specs.declared.fault.Fault.TheVariants as Fault;
+ghost use Rattle.binlog_file.specs.declared.error.EventError.TheVariants as EventError;
+ghost use Rattle.binlog_file.specs.declared.lent_changes.LentEvent.TheVariants as lent;
+ghost use Rattle.binlog_file.specs.TableMaps.{in_maps};
+ghost use Rattle.binlog_file.specs.Changes.{IsMemory, RowsGive, Gives, failure};
+ghost use Rattle.binlog_file.specs.LentChanges as Spec;
+ghost use Rattle.binlog_file.specs.LentEvents as events;
+
+use crate::change::is_dummy;
+use crate::choice::Choice;
+use crate::error::{EventError, FileError};
+use crate::event::Glance;
+use crate::header::BinlogEventHeader;
+use crate::origin::Origin;
+use crate::plans::KeptPlans;
+use crate::tables::TableMaps;
+use binlog_base::below::ParseBuf;
+use binlog_base::fault::Fault;
+use binlog_table::table_map::TableMapEvent;
+use mysql_binlog_rows::rows_event::{LentPair, RowsEvent, RowsEventCtx, RowsEventRows};
+use std::alloc::Global;
+use std::marker::Model;
+use std::sync::Arc;
+
+/// A rows event that is wanted, with its table. Its pairs of rows are lent one at a time, by
+/// `next_pair` of the reading that gave it.
+#[derive(Drop)]
+pub struct LentChange<'a> {
+    origin: Origin,
+    rows: RowsEvent<'a>,
+    table: Arc<TableMapEvent<'static>>,
+    pairs: RowsEventRows<'a>,
+    count: u64,
+}
+
+impl<'a> Model for LentChange<'a> {
+    ghost use Rattle.std.specs.Prelude.{◌<◌, ◌+◌, ◌^◌, length};
+    ghost use Rattle.std.specs.Arc.{arc_value};
+    ghost use Rattle.mysql_binlog_rows.specs.Rows.{Reads};
+    ghost use Rattle.binlog_file.specs.LentChanges as Spec;
+
+    ghost Value = { Spec.LentChange };
+
+    ghost view = { λ c. record {
+      origin = c.origin;
+      rows = c.rows;
+      table = arc_value c.table;
+      left = c.pairs.left;
+      count = c.count;
+    } };
+
+    ghost invariant = { λ c. Reads (arc_value c.table) c.rows c.pairs.plans
+        × (c.count + length c.pairs.left < 2 ^ 64) };
+}
+
+/// An event that gives no change: one of another type, a rows event that isn't wanted, or MySQL's rows
+/// event that only ends a statement.
+#[derive(Drop)]
+pub struct OtherEvent<'a> {
+    origin: Origin,
+    header: BinlogEventHeader,
+    body: &'a [u8],
+}
+
+impl<'a> Model for OtherEvent<'a> {
+    ghost use Rattle.binlog_file.specs.LentChanges as Spec;
+
+    ghost Value = { Spec.OtherEvent };
+
+    ghost view = { λ e. record { origin = e.origin; header = e.header; body = e.body.now } };
+}
+
+/// An event of a reading: a rows event that is wanted, or any other one.
+#[derive(Drop)]
+pub enum LentEvent<'a> {
+    Rows(LentChange<'a>),
+    Other(OtherEvent<'a>),
+}
+
+// Returns the error of the pair with this number.
+fn pair_error(number: u64, fault: Fault) -> EventError
+    ensures { IsMemory result ⊎ ((fault ≢ Fault.Memory) × (result ≡ EventError.RowsData number fault)) }
+{
+    match fault {
+        Fault::Memory => EventError::Memory,
+        _ => EventError::RowsData(number, fault),
+    }
+}
+
+impl<'a> LentChange<'a> {
+    /// Returns where the event comes from.
+    pub fn origin(&self) -> Origin
+        ensures { result ≡ self.now.origin }
+    {
+        self.origin
+    }
+
+    /// Returns where the event begins in the file.
+    pub fn position(&self) -> u64
+        ensures { result ≡ self.now.origin.position }
+    {
+        self.origin.position
+    }
+
+    /// Returns the rows event.
+    pub fn rows(&self) -> &RowsEvent<'a>
+        ensures { result.now ≡ self.now.rows }
+    {
+        &self.rows
+    }
+
+    /// Returns the table map event that is in force for the event.
+    pub fn table(&self) -> &TableMapEvent<'static>
+        ensures { result.now ≡ self.now.table }
+    {
+        &self.table
+    }
+
+    // Returns the error of the pair that comes next, which can't be read.
+    fn error_of(&self, fault: Fault) -> FileError
+        ensures position { result.position ≡ self.now.origin.position }
+        ensures error { IsMemory result.error
+            ⊎ ((fault ≢ Fault.Memory) × (result.error ≡ EventError.RowsData self.now.count fault)) }
+    {
+        FileError {
+            position: self.origin.position,
+            error: pair_error(self.count, fault),
+        }
+    }
+
+    // Reads the next pair of rows into a buffer. `None` where no rows data is left.
+    pub(crate) fn next_pair(&mut self, pair: &mut LentPair<'a>) -> Option<Result<(), FileError>>
+        ensures gives { Spec.PairGives self.old pair.new result self.new }
+        ensures shrinks { IsSome result → length self.new.left < length self.old.left }
+    {
+        match self.pairs.next_lent(pair)? {
+            Ok(()) => {
+                self.count += 1;
+                Some(Ok(()))
+            }
+            Err(fault) => Some(Err(self.error_of(fault))),
+        }
+    }
+}
+
+impl<'a> OtherEvent<'a> {
+    /// Returns where the event comes from.
+    pub fn origin(&self) -> Origin
+        ensures { result ≡ self.now.origin }
+    {
+        self.origin
+    }
+
+    /// Returns where the event begins in the file.
+    pub fn position(&self) -> u64
+        ensures { result ≡ self.now.origin.position }
+    {
+        self.origin.position
+    }
+
+    /// Returns the event's header.
+    pub fn header(&self) -> BinlogEventHeader
+        ensures { result ≡ self.now.header }
+    {
+        self.header
+    }
+
+    /// Returns the event's body: the bytes after the header, without a checksum.
+    pub fn body(&self) -> &'a [u8]
+        ensures { result.now ≡ self.now.body }
+    {
+        self.body
+    }
+}
+
+// Returns an event as it is.
+fn other<'a>(glance: Glance<'a>) -> LentEvent<'a>
+    ensures { result ≡ lent.Other (events.other_of glance.entry) }
+{
+    LentEvent::Other(OtherEvent {
+        origin: glance.origin(),
+        header: glance.header,
+        body: glance.body,
+    })
+}
+
+// Returns the error of an event.
+fn error_at(glance: &Glance<'_>, error: EventError) -> FileError
+    ensures position { result.position ≡ glance.now.origin.position }
+    ensures error { result.error ≡ error }
+{
+    FileError {
+        position: glance.position,
+        error,
+    }
+}
+
+// Returns a rows event whose pairs are read with this table, by the plan that is kept for it. Fails if
+// memory is refused.
+fn open<'a>(
+    alloc: Global,
+    plans: &mut KeptPlans,
+    table: &Arc<TableMapEvent<'static>>,
+    origin: Origin,
+    rows: RowsEvent<'a>,
+    rows_data: &'a [u8],
+) -> Result<LentChange<'a>, Fault>
+    requires { rows_data.now ≡ rows.rows_data }
+    ensures opened { IfOk result (λ c. c ≡ Spec.unread origin rows.entry (arc_value table.now)) }
+    ensures err { IfErr result (λ e. e ≡ Fault.Memory) }
+    ensures most { plans.new.stored.most ≡ plans.old.stored.most }
+{
+    let pairs = plans.rows(alloc, table, &rows, rows_data)?;
+    let table = Arc::try_clone(table)?;
+    Ok(LentChange {
+        origin,
+        rows,
+        table,
+        pairs,
+        count: 0,
+    })
+}
+
+// Returns a rows event if it is wanted, else the event as it is.
+fn open_if_wanted<'a, C: Choice>(
+    alloc: Global,
+    choice: &C,
+    plans: &mut KeptPlans,
+    table: &Arc<TableMapEvent<'static>>,
+    glance: Glance<'a>,
+    rows: RowsEvent<'a>,
+    rows_data: &'a [u8],
+) -> Result<LentEvent<'a>, FileError>
+    requires { rows_data.now ≡ rows.rows_data }
+    ensures ok { IfOk result (events.IsChosen (C.wanted choice.now) (arc_value table.now) glance.entry
+        rows.entry) }
+    ensures err { IfErr result (events.IsRefused glance.entry) }
+    ensures most { plans.new.stored.most ≡ plans.old.stored.most }
+{
+    let origin = glance.origin();
+    if !choice.wants(origin.position, table, rows.event_type()) {
+        return Ok(other(glance));
+    }
+    match open(alloc, plans, table, origin, rows, rows_data) {
+        Ok(change) => Ok(LentEvent::Rows(change)),
+        Err(_) => Err(error_at(&glance, EventError::Memory)),
+    }
+}
+
+// Returns a rows event that was read if it is wanted, else the event as it is.
+#[tactic(auto, using(crate::proofs::LentShown::other_shown, crate::proofs::LentShown::chosen_if, crate::proofs::LentShown::refused, crate::proofs::LentShown::no_table))]
+fn show_rows<'a, C: Choice>(
+    alloc: Global,
+    choice: &C,
+    plans: &mut KeptPlans,
+    tables: &TableMaps,
+    glance: Glance<'a>,
+    rows: RowsEvent<'a>,
+    rows_data: &'a [u8],
+) -> Result<LentEvent<'a>, FileError>
+    requires { rows_data.now ≡ rows.rows_data }
+    ensures ok { IfOk result (events.RowsShow (C.wanted choice.now) (in_maps tables.now) glance.entry
+        rows.entry) }
+    ensures err { IfErr result (events.RowsFail (C.wanted choice.now) (in_maps tables.now) glance.entry
+        rows.entry) }
+    ensures most { plans.new.stored.most ≡ plans.old.stored.most }
+{
+    if is_dummy(&rows) {
+        return Ok(other(glance));
+    }
+    let table_id = rows.table_id();
+    match tables.shared_tme(table_id) {
+        None => Err(error_at(&glance, EventError::UnknownTable(table_id))),
+        Some(table) => open_if_wanted(alloc, choice, plans, table, glance, rows, rows_data),
+    }
+}
+
+// Reads a rows event from its body, and returns it if it is wanted, else the event as it is. It isn't
+// inlined, so that an event of another type, of which there are most, needs no room for what is read here.
+#[inline(never)]
+#[tactic(auto, using(crate::proofs::LentShown::body_shown, crate::proofs::LentShown::rows_failed, crate::proofs::LentShown::body_failed))]
+fn show_body<'a, C: Choice>(
+    alloc: Global,
+    choice: &C,
+    plans: &mut KeptPlans,
+    tables: &TableMaps,
+    glance: Glance<'a>,
+    ctx: RowsEventCtx,
+) -> Result<LentEvent<'a>, FileError>
+    requires { glance.rows ≡ Some ctx }
+    ensures ok { IfOk result (events.Shows (C.wanted choice.now) (in_maps tables.now) glance.entry) }
+    ensures err { IfErr result (events.GivesError (C.wanted choice.now) (in_maps tables.now)
+        glance.entry) }
+    ensures most { plans.new.stored.most ≡ plans.old.stored.most }
+{
+    match RowsEvent::read_lent(ctx, &mut ParseBuf(glance.body)) {
+        Err(fault) => Err(error_at(&glance, EventError::RowsEvent(fault))),
+        Ok((rows, rows_data)) => {
+            show_rows(alloc, choice, plans, tables, glance, rows, rows_data)
+        }
+    }
+}
+
+/// Returns the event that was glanced at, or the error that it gives.
+#[tactic(auto, using(crate::proofs::LentShown::nothing_shown))]
+pub(crate) fn show<'a, C: Choice>(
+    alloc: Global,
+    choice: &C,
+    plans: &mut KeptPlans,
+    tables: &TableMaps,
+    glance: Glance<'a>,
+) -> Result<LentEvent<'a>, FileError>
+    ensures ok { IfOk result (events.Shows (C.wanted choice.now) (in_maps tables.now) glance.entry) }
+    ensures err { IfErr result (events.GivesError (C.wanted choice.now) (in_maps tables.now)
+        glance.entry) }
+    ensures most { plans.new.stored.most ≡ plans.old.stored.most }
+{
+    match glance.rows {
+        None => Ok(other(glance)),
+        Some(ctx) => show_body(alloc, choice, plans, tables, glance, ctx),
+    }
+}

@@ -1,5 +1,0 @@
-use Rattle.std.proofs.Common.{◌≡◌, ◌-◌, ◌++◌, map, take, drop}
-use Rattle.binlog_values.proofs.digits.make_digits.Given as goal
-
-abbrev pub invariant-loop-character : goal.invariant-loop-character
-invariant-loop-character l = l.characters ≡ map (λ c. c - 48) (take l.character-index l.initial.characters) ++ drop l.character-index l.initial.characters

@@ -1,5 +1,0 @@
-use Rattle.binlog_values.proofs.DecimalPrinting.{printed_again}
-use Rattle.binlog_values.proofs.laws.printed_decimals_read_back.Goals as goal
-
-pub returns : goal.returns
-returns c = printed_again

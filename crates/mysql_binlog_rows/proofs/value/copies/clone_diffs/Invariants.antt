@@ -1,5 +1,0 @@
-use Rattle.std.proofs.Common.{◌≡◌, take}
-use Rattle.mysql_binlog_rows.proofs.value.copies.clone_diffs.Given as goal
-
-abbrev pub invariant-loop-diff : goal.invariant-loop-diff
-invariant-loop-diff l = l.copies.items ≡ take l.diff-index l.diffs

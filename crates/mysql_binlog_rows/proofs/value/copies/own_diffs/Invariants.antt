@@ -1,5 +1,0 @@
-use Rattle.std.proofs.Common.{◌≡◌, ◌++◌}
-use Rattle.mysql_binlog_rows.proofs.value.copies.own_diffs.Given as goal
-
-abbrev pub invariant-loop-diff : goal.invariant-loop-diff
-invariant-loop-diff l = l.owned.items ++ l.diff-iterator.rest.items ≡ l.fn.diffs.items

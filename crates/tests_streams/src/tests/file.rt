@@ -1,6 +1,5 @@
 //! Tests of binlog files.
 
-use super::lent::lends;
 use super::{TWO_COLUMNS, TWO_ROWS};
 use binlog_base::below::{Counted, Failed, Source};
 use binlog_base::fault::Fault;
@@ -89,7 +88,7 @@ pub(super) fn with_rows(
 }
 
 /// Whether the changes have so many pairs each, and this error follows them.
-pub(super) fn are(list: &ChangeList<'_>, pairs: &[usize], error: Option<FileError>) -> bool {
+fn are(list: &ChangeList<'_>, pairs: &[usize], error: Option<FileError>) -> bool {
     list.error == error
         && list.changes.len() == pairs.len()
         && list
@@ -99,14 +98,12 @@ pub(super) fn are(list: &ChangeList<'_>, pairs: &[usize], error: Option<FileErro
             .all(|(change, count)| change.pairs().len() == *count)
 }
 
-/// Whether the changes of a file have so many pairs each, and no error follows them. The rows are
-/// owned, and then lent.
+/// Whether the changes of a file have so many pairs each, and no error follows them.
 fn gives(alloc: Global, file: &[u8], pairs: &[usize]) -> Result<bool, AllocError> {
-    Ok(are(&changes(alloc, file, AllRows)?, pairs, None) && lends(alloc, file)?)
+    Ok(are(&changes(alloc, file, AllRows)?, pairs, None))
 }
 
-/// Whether the changes of a file have so many pairs each, and this error follows them. The rows are
-/// owned, and then lent.
+/// Whether the changes of a file have so many pairs each, and this error follows them.
 fn fails(
     alloc: Global,
     file: &[u8],
@@ -115,7 +112,7 @@ fn fails(
     error: EventError,
 ) -> Result<bool, AllocError> {
     let error = Some(FileError { position, error });
-    Ok(are(&changes(alloc, file, AllRows)?, pairs, error) && lends(alloc, file)?)
+    Ok(are(&changes(alloc, file, AllRows)?, pairs, error))
 }
 
 #[test]

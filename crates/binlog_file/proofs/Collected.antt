@@ -1,6 +1,6 @@
 -- The events that were collected so far, and those that are left.
 use Rattle.std.proofs.Common.{◌≡◌, ℕ, ◌+◌, true, false, List, [], ◌∷◌, ◌++◌, length, drop, Option, Some, None, Ok, Err, refl, subst, append_assoc, append-nil}
-use Rattle.binlog_file.specs.declared.error.FileError.{FileError}
+use Rattle.binlog_events.specs.declared.error.FileError.{FileError}
 use Rattle.binlog_file.specs.Description.{Description}
 use Rattle.binlog_file.specs.Events.{Event, Place, AreLeft, AreEvents, AreEventsOfFile, NextGives, first_place, SoFar, is_binlog, no_binlog, after}
 

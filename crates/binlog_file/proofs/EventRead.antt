@@ -2,7 +2,7 @@
 use Rattle.std.proofs.Common.{◌≡◌, ℕ, ◌≤◌, List, [], ◌++◌, length, length-append, Option, Some, None, Result, Ok, Err, refl, sym, ap, subst, ◌∙◌, append-nil, inl, inr, arith}
 use Rattle.std.specs.Result.{IsErrAnd}
 use Rattle.binlog_base.specs.Format.{Parses}
-use Rattle.binlog_file.specs.declared.error.EventError.{EventError}
+use Rattle.binlog_events.specs.declared.error.EventError.{EventError}
 use Rattle.binlog_file.specs.Lemmas.Formats.{exact_event_of_raw}
 use Rattle.binlog_file.specs.Events.{Raw, raw_event, Event, event, Glance, event_of_raw}
 use Rattle.binlog_file.specs.Stream.{Kept, kept_after, RawGives, ReadGives, GlanceGives}

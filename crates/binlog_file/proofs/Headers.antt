@@ -1,7 +1,7 @@
 -- The header of a file is taken from a source.
 use Rattle.std.proofs.Common.{◌≡◌, ◌⊎◌, ℕ, zero, suc, ◌<◌, ◌≤◌, false, List, ◌++◌, length, take, Option, inl, inr, arith}
 use Rattle.std.proofs.lemmas.List.{take-append-le}
-use Rattle.binlog_file.specs.declared.error.FileError.{FileError}
+use Rattle.binlog_events.specs.declared.error.FileError.{FileError}
 use Rattle.binlog_file.specs.Events.{is_binlog, no_binlog}
 use Rattle.binlog_file.specs.Stream.{Fills, NoHeader}
 use Rattle.binlog_file.proofs.RawRead.{all_taken, all_left}

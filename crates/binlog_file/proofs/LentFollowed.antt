@@ -13,10 +13,10 @@ use Rattle.mysql_binlog_rows.specs.Images.{Pair, pair}
 use Rattle.mysql_binlog_rows.specs.Rows.{ItemGives}
 use Rattle.mysql_binlog_rows.specs.Cover.{IsPair, Covers}
 use Rattle.mysql_binlog_rows.specs.Cover as cover
-use Rattle.binlog_file.specs.declared.error.EventError.{EventError}
-use Rattle.binlog_file.specs.declared.error.EventError.TheVariants as error
-use Rattle.binlog_file.specs.declared.error.FileError.{FileError}
-use Rattle.binlog_file.specs.declared.origin.Origin.{Origin}
+use Rattle.binlog_events.specs.declared.error.EventError.{EventError}
+use Rattle.binlog_events.specs.declared.error.EventError.TheVariants as error
+use Rattle.binlog_events.specs.declared.error.FileError.{FileError}
+use Rattle.binlog_events.specs.declared.origin.Origin.{Origin}
 use Rattle.binlog_file.specs.declared.lent_changes.LentEvent.{LentEvent}
 use Rattle.binlog_file.specs.declared.lent_changes.LentEvent.TheVariants as lent
 use Rattle.binlog_file.specs.Events.{Event, Glance, glance_of, origin_of, Place, NextGives}

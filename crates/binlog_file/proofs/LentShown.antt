@@ -5,9 +5,9 @@ use Rattle.binlog_base.specs.declared.fault.Fault.{Fault}
 use Rattle.binlog_table.specs.TableMap.{TableMap}
 use Rattle.mysql_binlog_rows.specs.declared.rows_event.event.RowsEventCtx.{RowsEventCtx}
 use Rattle.mysql_binlog_rows.specs.RowsEvent.{RowsEvent, rows_event}
-use Rattle.binlog_file.specs.declared.error.EventError.{EventError}
-use Rattle.binlog_file.specs.declared.error.EventError.TheVariants as error
-use Rattle.binlog_file.specs.declared.error.FileError.{FileError}
+use Rattle.binlog_events.specs.declared.error.EventError.{EventError}
+use Rattle.binlog_events.specs.declared.error.EventError.TheVariants as error
+use Rattle.binlog_events.specs.declared.error.FileError.{FileError}
 use Rattle.binlog_file.specs.declared.lent_changes.LentEvent.{LentEvent}
 use Rattle.binlog_file.specs.declared.lent_changes.LentEvent.TheVariants as lent
 use Rattle.binlog_file.specs.Events.{Glance}

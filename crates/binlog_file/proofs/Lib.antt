@@ -1,7 +1,3 @@
-pub mod Remainders
-pub mod CrcTables
-pub mod Words
-pub mod Reading
 pub mod TablesLeft
 pub mod Collected
 pub mod Rest

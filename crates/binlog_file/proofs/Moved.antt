@@ -5,8 +5,8 @@ use Rattle.std.proofs.lemmas.Bool.Decides.{nat_tests}
 use Rattle.std.specs.Bool.{MatchBool}
 use Rattle.binlog_base.specs.Format.{FormatOf, all_of, map_value, map_fault}
 use Rattle.binlog_table.specs.TableMap.{TableMap, table_map_of}
-use Rattle.binlog_file.specs.declared.error.EventError.{EventError}
-use Rattle.binlog_file.specs.declared.error.EventError.TheVariants as error
+use Rattle.binlog_events.specs.declared.error.EventError.{EventError}
+use Rattle.binlog_events.specs.declared.error.EventError.TheVariants as error
 use Rattle.binlog_file.specs.Header.{Header}
 use Rattle.binlog_file.specs.Description.{Description, description, post_header_len}
 use Rattle.binlog_file.specs.Stored.{is_gtid}

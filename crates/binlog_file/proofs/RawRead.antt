@@ -7,8 +7,8 @@ use Rattle.binlog_base.specs.Format.{FormatOf, Parses, within, map_fault}
 use Rattle.binlog_base.specs.Lemmas.Format.{exact_within, exact_map_fault}
 use Rattle.binlog_base.specs.Format.{IsExactOf}
 use Rattle.binlog_base.specs.Sources.{IsLeft}
-use Rattle.binlog_file.specs.declared.error.EventError.{EventError}
-use Rattle.binlog_file.specs.declared.error.EventError.TheVariants as error
+use Rattle.binlog_events.specs.declared.error.EventError.{EventError}
+use Rattle.binlog_events.specs.declared.error.EventError.TheVariants as error
 use Rattle.binlog_file.specs.Header.{Header, header}
 use Rattle.binlog_file.specs.Lemmas.Formats.{Any, exact_header}
 use Rattle.binlog_file.specs.Events.{Raw, raw, raw_event, rest_len}

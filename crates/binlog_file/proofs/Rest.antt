@@ -1,10 +1,10 @@
 -- From each place on, the bytes are events, and then nothing or an error.
 use Rattle.std.proofs.Common.{◌≡◌, ℕ, zero, suc, ◌+◌, ◌≤◌, List, [], ◌∷◌, length, length-append, Option, Some, None, Ok, Err, refl, ap, arith}
-use Rattle.binlog_file.specs.declared.error.FileError.{FileError}
+use Rattle.binlog_events.specs.declared.error.FileError.{FileError}
 use Rattle.binlog_file.specs.Lemmas.Formats.{exact_event}
 use Rattle.binlog_file.specs.Description.{Description}
 use Rattle.binlog_file.specs.Events.{Event, event, after, AreEvents}
-use Rattle.binlog_file.proofs.Reading.{long}
+use Rattle.binlog_events.proofs.Reading.{long}
 
 abbrev Rest : ℕ → Option Description → List ℕ → Type 0
 Rest at d x = (es : List Event) × (end : Option FileError) × AreEvents at d x es end

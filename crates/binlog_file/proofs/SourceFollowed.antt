@@ -4,14 +4,14 @@ use Rattle.std.proofs.lemmas.Bool.{false≢true}
 use Rattle.std.specs.Prelude.{◌↔◌, if◌then◌else◌, IsTrue, IsErr}
 use Rattle.std.specs.Io.KnownBytes.{Consumes}
 use Rattle.binlog_base.specs.Sources.{IsLeft}
-use Rattle.binlog_file.specs.declared.error.EventError.{EventError}
-use Rattle.binlog_file.specs.declared.error.FileError.{FileError}
+use Rattle.binlog_events.specs.declared.error.EventError.{EventError}
+use Rattle.binlog_events.specs.declared.error.FileError.{FileError}
 use Rattle.binlog_file.specs.Events.{Event, Glance, glance_of, Place, NextGives, event}
 use Rattle.binlog_file.specs.Tables.{InForce, in_force_after}
 use Rattle.binlog_file.specs.Stream.{Kept, Reading, IsOutside, EventGives, ReaderGives, ReaderGlances, MayGoOn}
 use Rattle.binlog_file.specs.Changes.{Wanted, Change, spot, TakeGives}
 use Rattle.binlog_file.specs.SourceChanges.{Found, Finds, place_at, spot_at, SourceTakes, turns}
-use Rattle.binlog_file.proofs.Reading.{long}
+use Rattle.binlog_events.proofs.Reading.{long}
 use Rattle.binlog_file.proofs.Sized.{sized}
 use Rattle.binlog_file.proofs.Followed.{no_step, error_taken, other_taken}
 

@@ -8,10 +8,10 @@ use Rattle.mysql_binlog_rows.specs.declared.rows_event.event.RowsEventCtx.{RowsE
 use Rattle.mysql_binlog_rows.specs.RowsEvent.{RowsEvent, rows_event}
 use Rattle.mysql_binlog_rows.specs.Images.{Pair, pair}
 use Rattle.mysql_binlog_rows.specs.Cover.{Covers}
-use Rattle.binlog_file.specs.declared.error.EventError.{EventError}
-use Rattle.binlog_file.specs.declared.error.EventError.TheVariants as error
-use Rattle.binlog_file.specs.declared.error.FileError.{FileError}
-use Rattle.binlog_file.specs.declared.origin.Origin.{Origin}
+use Rattle.binlog_events.specs.declared.error.EventError.{EventError}
+use Rattle.binlog_events.specs.declared.error.EventError.TheVariants as error
+use Rattle.binlog_events.specs.declared.error.FileError.{FileError}
+use Rattle.binlog_events.specs.declared.origin.Origin.{Origin}
 use Rattle.binlog_file.specs.Events.{Event, origin_of, AreEventsOfFile, Place, AreLeft, first_place}
 use Rattle.binlog_file.specs.Tables.{Tables, InForce, nothing_in_force, in_force_after}
 

@@ -1,7 +1,7 @@
 -- Checkpoints: bytes from which a reading goes on.
 use Rattle.std.specs.Prelude.{◌≡◌, ℕ, if◌then◌else◌, List, [], ◌∷◌, ◌++◌, map, Option, Some, None}
 use Rattle.std.specs.Option.{option_map}
-use Rattle.binlog_file.specs.declared.error.FileError.{FileError}
+use Rattle.binlog_events.specs.declared.error.FileError.{FileError}
 use Rattle.binlog_file.specs.Description.{Description}
 use Rattle.binlog_file.specs.Events.{Event, event, after, AreEvents, AreEventsOfFile, magic}
 use Rattle.binlog_file.specs.Tables.{InForce, nothing_in_force, in_force_after, in_force_after_all}

@@ -1,8 +1,8 @@
 -- What a reading of changes in memory does with an event.
 use Rattle.std.specs.Prelude.{◌≡◌, ◌⊎◌, ℕ, ◌+◌, ◌<◌, ◌≤◌, List, [], length, Result, Ok, Err, Option, Some, None}
 use Rattle.binlog_base.specs.Format.{Parses, SpellsPrefix}
-use Rattle.binlog_file.specs.declared.error.EventError.{EventError}
-use Rattle.binlog_file.specs.declared.error.FileError.{FileError}
+use Rattle.binlog_events.specs.declared.error.EventError.{EventError}
+use Rattle.binlog_events.specs.declared.error.FileError.{FileError}
 use Rattle.binlog_file.specs.Description.{Description}
 use Rattle.binlog_file.specs.Events.{Raw, Event, Glance, glance_of, event, event_of_raw, Place, Steps}
 use Rattle.binlog_file.specs.Tables.{InForce, in_force_after}

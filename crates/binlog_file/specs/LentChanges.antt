@@ -6,10 +6,10 @@ use Rattle.binlog_table.specs.TableMap.{TableMap}
 use Rattle.mysql_binlog_rows.specs.RowsEvent.{RowsEvent}
 use Rattle.mysql_binlog_rows.specs.Images.{Pair, pair}
 use Rattle.mysql_binlog_rows.specs.Cover.{IsPair, EndsWith, Covers}
-use Rattle.binlog_file.specs.declared.error.EventError.{EventError}
-use Rattle.binlog_file.specs.declared.error.EventError.TheVariants as error
-use Rattle.binlog_file.specs.declared.error.FileError.{FileError}
-use Rattle.binlog_file.specs.declared.origin.Origin.{Origin}
+use Rattle.binlog_events.specs.declared.error.EventError.{EventError}
+use Rattle.binlog_events.specs.declared.error.EventError.TheVariants as error
+use Rattle.binlog_events.specs.declared.error.FileError.{FileError}
+use Rattle.binlog_events.specs.declared.origin.Origin.{Origin}
 use Rattle.binlog_file.specs.Header.{Header}
 use Rattle.binlog_file.specs.Tables.{Tables}
 use Rattle.binlog_file.specs.Changes.{Wanted, is_dummy, IsMemory, Change}

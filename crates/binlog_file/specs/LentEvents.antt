@@ -7,8 +7,8 @@ use Rattle.mysql_binlog_rows.specs.declared.rows_event.event.RowsEventCtx.{RowsE
 use Rattle.mysql_binlog_rows.specs.RowsEvent.{RowsEvent, rows_event}
 use Rattle.mysql_binlog_rows.specs.Images.{Pair, pair}
 use Rattle.mysql_binlog_rows.specs.Cover.{Covers}
-use Rattle.binlog_file.specs.declared.error.EventError.{EventError}
-use Rattle.binlog_file.specs.declared.error.FileError.{FileError}
+use Rattle.binlog_events.specs.declared.error.EventError.{EventError}
+use Rattle.binlog_events.specs.declared.error.FileError.{FileError}
 use Rattle.binlog_file.specs.declared.lent_changes.LentEvent.{LentEvent}
 use Rattle.binlog_file.specs.declared.lent_changes.LentEvent.TheVariants as lent
 use Rattle.binlog_file.specs.Events.{Event, Glance, glance_of, Place, NextGives}

@@ -1,14 +1,15 @@
--- The definitions that the contracts of this crate rest on.
-pub mod Crc32
-pub mod Header
-pub mod Version
-pub mod Description
-pub mod Events
-pub mod Lemmas
+-- The definitions that the contracts of this crate rest on. Those of single events are of
+-- `binlog_events`.
+pub use Rattle.binlog_events.specs.Crc32
+pub use Rattle.binlog_events.specs.Header
+pub use Rattle.binlog_events.specs.Version
+pub use Rattle.binlog_events.specs.Description
+pub use Rattle.binlog_events.specs.Events
+pub use Rattle.binlog_events.specs.Lemmas
 pub mod Kept
 pub mod StoredPlans
-pub mod Tables
-pub mod TableBodies
+pub use Rattle.binlog_events.specs.Tables
+pub use Rattle.binlog_events.specs.TableBodies
 pub mod TableMaps
 pub mod Changes
 pub mod LentChanges
@@ -19,6 +20,6 @@ pub mod Stream
 pub mod Readers
 pub mod SourceChanges
 pub mod SourceWalks
-pub mod Stored
+pub use Rattle.binlog_events.specs.Stored
 pub mod Checkpoints
 pub mod Taken

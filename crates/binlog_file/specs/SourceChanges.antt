@@ -1,6 +1,6 @@
 -- Reading the changes of a file from a source, one at a time.
 use Rattle.std.specs.Prelude.{◌≡◌, ℕ, ◌+◌, ◌-◌, ◌*◌, ◌^◌, ◌<◌, Bool, true, false, if◌then◌else◌, List, [], length, Result, Option, Some}
-use Rattle.binlog_file.specs.declared.error.FileError.{FileError}
+use Rattle.binlog_events.specs.declared.error.FileError.{FileError}
 use Rattle.binlog_file.specs.Events.{Place}
 use Rattle.binlog_file.specs.Stream.{Kept, Reading, IsOutside}
 use Rattle.binlog_file.specs.declared.lent_changes.LentEvent.{LentEvent}

@@ -3,9 +3,9 @@
 use Rattle.std.specs.Prelude.{◌≡◌, ◌≢◌, ◌↔◌, ℕ, ◌+◌, ◌-◌, ◌^◌, ◌<◌, ◌≤◌, min, Bool, true, false, IsTrue, List, [], length, Result, Ok, Err, IsErr, Option, Some, None, ◌⊎◌}
 use Rattle.std.specs.Io.KnownBytes.{Consumes, IsAtEnd}
 use Rattle.binlog_base.specs.Sources.{IsLeft}
-use Rattle.binlog_file.specs.declared.error.EventError.{EventError}
-use Rattle.binlog_file.specs.declared.error.EventError.TheVariants as error
-use Rattle.binlog_file.specs.declared.error.FileError.{FileError}
+use Rattle.binlog_events.specs.declared.error.EventError.{EventError}
+use Rattle.binlog_events.specs.declared.error.EventError.TheVariants as error
+use Rattle.binlog_events.specs.declared.error.FileError.{FileError}
 use Rattle.binlog_file.specs.Description.{Description}
 use Rattle.binlog_file.specs.Events.{Raw, raw_event, Event, event, Glance, glance_of, after, is_binlog, no_binlog}
 use Rattle.binlog_file.specs.Tables.{InForce, nothing_in_force, in_force_after}

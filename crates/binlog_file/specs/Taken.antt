@@ -1,7 +1,7 @@
 -- What a reader does with the bytes of an event.
 use Rattle.std.specs.Prelude.{◌≡◌, ◌⊎◌, List, ℕ, ◌++◌, Result, Ok, Err}
 use Rattle.binlog_base.specs.Format.{Parses}
-use Rattle.binlog_file.specs.declared.error.EventError.{EventError}
+use Rattle.binlog_events.specs.declared.error.EventError.{EventError}
 use Rattle.binlog_file.specs.Events.{Raw, Event, Glance, glance_of, event_of_raw}
 use Rattle.binlog_file.specs.Stream.{Kept, kept_after, IsOutside}
 

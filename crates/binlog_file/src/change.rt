@@ -3,18 +3,18 @@
 ghost use Rattle.std.specs.Prelude.{◌≡◌, Some, None, Ok, Err, IfOk, IfErr};
 ghost use Rattle.std.specs.Arc.{arc_value};
 ghost use Rattle.binlog_base.specs.declared.fault.Fault.TheVariants as Fault;
-ghost use Rattle.binlog_file.specs.declared.error.EventError.TheVariants as EventError;
+ghost use Rattle.binlog_events.specs.declared.error.EventError.TheVariants as EventError;
 ghost use Rattle.binlog_file.specs.TableMaps.{in_maps};
 ghost use Rattle.binlog_file.specs.Changes as Spec;
 
 use crate::choice::Choice;
 use crate::error::EventError;
-use crate::event::Glance;
 use crate::origin::Origin;
 use crate::plans::KeptPlans;
 use crate::tables::TableMaps;
 use binlog_base::below::{MyDeserialize, ParseBuf};
 use binlog_base::fault::Fault;
+use binlog_events::event::Glance;
 use binlog_table::table_map::TableMapEvent;
 use mysql_binlog_rows::rows_event::{RowPair, RowsEvent, RowsEventCtx};
 use std::alloc::{AllocError, Global};

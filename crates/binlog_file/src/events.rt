@@ -7,13 +7,13 @@ ghost use Rattle.binlog_file.specs.Changes.{IsMemory};
 ghost use Rattle.binlog_file.specs.Glances.{SeesAt, GlanceSteps};
 ghost use Rattle.binlog_file.specs.TableMaps.{held_by, most_kept};
 
-use crate::description::FormatDescriptionEvent;
 use crate::error::{EventError, FileError};
-use crate::event::{Event, Glance, read_raw};
 use crate::file::{MAGIC, no_binlog};
 use crate::seen::{Seen, see};
 use crate::tables::TableMaps;
 use binlog_base::below::ParseBuf;
+use binlog_events::description::FormatDescriptionEvent;
+use binlog_events::event::{Event, Glance, read_raw};
 use std::alloc::{AllocError, Global};
 use std::marker::Model;
 
@@ -37,7 +37,7 @@ impl<'a> Model for Events<'a> {
 }
 
 // Reads the event at the start of the bytes. Returns it with the bytes after it.
-#[tactic(auto, using(crate::proofs::Reading::long_enough))]
+#[tactic(auto, using(binlog_events::proofs::Reading::long_enough))]
 fn read_at<'a>(
     position: u64,
     in_force: &Option<FormatDescriptionEvent<'a>>,

@@ -8,9 +8,9 @@ ghost use Rattle.binlog_file.specs.Stream as Spec;
 ghost use Rattle.binlog_file.specs.Readers.{kept_by, reading_of};
 
 use crate::error::{EventError, FileError};
-use crate::event::Event;
 use crate::reader::{EventBuffer, EventStreamReader};
 use binlog_base::below::Source;
+use binlog_events::event::Event;
 use std::alloc::Global;
 
 /// The four bytes with which a binlog file begins.

@@ -2,7 +2,7 @@
 
 ghost use Rattle.std.specs.Prelude.{ℕ, List, Option, Result};
 ghost use Rattle.mysql_binlog_rows.specs.Images.{Pair};
-ghost use Rattle.binlog_file.specs.declared.error.FileError.{FileError};
+ghost use Rattle.binlog_events.specs.declared.error.FileError.{FileError};
 ghost use Rattle.binlog_file.specs.declared.lent_changes.LentEvent.{LentEvent};
 ghost use Rattle.binlog_file.specs.Description.{Description};
 ghost use Rattle.binlog_file.specs.Events.{Event, AreEvents};

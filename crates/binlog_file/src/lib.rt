@@ -1,21 +1,16 @@
-//! Binlog files of MySQL and MariaDB: their events, and the changes of rows in them.
+//! Binlog files of MySQL and MariaDB: their events, and the changes of rows in them. An event by
+//! itself is of `binlog_events`.
 #![tactic(auto)]
 
 pub mod change;
 pub mod changes;
 pub mod choice;
-pub mod crc;
-pub mod description;
-pub mod error;
-pub mod event;
 pub mod events;
 pub mod file;
 mod generations;
-pub mod header;
 pub mod laws;
 pub mod lent_changes;
 mod notes;
-pub mod origin;
 mod plans;
 pub mod reader;
 mod seen;
@@ -23,4 +18,15 @@ pub mod source_changes;
 mod stored;
 pub mod tables;
 mod unread;
-mod version;
+
+pub use binlog_events::{crc, error, header, origin};
+
+/// The format description event.
+pub mod description {
+    pub use binlog_events::description::FormatDescriptionEvent;
+}
+
+/// The events of a file, and how one is read.
+pub mod event {
+    pub use binlog_events::event::{BinlogEventFooter, Event};
+}

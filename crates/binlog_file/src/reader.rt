@@ -13,13 +13,13 @@ ghost use Rattle.binlog_file.specs.Tables.{no_tables};
 ghost use Rattle.binlog_file.specs.TableMaps.{in_maps, most_kept};
 ghost use Rattle.binlog_file.specs.Checkpoints.{checkpoint, checkpoint_of};
 
-use crate::description::{FormatDescriptionEvent, OwnedDescription};
 use crate::error::{EventError, FileError};
-use crate::event::{Event, Glance, PlainEvent, Raw, header_of, rest_len};
 use crate::stored::StoredEvents;
 use crate::tables::TableMaps;
 use crate::unread::UnreadTable;
 use binlog_base::below::{Failed, Source};
+use binlog_events::description::{FormatDescriptionEvent, OwnedDescription};
+use binlog_events::event::{Event, Glance, PlainEvent, Raw, header_of, rest_len};
 use binlog_table::table_map::TableMapEvent;
 use std::alloc::{AllocError, Global};
 use std::sync::Arc;

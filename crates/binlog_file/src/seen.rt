@@ -5,11 +5,11 @@ ghost use Rattle.binlog_file.specs.Events.{is_plain};
 ghost use Rattle.binlog_file.specs.Glances.{SeesRaw};
 ghost use Rattle.binlog_file.specs.TableMaps.{held_by, most_kept};
 
-use crate::description::FormatDescriptionEvent;
 use crate::error::EventError;
-use crate::event::{Event, Glance, PlainEvent, Raw};
 use crate::tables::TableMaps;
 use crate::unread::UnreadTable;
+use binlog_events::description::FormatDescriptionEvent;
+use binlog_events::event::{Event, Glance, PlainEvent, Raw};
 use std::alloc::Global;
 use std::marker::Model;
 

@@ -15,13 +15,13 @@ use crate::change::{Change, Given, glance_gives};
 use crate::changes::at_position;
 use crate::choice::Choice;
 use crate::error::{EventError, FileError};
-use crate::event::Glance;
 use crate::file::BinlogFile;
 use crate::lent_changes::{LentChange, LentEvent, show};
 use crate::plans::{KeptPlans, MOST_BYTES};
 use crate::reader::{EventBuffer, EventStreamReader};
 use binlog_base::below::Source;
 use binlog_base::fault::Fault;
+use binlog_events::event::Glance;
 use mysql_binlog_rows::rows_event::LentPair;
 use std::alloc::Global;
 

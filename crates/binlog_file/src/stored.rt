@@ -4,8 +4,8 @@ ghost use Rattle.std.specs.Prelude.{◌≡◌, ◌++◌, [], ◌||◌, if◌then
 ghost use Rattle.binlog_file.specs.Events.{magic};
 ghost use Rattle.binlog_file.specs.Stored as Spec;
 
-use crate::event::{Event, PlainEvent, Raw};
 use crate::file::MAGIC;
+use binlog_events::event::{Event, PlainEvent, Raw};
 use std::alloc::{AllocError, Global};
 use std::marker::Model;
 

@@ -10,9 +10,9 @@ ghost use Rattle.binlog_file.specs.TableMaps.{in_maps, held_by, most_kept};
 ghost use Rattle.binlog_file.specs.Kept.{all_bytes};
 
 use crate::error::EventError;
-use crate::event::{Event, PlainEvent, read_table};
 use crate::generations::{Found, Generations, Weighed};
 use binlog_base::below::{Server, same_bytes};
+use binlog_events::event::{Event, PlainEvent, read_table};
 use binlog_table::table_map::TableMapEvent;
 use byteorder::{ByteOrder, LittleEndian};
 use std::alloc::{AllocError, Global};

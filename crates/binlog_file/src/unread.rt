@@ -8,12 +8,12 @@ ghost use Rattle.binlog_file.specs.Changes.{IsMemory};
 ghost use Rattle.binlog_file.specs.TableBodies.{ReadsTable, event_with, LeavesTable};
 ghost use Rattle.binlog_file.specs.TableMaps.{held_by, most_kept};
 
-use crate::description::FormatDescriptionEvent;
 use crate::error::EventError;
-use crate::event::{Glance, Parts, Raw, has_checksum, parts_of};
 use crate::header::BinlogEventHeader;
 use crate::tables::TableMaps;
 use binlog_base::below::Server;
+use binlog_events::description::FormatDescriptionEvent;
+use binlog_events::event::{Glance, Parts, Raw, has_checksum, parts_of};
 use binlog_table::table_map::TableMapEvent;
 use std::alloc::Global;
 use std::marker::Model;

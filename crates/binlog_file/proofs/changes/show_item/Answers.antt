@@ -1,5 +1,5 @@
 use Rattle.std.proofs.Common.{◌∙◌, Some, Result, subst, sym}
-use Rattle.binlog_file.specs.declared.error.FileError.{FileError}
+use Rattle.binlog_events.specs.declared.error.FileError.{FileError}
 use Rattle.binlog_file.specs.Events.{Glance}
 use Rattle.binlog_file.specs.Glances.{GlanceSteps}
 use Rattle.binlog_file.specs.TableMaps.{held_by}

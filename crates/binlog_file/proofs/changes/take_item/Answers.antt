@@ -1,5 +1,5 @@
 use Rattle.std.proofs.Common.{None, Result, Some, subst, inl, inr}
-use Rattle.binlog_file.specs.declared.error.FileError.{FileError}
+use Rattle.binlog_events.specs.declared.error.FileError.{FileError}
 use Rattle.binlog_file.specs.Events.{Glance}
 use Rattle.binlog_file.specs.Changes.{IsMemory, spot}
 use Rattle.binlog_file.specs.Glances.{GlanceSteps}

@@ -1,12 +1,12 @@
 use Rattle.std.proofs.Common.{◌≡◌, ◌⊎◌, ℕ, List, Option, Result, Ok, Err, sym, subst, inl, inr}
 use Rattle.std.specs.Prelude.{IfErr}
 use Rattle.std.specs.Result.{IsErrAnd}
-use Rattle.binlog_file.specs.declared.error.EventError.{EventError}
+use Rattle.binlog_events.specs.declared.error.EventError.{EventError}
 use Rattle.binlog_file.specs.Description.{Description}
 use Rattle.binlog_file.specs.Events.{event, raw_event}
 use Rattle.binlog_file.specs.Changes.{IsMemory}
 use Rattle.binlog_file.specs.Lemmas.Formats.{exact_raw_event}
-use Rattle.binlog_file.proofs.Reading.{from_raw, read_event, long_enough}
+use Rattle.binlog_events.proofs.Reading.{from_raw, read_event, long_enough}
 use Rattle.binlog_file.proofs.events.see_at.Goals as goal
 
 -- an error that is handed on

@@ -1,7 +1,7 @@
 use Rattle.std.proofs.Common.{◌≡◌, ◌++◌, Option, Result, Ok, Err, sym, subst, ap, ◌∙◌, inl, inr}
 use Rattle.std.specs.Arc.{arc_value}
 use Rattle.std.specs.Result.{IsErrAnd}
-use Rattle.binlog_file.specs.declared.error.EventError.{EventError}
+use Rattle.binlog_events.specs.declared.error.EventError.{EventError}
 use Rattle.binlog_file.specs.Description.{Description}
 use Rattle.binlog_file.specs.Events.{Raw, Glance, event_of_raw}
 use Rattle.binlog_file.specs.Tables.{InForce}

@@ -1,0 +1,4 @@
+pub mod Remainders
+pub mod CrcTables
+pub mod Words
+pub mod Reading

@@ -245,7 +245,7 @@ fn print_lent_source<R: io::Read + Drop, O: Write>(alloc: Global, out: &mut O, f
 
 fn print_lent_events<S: Source + Drop, O: Write>(alloc: Global, out: &mut O, changes: &mut SourceChanges<S, AllRows>) -> io::Result<()> {
     let mut buffer = EventBuffer::new(alloc);
-    while let Some(event) = changes.next_event(&mut buffer) {
+    while let Some(event) = changes.next_event_of(&mut buffer, &[]) {
         match event {
             Ok(LentEvent::Rows(change)) => print_lent_event(alloc, out, changes, change)?,
             Ok(LentEvent::Other(_)) => {}

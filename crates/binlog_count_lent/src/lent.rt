@@ -33,7 +33,7 @@ pub fn from_memory(alloc: Global, file: &[u8]) -> Count {
 fn add_file<'a>(alloc: Global, changes: &mut FileChanges<'a, AllRows>, count: &mut Count) {
     let mut pair = LentPair::new(alloc);
     loop {
-        match changes.next_event() {
+        match changes.next_event_of(&[]) {
             None => return,
             Some(Ok(LentEvent::Rows(change))) => add_change(changes, change, &mut pair, count),
             Some(Ok(LentEvent::Other(_))) => {}
@@ -81,7 +81,7 @@ fn add_source<S: Source + Drop>(
 ) {
     let mut buffer = EventBuffer::new(alloc);
     loop {
-        match changes.next_event(&mut buffer) {
+        match changes.next_event_of(&mut buffer, &[]) {
             None => return,
             Some(Ok(LentEvent::Rows(change))) => add_change_of(alloc, changes, change, count),
             Some(Ok(LentEvent::Other(_))) => {}

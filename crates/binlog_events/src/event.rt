@@ -439,8 +439,8 @@ fn is_supported(header: &BinlogEventHeader) -> bool
         && (is_known(header.event_type()) || header.is_ignorable())
 }
 
-// Returns the type of a rows event; none for the number of another type.
-fn rows_type(number: u8) -> Option<EventType>
+/// Returns the type of a rows event; none for the number of another type.
+pub fn rows_type(number: u8) -> Option<EventType>
     ensures { result ≡ Spec.rows_type number }
 {
     match number {

@@ -6,6 +6,7 @@ use Rattle.binlog_events.specs.declared.error.EventError.{EventError}
 use Rattle.binlog_file.specs.Lemmas.Formats.{exact_event_of_raw}
 use Rattle.binlog_file.specs.Events.{Raw, raw_event, Event, event, Glance, event_of_raw}
 use Rattle.binlog_file.specs.Stream.{Kept, kept_after, RawGives, ReadGives, GlanceGives}
+use Rattle.binlog_file.specs.Readers.{found}
 use Rattle.binlog_file.specs.Taken.{TakesRaw}
 use Rattle.binlog_file.proofs.RawRead.{all_left, not_empty}
 
@@ -52,9 +53,9 @@ event_read old new k l r e h read kept =
 
 -- ---- with a glance in place of the event
 
-pub glance_handed_on : (old new : Option (List ℕ)) (k l : Kept) (r : Result (Option Glance) EventError) (e : EventError) → IsErrAnd r (λ d. d ≡ e) → ReadGives old k (Err e) new l → GlanceGives old k r new l
-glance_handed_on old new k l (Ok x) e is h = absurd is
-glance_handed_on old new k l (Err d) e is h = subst (λ (x : EventError). ReadGives old k (Err x) new l) (sym is) h
+pub sighting_error : {A : Type 0} (f : A → Glance) (old new : Option (List ℕ)) (k l : Kept) (r : Result (Option A) EventError) (e : EventError) → IsErrAnd r (λ d. d ≡ e) → ReadGives old k (Err e) new l → GlanceGives old k (found f r) new l
+sighting_error f old new k l (Ok x) e is h = absurd is
+sighting_error f old new k l (Err d) e is h = subst (λ (x : EventError). ReadGives old k (Err x) new l) (sym is) h
 
 pub glance_read : (old new : Option (List ℕ)) (k l : Kept) (r : Raw) (g : Glance) → RawGives old (Ok (Some r)) new → TakesRaw k r (Ok g) l → GlanceGives old k (Ok (Some g)) new l
 glance_read old new k l r g h t = (t.0, t.1, event_read old new k l r t.0 h t.2 t.3)

@@ -94,7 +94,7 @@ rows_on O w old new e ctx rows c past has spells o =
     (change_given O w (spot old.place old.in_force None) (change_with d ps) (spot new.place new.in_force pending)
     (event_taken O w old.in_force new.in_force old.place new.place new.place e g (Some (change_with d ps)) pending past.gives here past.in_force refl refl (λ _. refl))))
 
-other_on : (w : Wanted) (old new : Spot) (e : Event) → GoesPast old e new → EventGives w new.in_force.tables e nothing → Follows w old [] new
+pub other_on : (w : Wanted) (old new : Spot) (e : Event) → GoesPast old e new → EventGives w new.in_force.tables e nothing → Follows w old [] new
 other_on w old new e past gives =
     let here : EventGives w (in_force_after old.in_force e).tables e nothing = subst (λ (s : InForce). EventGives w s.tables e nothing) past.in_force gives in
     let there : Follows w old [] (spot new.place (in_force_after old.in_force e) None) =

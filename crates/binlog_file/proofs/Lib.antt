@@ -4,13 +4,16 @@ pub mod Rest
 pub mod Changed
 pub mod Followed
 pub mod LentShown
+pub mod Bodies
 pub mod LentFollowed
+pub mod AskedFollowed
 pub mod Filled
 pub mod RawRead
 pub mod EventRead
 pub mod Sized
 pub mod SourceFollowed
 pub mod SourceLent
+pub mod SourceAsked
 pub mod Headers
 pub mod Moved
 pub mod Checkpointed

@@ -1,5 +1,6 @@
 -- The bytes of an event are taken from a source.
-use Rattle.std.proofs.Common.{◌≡◌, ◌≢◌, ◌⊎◌, ℕ, ◌-◌, ◌<◌, ◌≤◌, List, [], ◌∷◌, ◌++◌, length, Option, Some, None, Result, Ok, Err, refl, sym, ap, subst, ◌∙◌, append-nil, inl, inr, arith}
+use Rattle.std.proofs.Common.{◌≡◌, ◌≢◌, ◌⊎◌, ℕ, ◌-◌, ◌<◌, ◌≤◌, List, [], ◌∷◌, ◌++◌, length, take, Option, Some, None, Result, Ok, Err, refl, sym, ap, subst, ◌∙◌, append-nil, inl, inr, arith}
+use Rattle.std.proofs.lemmas.List.{length-take-le}
 use Rattle.std.specs.Result.{IsErrAnd}
 use Rattle.std.specs.Io.KnownBytes.{Consumes, IsAtEnd}
 use Rattle.std.proofs.KnownBytes.{Consumes-trans}
@@ -13,6 +14,7 @@ use Rattle.binlog_file.specs.Header.{Header, header}
 use Rattle.binlog_file.specs.Lemmas.Formats.{Any, exact_header}
 use Rattle.binlog_file.specs.Events.{Raw, raw, raw_event, rest_len}
 use Rattle.binlog_file.specs.Stream.{Fills, IsOutside, RawGives}
+use Rattle.binlog_file.specs.Readers.{found}
 
 abbrev pub in_head : List ℕ → FormatOf EventError Header
 in_head h = map_fault (within h header) error.Description
@@ -37,11 +39,6 @@ not_empty (b ∷ x) z some none = cc
 
 abbrev pub Refused : Option (List ℕ) → EventError → Type 0
 Refused old e = IsOutside e ⊎ ((x : List ℕ) × (x ≢ []) × raw_event.refuses x e × IsLeft old x)
-
--- an error that is handed on
-pub handed_on : (old new : Option (List ℕ)) (r : Result (Option Raw) EventError) (e : EventError) → IsErrAnd r (λ d. d ≡ e) → Refused old e → RawGives old r new
-handed_on old new (Ok x) e is h = absurd is
-handed_on old new (Err d) e is h = subst (Refused old) (sym is) h
 
 pub none_left : (old new : Option (List ℕ)) (h : List ℕ) → Fills 19 old new h → h ≡ [] → IsLeft old []
 none_left old new h f none =
@@ -85,3 +82,17 @@ unfolding raw_event
 whole old mid new h r hd n f long read len g enough =
     let all : length r ≡ n = omega (arith, g.fits, enough) in
     (h ++ r, (h, h, r, refl, (refl, long), (hd, [], r, refl, header_spelled h hd read, (n, [], r, refl, (refl, len), (r, r, [], sym (append-nil r), (refl, all), (refl, refl))))), Consumes-trans old mid new h r f.taken g.taken)
+
+-- ---- in a buffer
+
+-- n bytes that came whole
+pub full : (n len : ℕ) (items : List ℕ) (old new : Option (List ℕ)) → Fills n old new (take len items) → len ≤ length items → n ≤ len → Fills n old new (take n items) × (length (take n items) ≡ n)
+full n len items old new f within enough =
+    let have = length-take-le len items within in
+    let same : len ≡ n = omega (arith, f.fits, have, enough) in
+    (subst (λ (k : ℕ). Fills n old new (take k items)) same f, length-take-le n items (omega (arith, within, enough)))
+
+-- an error that is handed on
+pub found_error : {A : Type 0} (f : A → Raw) (old new : Option (List ℕ)) (r : Result (Option A) EventError) (e : EventError) → IsErrAnd r (λ d. d ≡ e) → Refused old e → RawGives old (found f r) new
+found_error f old new (Ok x) e is h = absurd is
+found_error f old new (Err d) e is h = subst (Refused old) (sym is) h

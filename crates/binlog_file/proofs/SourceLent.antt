@@ -17,7 +17,7 @@ use Rattle.binlog_file.proofs.LentFollowed.{fails_now, pending_now, event_shown,
 outside : (d : EventError) → IsMemory d → IsOutside d
 outside d memory = inr memory
 
-here : (r : Reading) (old : Option (List ℕ)) (x : List ℕ) → MayGoOn r → Finds r old x → (old ≡ Some x) × (r.kept.at + length x < 2 ^ 64)
+pub here : (r : Reading) (old : Option (List ℕ)) (x : List ℕ) → MayGoOn r → Finds r old x → (old ≡ Some x) × (r.kept.at + length x < 2 ^ 64)
 here r old x on finds = subst (λ (b : Bool). Found b r.kept.at old x) on.0 finds
 
 -- a reading that is over finds nothing
@@ -42,7 +42,7 @@ source_failed w old new r s t p q g err on none gives given over ended = λ byte
     let t1 = took old new bytes r.kept s.kept h.0 known.0 known.1 h.2 in
     ([], over_finds t new over, event_failed IsOutside w (spot_at r.kept p bytes) (place_at s.kept t1.z) s.kept.in_force h.0 g err (spot_at t.kept q []) outside none t1.gives h.1 t1.tables given (refl, ended))
 
-not_true : (b : Bool) → (IsTrue b → ⊥) → b ≡ false
+pub not_true : (b : Bool) → (IsTrue b → ⊥) → b ≡ false
 not_true true n = absurd (n refl)
 not_true false n = refl
 

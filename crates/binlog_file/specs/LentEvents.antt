@@ -1,6 +1,6 @@
 -- The events of a reading, whose pairs of rows are lent. It is a module of its own because LentEvent is a
 -- type of the code.
-use Rattle.std.specs.Prelude.{◌≡◌, ◌⊎◌, true, false, List, [], ◌∷◌, Option, Some, None, Result, Ok, Err}
+use Rattle.std.specs.Prelude.{◌≡◌, ◌⊎◌, ℕ, zero, suc, true, false, List, [], ◌∷◌, Option, Some, None, Result, Ok, Err, ⊤}
 use Rattle.binlog_base.specs.declared.fault.Fault.{Fault}
 use Rattle.binlog_table.specs.TableMap.{TableMap}
 use Rattle.mysql_binlog_rows.specs.declared.rows_event.event.RowsEventCtx.{RowsEventCtx}
@@ -15,6 +15,7 @@ use Rattle.binlog_file.specs.Events.{Event, Glance, glance_of, Place, NextGives}
 use Rattle.binlog_file.specs.Tables.{Tables, InForce, in_force_after}
 use Rattle.binlog_file.specs.Changes.{Wanted, RowsGive, Gives, EventGives, nothing, failure, IsMemory, Spot, spot, IsAtEnd, Left, Follows, at_position}
 use Rattle.binlog_file.specs.LentChanges.{unread, Opens, OtherEvent, change_with, error_after}
+use Rattle.binlog_file.specs.Asked.{is_asked}
 
 abbrev pub other_of : Glance → OtherEvent
 other_of g = record { origin = g.origin; header = g.header; body = g.body }
@@ -66,6 +67,31 @@ abbrev pub NextEvent : (EventError → Type 0) → Wanted → Spot → Option (R
 NextEvent IsOther wanted old None new = (old.pending ≡ None) × (old.place.left ≡ []) × IsAtEnd new
 NextEvent IsOther wanted old (Some (Ok x)) new = (e : Event) × GoesPast old e new × Shows wanted new.in_force.tables (glance_of e) x
 NextEvent IsOther wanted old (Some (Err err)) new = IsAtEnd new × (IsOther err.error ⊎ EndsWith wanted old.place old.in_force old.pending err)
+
+-- ---- the next event that is asked for
+
+-- the reading goes past an event that isn't asked for
+abbrev pub PassesOne : List ℕ → Spot → Spot → Type 0
+PassesOne types old new = (e : Event) × GoesPast old e new × (is_asked types e.header.event_type ≡ false)
+
+-- the reading goes past so many events, of which none is asked for
+abbrev pub PassesOver : List ℕ → ℕ → Spot → Spot → Type 0
+PassesOver types zero old new = new ≡ old
+PassesOver types (suc n) old new = (mid : Spot) × PassesOver types n old mid × PassesOne types mid new
+
+-- an event that is given is asked for
+abbrev pub IsAsked : List ℕ → Option (Result LentEvent FileError) → Type 0
+IsAsked types (Some (Ok (lent.Other o))) = is_asked types o.header.event_type ≡ true
+IsAsked types item = ⊤
+
+-- The next event that is asked for, after others that are passed over; nothing if none is left; or the
+-- error.
+pub record NextAsked (IsOther : EventError → Type 0) (wanted : Wanted) (types : List ℕ) (old : Spot) (item : Option (Result LentEvent FileError)) (new : Spot) : Type 0 where
+  pub passed : ℕ
+  pub at : Spot
+  pub passes : PassesOver types passed old at
+  pub gives : NextEvent IsOther wanted at item new
+  pub is_asked_for : IsAsked types item
 
 -- a reading ends so where a pair can't be read, and else stays where it is
 abbrev pub GoesOnUnless : {A : Type 0} → Type 0 → Option (Result (Unit {0}) FileError) → A → A → Type 0

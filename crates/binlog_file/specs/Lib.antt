@@ -13,6 +13,7 @@ pub use Rattle.binlog_events.specs.TableBodies
 pub mod TableMaps
 pub mod Changes
 pub mod LentChanges
+pub mod Asked
 pub mod LentEvents
 pub mod Glances
 pub mod Walks
@@ -20,6 +21,7 @@ pub mod Stream
 pub mod Readers
 pub mod SourceChanges
 pub mod SourceWalks
+pub mod AskedGlances
 pub use Rattle.binlog_events.specs.Stored
 pub mod Checkpoints
 pub mod Taken

@@ -4,7 +4,7 @@ use Rattle.binlog_events.specs.declared.error.FileError.{FileError}
 use Rattle.binlog_file.specs.Events.{Place}
 use Rattle.binlog_file.specs.Stream.{Kept, Reading, IsOutside}
 use Rattle.binlog_file.specs.declared.lent_changes.LentEvent.{LentEvent}
-use Rattle.binlog_file.specs.LentEvents.{NextEvent}
+use Rattle.binlog_file.specs.LentEvents.{NextEvent, PassesOver, NextAsked}
 use Rattle.binlog_file.specs.Changes.{Wanted, Change, Spot, spot, TakeGives, ChangeGives, count, LessensTo}
 
 -- The bytes that a reading finds: none at its end; else those of its source, where they are known, if the
@@ -48,3 +48,11 @@ pub record SourceSteps (wanted : Wanted) (old : Option (List ℕ)) (r : Reading)
 -- whatever bytes the old reading finds, this is their next event, or the error in place of it
 abbrev pub SourceEvent : Wanted → Option (List ℕ) → Reading → Option FileError → Option (Result LentEvent FileError) → Option (List ℕ) → Reading → Option FileError → Type 0
 SourceEvent wanted old r p item new s q = (x : List ℕ) → Finds r old x → (z : List ℕ) × Finds s new z × NextEvent IsOutside wanted (spot_at r.kept p x) item (spot_at s.kept q z)
+
+-- whatever bytes the old reading finds, the new one is past the events at their start that aren't asked for
+abbrev pub SourcePasses : List ℕ → Option (List ℕ) → Reading → Option FileError → Option (List ℕ) → Reading → Option FileError → Type 0
+SourcePasses types old r p new s q = (x : List ℕ) → Finds r old x → (z : List ℕ) × Finds s new z × (n : ℕ) × PassesOver types n (spot_at r.kept p x) (spot_at s.kept q z)
+
+-- whatever bytes the old reading finds, this is the next of their events that is asked for, or the error
+abbrev pub SourceAsked : Wanted → List ℕ → Option (List ℕ) → Reading → Option FileError → Option (Result LentEvent FileError) → Option (List ℕ) → Reading → Option FileError → Type 0
+SourceAsked wanted types old r p item new s q = (x : List ℕ) → Finds r old x → (z : List ℕ) × Finds s new z × NextAsked IsOutside wanted types (spot_at r.kept p x) item (spot_at s.kept q z)

@@ -10,7 +10,7 @@ ghost use Rattle.binlog_file.specs.Tables.{InForce};
 ghost use Rattle.binlog_file.specs.Stream.{IsOutside, Kept};
 ghost use Rattle.binlog_file.specs.Changes.{Wanted, IsMemory, Spot};
 ghost use Rattle.binlog_file.specs.LentChanges.{LentChange, PairGives, CoversOn};
-ghost use Rattle.binlog_file.specs.LentEvents.{NextEvent, ChangesOn};
+ghost use Rattle.binlog_file.specs.LentEvents.{NextEvent, NextAsked, ChangesOn};
 ghost use Rattle.binlog_file.specs.Checkpoints.{Reached, LeadsTo, GoesOnWith, checkpoint_of};
 
 /// The checkpoint of a reader leads back to where the reader is: after its events, the same
@@ -25,7 +25,7 @@ pub fn checkpoints_lead_back()
 
 /// The changes whose pairs are lent are the changes that own their pairs: the pairs that `next_pair`
 /// gives for an event are those of its change, with the same error after them, and what `next_event`
-/// gives is what `next` gives, event by event.
+/// gives is what `next` gives, event by event. So it is with `next_event_of`, whatever the types are.
 pub fn lent_changes_are_the_changes()
     ensures pairs { (old : LentChange) (p : Pair) (item : Option (Result (Unit {0}) FileError))
         (new : LentChange) → PairGives old p item new → CoversOn old p item new }
@@ -33,4 +33,10 @@ pub fn lent_changes_are_the_changes()
         (new : Spot) → NextEvent IsMemory wanted old item new → ChangesOn IsMemory wanted old item new }
     ensures from_source { (wanted : Wanted) (old : Spot) (item : Option (Result LentEvent FileError))
         (new : Spot) → NextEvent IsOutside wanted old item new → ChangesOn IsOutside wanted old item new }
+    ensures asked_in_memory { (wanted : Wanted) (types : List ℕ) (old : Spot)
+        (item : Option (Result LentEvent FileError)) (new : Spot)
+        → NextAsked IsMemory wanted types old item new → ChangesOn IsMemory wanted old item new }
+    ensures asked_from_source { (wanted : Wanted) (types : List ℕ) (old : Spot)
+        (item : Option (Result LentEvent FileError)) (new : Spot)
+        → NextAsked IsOutside wanted types old item new → ChangesOn IsOutside wanted old item new }
 {}

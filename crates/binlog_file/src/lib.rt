@@ -2,6 +2,7 @@
 //! itself is of `binlog_events`.
 #![tactic(auto)]
 
+mod asked;
 pub mod change;
 pub mod changes;
 pub mod choice;
@@ -14,6 +15,7 @@ mod notes;
 mod plans;
 pub mod reader;
 mod seen;
+mod sighting;
 pub mod source_changes;
 mod stored;
 pub mod tables;

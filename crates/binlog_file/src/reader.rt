@@ -1,6 +1,6 @@
 //! Reading events one at a time from a source of bytes.
 
-ghost use Rattle.std.specs.Prelude.{◌≡◌, ◌≤◌, ◌<◌, ◌+◌, ◌*◌, ◌++◌, ◌↔◌, ◌⊎◌, ℕ, false, true, Ok, None, length, take, slice_range, OnOk, IfOk, IfErr, IsErr, IsTrue};
+ghost use Rattle.std.specs.Prelude.{◌≡◌, ◌≤◌, ◌<◌, ◌+◌, ◌*◌, ◌++◌, ◌↔◌, ◌⊎◌, ℕ, [], false, true, Ok, None, length, take, slice_range, OnOk, IfOk, IfErr, IsErr, IsSome, IsTrue};
 ghost use Rattle.std.specs.Option.{option_map};
 ghost use Rattle.std.specs.Io.KnownBytes.{Consumes, IsAtEnd};
 ghost use Rattle.binlog_file.specs.Events.{after, is_plain};
@@ -8,18 +8,20 @@ ghost use Rattle.binlog_file.specs.Taken.{TakesRaw};
 ghost use Rattle.binlog_file.specs.TableBodies.{event_with};
 ghost use Rattle.std.specs.Arc.{arc_value};
 ghost use Rattle.binlog_file.specs.Stream as Spec;
-ghost use Rattle.binlog_file.specs.Readers.{kept_by, reading_of};
+ghost use Rattle.binlog_file.specs.Readers.{kept_by, reading_of, found, raw_in, glance_in};
 ghost use Rattle.binlog_file.specs.Tables.{no_tables};
 ghost use Rattle.binlog_file.specs.TableMaps.{in_maps, most_kept};
 ghost use Rattle.binlog_file.specs.Checkpoints.{checkpoint, checkpoint_of};
 
 use crate::error::{EventError, FileError};
+use crate::sighting::{Sighting, front};
 use crate::stored::StoredEvents;
 use crate::tables::TableMaps;
 use crate::unread::UnreadTable;
 use binlog_base::below::{Failed, Source};
 use binlog_events::description::{FormatDescriptionEvent, OwnedDescription};
 use binlog_events::event::{Event, Glance, PlainEvent, Raw, header_of, rest_len};
+use binlog_events::header::BinlogEventHeader;
 use binlog_table::table_map::TableMapEvent;
 use std::alloc::{AllocError, Global};
 use std::sync::Arc;
@@ -37,11 +39,29 @@ pub struct EventBuffer {
 
 impl EventBuffer {
     /// Returns an empty buffer.
-    pub fn new(alloc: Global) -> EventBuffer {
+    pub fn new(alloc: Global) -> EventBuffer
+        ensures { (result.head.items ≡ []) × (result.rest.items ≡ []) }
+    {
         EventBuffer {
             head: Vec::new(alloc),
             rest: Vec::new(alloc),
         }
+    }
+
+    // Returns the bytes of the event that was read into the buffer.
+    fn raw(&self, filled: Filled) -> Raw<'_>
+        requires { 19 ≤ length self.now.head.items }
+        ensures { result ≡ raw_in self.now filled }
+    {
+        let rest = front(filled.rest_len, &self.rest);
+        Raw::new(front(19, &self.head), filled.header, rest)
+    }
+
+    // Returns a glance at the event that was read into the buffer.
+    pub(crate) fn glance(&self, sighting: Sighting) -> Glance<'_>
+        ensures { result ≡ glance_in self.now sighting }
+    {
+        sighting.glance(&self.rest)
     }
 
     // Takes n bytes of the source, or all that are left if they are fewer.
@@ -124,6 +144,38 @@ fn fill<'b, S: Source>(
     Ok(&buffer[..len])
 }
 
+/// The header of an event that was read into a buffer, and how many bytes follow it.
+#[derive(Clone, Copy)]
+struct Filled {
+    header: BinlogEventHeader,
+    rest_len: usize,
+}
+
+// Reads the next event into the buffer; nothing if no bytes are left.
+fn fill_event<S: Source>(
+    source: &mut S,
+    buffer: &mut EventBuffer,
+) -> Result<Option<Filled>, EventError>
+    ensures gives { Spec.RawGives (S.remaining source.old) (found (raw_in buffer.new) result)
+        (S.remaining source.new) }
+    ensures head { IfOk result (λ o. IsSome o → 19 ≤ length buffer.new.head.items) }
+{
+    let len = fill_front(source, &mut buffer.head, 19)?;
+    if len == 0 {
+        return Ok(None);
+    }
+    if len < 19 {
+        return Err(EventError::Cut((19 - len) as u64));
+    }
+    let header = header_of(front(19, &buffer.head))?;
+    let rest_len = rest_len(&header)?;
+    let len = fill_front(source, &mut buffer.rest, rest_len)?;
+    if len < rest_len {
+        return Err(EventError::Cut((rest_len - len) as u64));
+    }
+    Ok(Some(Filled { header, rest_len }))
+}
+
 // Takes the bytes of the next event; nothing if no bytes are left.
 fn take_raw<'b, S: Source>(
     source: &mut S,
@@ -131,20 +183,10 @@ fn take_raw<'b, S: Source>(
 ) -> Result<Option<Raw<'b>>, EventError>
     ensures { Spec.RawGives (S.remaining source.old) result (S.remaining source.new) }
 {
-    let head = fill(source, &mut buffer.head, 19)?;
-    if head.is_empty() {
+    let Some(filled) = fill_event(source, buffer)? else {
         return Ok(None);
-    }
-    if head.len() < 19 {
-        return Err(EventError::Cut((19 - head.len()) as u64));
-    }
-    let header = header_of(head)?;
-    let n = rest_len(&header)?;
-    let rest = fill(source, &mut buffer.rest, n)?;
-    if rest.len() < n {
-        return Err(EventError::Cut((n - rest.len()) as u64));
-    }
-    Ok(Some(Raw::new(head, header, rest)))
+    };
+    Ok(Some(buffer.raw(filled)))
 }
 
 /// What a reader keeps between events.
@@ -305,21 +347,22 @@ fn take_glance<'b>(alloc: Global, kept: &mut Kept, raw: &Raw<'b>) -> Result<Glan
     }
 }
 
-// Reads the next event, and returns a glance at it; nothing if no bytes are left.
-fn read_glance<'b, S: Source>(
+// Reads the next event into the buffer, and returns what is seen of it; nothing if no bytes are left.
+fn sight<S: Source>(
     alloc: Global,
     source: &mut S,
-    buffer: &'b mut EventBuffer,
+    buffer: &mut EventBuffer,
     kept: &mut Kept,
-) -> Result<Option<Glance<'b>>, EventError>
-    ensures gives { Spec.GlanceGives (S.remaining source.old) (kept_by kept.old) result
-        (S.remaining source.new) (kept_by kept.new) }
+) -> Result<Option<Sighting>, EventError>
+    ensures gives { Spec.GlanceGives (S.remaining source.old) (kept_by kept.old)
+        (found (glance_in buffer.new) result) (S.remaining source.new) (kept_by kept.new) }
     ensures most { most_kept kept.new.tables ≡ most_kept kept.old.tables }
 {
-    let Some(raw) = take_raw(source, buffer)? else {
+    let Some(filled) = fill_event(source, buffer)? else {
         return Ok(None);
     };
-    Ok(Some(take_glance(alloc, kept, &raw)?))
+    let glance = take_glance(alloc, kept, &buffer.raw(filled))?;
+    Ok(Some(Sighting::of(&glance)))
 }
 
 /// A reader of the events of a binlog file, or of a stream with the same bytes, one at a time.
@@ -356,6 +399,27 @@ impl EventStreamReader {
         &self.kept.tables
     }
 
+    // Reads the next event into the buffer, as `read` does, and returns what is seen of it.
+    pub(crate) fn sight<S: Source>(
+        &mut self,
+        source: &mut S,
+        buffer: &mut EventBuffer,
+    ) -> Result<Option<Sighting>, FileError>
+        requires { self.old.is_over ≡ false }
+        ensures gives { Spec.ReaderGlances (S.remaining source.old) (reading_of self.old)
+            (found (glance_in buffer.new) result) (S.remaining source.new) (reading_of self.new) }
+        ensures most { most_kept self.new.kept.tables ≡ most_kept self.old.kept.tables }
+    {
+        let position = self.kept.position;
+        match sight(self.alloc, source, buffer, &mut self.kept) {
+            Ok(sighting) => Ok(sighting),
+            Err(error) => {
+                self.is_over = true;
+                Err(FileError { position, error })
+            }
+        }
+    }
+
     // Reads the next event, as `read` does, and returns a glance at it.
     pub(crate) fn glance<'b, S: Source>(
         &mut self,
@@ -367,13 +431,10 @@ impl EventStreamReader {
             (S.remaining source.new) (reading_of self.new) }
         ensures most { most_kept self.new.kept.tables ≡ most_kept self.old.kept.tables }
     {
-        let position = self.kept.position;
-        match read_glance(self.alloc, source, buffer, &mut self.kept) {
-            Ok(glance) => Ok(glance),
-            Err(error) => {
-                self.is_over = true;
-                Err(FileError { position, error })
-            }
+        match self.sight(source, buffer) {
+            Ok(Some(sighting)) => Ok(Some(buffer.glance(sighting))),
+            Ok(None) => Ok(None),
+            Err(error) => Err(error),
         }
     }
 

@@ -9,8 +9,10 @@ ghost use Rattle.binlog_file.specs.SourceChanges as Spec;
 ghost use Rattle.binlog_file.specs.LentChanges.{PairGives};
 ghost use Rattle.binlog_file.specs.LentEvents.{Shows, GivesError, GoesOnUnless};
 ghost use Rattle.binlog_file.specs.SourceWalks.{reading_in, kept_in, most_kept_by};
-ghost use Rattle.binlog_file.specs.Readers.{reading_of};
+ghost use Rattle.binlog_file.specs.Readers.{reading_of, item_in};
+ghost use Rattle.binlog_file.specs.AskedGlances.{SourceSights};
 
+use crate::asked::is_asked;
 use crate::change::{Change, Given, glance_gives};
 use crate::changes::at_position;
 use crate::choice::Choice;
@@ -19,6 +21,7 @@ use crate::file::BinlogFile;
 use crate::lent_changes::{LentChange, LentEvent, show};
 use crate::plans::{KeptPlans, MOST_BYTES};
 use crate::reader::{EventBuffer, EventStreamReader};
+use crate::sighting::Sighting;
 use binlog_base::below::Source;
 use binlog_base::fault::Fault;
 use binlog_events::event::Glance;
@@ -117,6 +120,61 @@ fn next_event<'b, S: Source, C: Choice>(
             walk.reader.stop();
             None
         }
+        Err(error) => Some(Err(error)),
+    }
+}
+
+// Passes over events that aren't asked for. Returns what is seen of the next one that is, which is in
+// the buffer, or the error with which the reading ends.
+fn pass_over<S: Source>(
+    source: &mut S,
+    buffer: &mut EventBuffer,
+    walk: &mut SourceWalk,
+    types: &[u8],
+) -> Option<Result<Sighting, FileError>>
+    ensures sights { SourceSights types.now (S.remaining source.old) (reading_in walk.old)
+        walk.old.pending (item_in buffer.new result) (S.remaining source.new) (reading_in walk.new)
+        walk.new.pending }
+    ensures fewer { IsSome result → Spec.items_left (reading_in walk.new) walk.new.pending
+        < Spec.items_left (reading_in walk.old) walk.old.pending }
+    ensures most { most_kept_by walk.new ≡ most_kept_by walk.old }
+{
+    while walk.goes_on() {
+        match walk.reader.sight(source, buffer) {
+            Ok(Some(sighting)) => {
+                if is_asked(types, sighting.event_type()) {
+                    return Some(Ok(sighting));
+                }
+            }
+            Ok(None) => {
+                walk.reader.stop();
+                return None;
+            }
+            Err(error) => return Some(Err(error)),
+        }
+    }
+    let error = walk.end()?;
+    Some(Err(error))
+}
+
+// Returns the next event of the source that is asked for, or the error with which the reading ends.
+fn next_event_of<'b, S: Source, C: Choice>(
+    alloc: Global,
+    choice: &C,
+    source: &mut S,
+    buffer: &'b mut EventBuffer,
+    walk: &mut SourceWalk,
+    types: &[u8],
+) -> Option<Result<LentEvent<'b>, FileError>>
+    ensures event { Spec.SourceAsked (C.wanted choice.now) types.now (S.remaining source.old)
+        (reading_in walk.old) walk.old.pending result (S.remaining source.new) (reading_in walk.new)
+        walk.new.pending }
+    ensures fewer { IsSome result → Spec.items_left (reading_in walk.new) walk.new.pending
+        < Spec.items_left (reading_in walk.old) walk.old.pending }
+    ensures most { most_kept_by walk.new ≡ most_kept_by walk.old }
+{
+    match pass_over(source, buffer, walk, types)? {
+        Ok(sighting) => Some(show_event(alloc, choice, walk, buffer.glance(sighting))),
         Err(error) => Some(Err(error)),
     }
 }
@@ -333,6 +391,34 @@ impl<S: Source + Drop, C: Choice + Drop> SourceChanges<S, C> {
             &mut self.source,
             buffer,
             &mut self.walk,
+        )
+    }
+
+    /// Reads on to the next event that is asked for, as `next_event` reads the next one: a rows event,
+    /// or an event whose type has one of these numbers. Other events are passed over: they are read,
+    /// with their checksums and tables, and not returned.
+    ///
+    /// A rows event that isn't wanted comes as it is, whatever the types are.
+    pub fn next_event_of<'b>(
+        &mut self,
+        buffer: &'b mut EventBuffer,
+        types: &[u8],
+    ) -> Option<Result<LentEvent<'b>, FileError>>
+        ensures event { Spec.SourceAsked (C.wanted self.old.choice) types.now
+            (S.remaining self.old.source) (reading_in self.old.walk) self.old.walk.pending result
+            (S.remaining self.new.source) (reading_in self.new.walk) self.new.walk.pending }
+        ensures fewer { IsSome result → Spec.items_left (reading_in self.new.walk) self.new.walk.pending
+            < Spec.items_left (reading_in self.old.walk) self.old.walk.pending }
+        ensures choice { self.new.choice ≡ self.old.choice }
+        ensures most { most_kept_by self.new.walk ≡ most_kept_by self.old.walk }
+    {
+        next_event_of(
+            self.alloc,
+            &self.choice,
+            &mut self.source,
+            buffer,
+            &mut self.walk,
+            types,
         )
     }
 

@@ -16,13 +16,36 @@ use std::alloc::{AllocError, Global};
 use std::sync::Arc;
 use std::test::Fail;
 
-/// Returns whether a lent row has the count and the columns of an owned row, and a copy of it is that
-/// row.
+/// Returns whether two cells are equal.
+fn is_same<'c>(one: &LentCell<'c>, other: &LentCell<'c>) -> bool {
+    *one == *other
+}
+
+/// Returns whether a cell is equal to one that borrows an owned value.
+fn is_lent_of(cell: Option<&LentCell<'_>>, value: Option<&BinlogValue<'_>>) -> bool {
+    match (cell, value) {
+        (Some(cell), Some(value)) => is_same(cell, &value.lent()),
+        _ => false,
+    }
+}
+
+/// Returns whether each cell of a lent row is equal to one that borrows the value of an owned row.
+fn are_lent_of(lent: &LentRow<'_>, row: &BinlogRow) -> bool {
+    let mut all_are = true;
+    for index in 0..row.len() {
+        all_are = all_are && is_lent_of(lent.as_ref(index), row.as_ref(index));
+    }
+    all_are
+}
+
+/// Returns whether a lent row has the count and the columns of an owned row and equal cells, and a copy
+/// of it is that row.
 fn is_row(alloc: Global, lent: &LentRow<'_>, row: &BinlogRow) -> Result<bool, AllocError> {
     let same_count = lent.len() == row.len() && lent.is_empty() == row.is_empty();
+    let same_cells = are_lent_of(lent, row);
     let same_columns = lent.columns_ref() == row.columns_ref()
         && lent.columns(alloc)?.as_slice() == row.columns_ref();
-    Ok(same_count && same_columns && lent.to_owned(alloc)? == *row)
+    Ok(same_count && same_cells && same_columns && lent.to_owned(alloc)? == *row)
 }
 
 /// Returns whether both rows are there and are the same, or neither is there.
@@ -131,6 +154,24 @@ pub(super) fn lends_cell(
     rows.extend_from_slice(cell)?;
     let mut pair = LentPair::new(alloc);
     lends_event(alloc, &mut pair, &table, &rows, EventType::WRITE_ROWS_EVENT)
+}
+
+#[test]
+fn cells_that_differ(rt: HostRuntime) {
+    let cells = [
+        LentCell::Null,
+        LentCell::Bytes(b""),
+        LentCell::Bytes(b"1901"),
+        LentCell::Int(1901),
+        LentCell::UInt(1901),
+        LentCell::Year(Year(1902)),
+    ];
+    for one in 0..cells.len() {
+        for other in 0..cells.len() {
+            assert!(rt; is_same(&cells[one], &cells[other]) == (one == other));
+        }
+    }
+    assert!(rt; is_same(&LentCell::Year(Year(1901)), &cells[2]));
 }
 
 /// JSON cells: a number, no bytes, an array of arrays, a cell that is cut, and a number that no type

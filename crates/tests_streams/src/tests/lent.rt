@@ -3,10 +3,14 @@
 
 use super::file::{begun, push, with_rows};
 use super::{TWO_COLUMNS, TWO_ROWS, all};
+use binlog_base::below::Counted;
 use binlog_file::changes::FileChanges;
 use binlog_file::choice::AllRows;
 use binlog_file::error::FileError;
+use binlog_file::file::BinlogFile;
 use binlog_file::lent_changes::{LentChange, LentEvent};
+use binlog_file::reader::EventBuffer;
+use binlog_file::source_changes::SourceChanges;
 use mysql_binlog_rows::rows_event::LentPair;
 use std::alloc::{AllocError, Global};
 use std::test::Fail;
@@ -65,5 +69,62 @@ fn events_that_are_left(rt: HostRuntime) -> Result<(), Fail> {
             passed_over(alloc, &whole)? == ['o', 'o', 'p', 'p', '-'],
         ])
     );
+    Ok(())
+}
+
+/// Returns the kind of an event: `r` for a change, `t` for a table map event, `o` for another event, `f`
+/// for an error, `-` for nothing.
+fn kind_of(item: Option<Result<LentEvent<'_>, FileError>>) -> char {
+    match item {
+        None => '-',
+        Some(Err(_)) => 'f',
+        Some(Ok(LentEvent::Rows(_))) => 'r',
+        Some(Ok(LentEvent::Other(event))) if event.header().event_type() == 0x13 => 't',
+        Some(Ok(LentEvent::Other(_))) => 'o',
+    }
+}
+
+/// Returns the kinds of the events of a file in memory that are asked for by these types.
+fn asked(alloc: Global, file: &[u8], types: &[u8]) -> Result<[char; 5], FileError> {
+    let mut lent = FileChanges::new(alloc, file, AllRows)?;
+    let mut kinds = ['?'; 5];
+    for kind in &mut kinds {
+        *kind = kind_of(lent.next_event_of(types));
+    }
+    Ok(kinds)
+}
+
+/// Returns the same of a source.
+fn asked_of_a_source(alloc: Global, file: &[u8], types: &[u8]) -> Result<[char; 5], FileError> {
+    let file = BinlogFile::new(alloc, Counted::new(file))?;
+    let mut lent = SourceChanges::new(alloc, file, AllRows);
+    let mut buffer = EventBuffer::new(alloc);
+    let mut kinds = ['?'; 5];
+    for kind in &mut kinds {
+        *kind = kind_of(lent.next_event_of(&mut buffer, types));
+    }
+    Ok(kinds)
+}
+
+/// The types that are asked for, and the kinds of the events that come.
+const ASKED: &[(&[u8], [char; 5])] = &[
+    (&[], ['r', 'r', '-', '-', '-']),
+    (&[0x13], ['t', 'r', 'r', '-', '-']),
+    (&[0x0f], ['o', 'r', 'r', '-', '-']),
+    (&[0x1e, 0x0f, 0x13], ['o', 't', 'r', 'r', '-']),
+];
+
+#[test]
+fn events_that_are_asked_for(rt: HostRuntime) -> Result<(), Fail> {
+    let alloc = rt.alloc();
+    let mut file = with_rows(alloc, true, &[0, 0])?;
+    for (types, kinds) in ASKED {
+        assert!(rt; asked(alloc, &file, types)? == *kinds);
+        assert!(rt; asked_of_a_source(alloc, &file, types)? == *kinds);
+    }
+    // The file is cut in its last event.
+    file.truncate(file.len().saturating_sub(1));
+    assert!(rt; asked(alloc, &file, &[])? == ['r', 'f', '-', '-', '-']);
+    assert!(rt; asked_of_a_source(alloc, &file, &[])? == ['r', 'f', '-', '-', '-']);
     Ok(())
 }

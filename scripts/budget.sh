@@ -16,11 +16,15 @@ set -eu
 here=$(cd "$(dirname "$0")/.." && pwd)
 budget=$here/bench/budget.txt
 
-# Writes the figures of a line into the file NAME.figures, or what is wrong with its run into NAME.failed. The arguments are its name, PROGRAM or
-# PROGRAM:FUNCTION, and its words.
+# Writes the figures of a line into the file NAME.figures, or what is wrong with its run into NAME.failed. The arguments are its name, PROGRAM,
+# PROGRAM:FUNCTION or PROGRAM:FUNCTION-OTHER.., and its words.
 count() {
     local name=$1 program=${2%%:*} call=() words=() status=0
-    [ "$program" = "$2" ] || call=(--collect-atstart=no "--toggle-collect=*${2#*:}*")
+    if [ "$program" != "$2" ]; then
+        IFS=- read -ra call <<<"${2#*:}"
+        call=("${call[@]/#/--toggle-collect=*}")
+        call=(--collect-atstart=no "${call[@]/%/*}")
+    fi
     for word in "${@:3}"; do
         case $word in
         @*) mapfile -t -O ${#words[@]} words <"${word#@}" ;;

@@ -1,11 +1,12 @@
 #!/usr/bin/env python3
-"""Counts the instructions that `decode_pairs` takes for a cell of each form, in built checkouts.
+"""Counts the instructions that decoding takes for a cell of each form, in built checkouts.
 
 usage: scripts/cells.py CHECKOUT..
 
-The program is crates/rows/out/rows of each checkout, which `rt run` in crates/rows proves and builds. A row of one INT cell is read, and rows with one
-and two more cells of the form. A row is the difference of two events, of 330 and of 30 rows, divided by 300. Prints for each form and checkout what the
-first cell of the form costs, and what the second does; both with the memory that the cell takes. With two checkouts or more the last column is the
+The program is crates/rows/out/rows of each checkout, which `rt run` in crates/rows proves and builds. Decoding is the call of `run` without the
+calls in it of `hex_bytes`, which reads the hexadecimal digits, and of `push_image`, which makes the text of a row: cells are read, and lent. A row of
+one INT cell is read, and rows with one and two more cells of the form. A row is the difference of two events, of 330 and of 30 rows, divided by 300.
+Prints for each form and checkout what the first cell of the form costs, and what the second does. With two checkouts or more the last column is the
 second cell in the last checkout over that in the first.
 """
 import subprocess
@@ -118,8 +119,9 @@ def partial_updates(columns, count, is_partial):
 
 
 def instructions(program, words):
-    """What all calls of `decode_pairs` take in a run of the program."""
-    call = ["--collect-atstart=no", "--toggle-collect=*decode_pairs*"]
+    """What decoding takes in a run of the program: the first function is where callgrind begins to count, and it doesn't count in the others."""
+    functions = ["rows::run::run", "hex_bytes", "push_image"]
+    call = ["--collect-atstart=no", *(f"--toggle-collect=*{function}*" for function in functions)]
     valgrind = ["valgrind", "--tool=callgrind", "--callgrind-out-file=/dev/null", *call]
     answer = subprocess.run([*valgrind, program, *words], capture_output=True, text=True)
     if answer.returncode != 0 or "fault" in answer.stdout:

@@ -18,7 +18,8 @@ Then copies of each file of at most 20,000 bytes are read:
 - with an event's size set to 0, 18, 19 and 2^32-1: an error at that event.
 
 The caller is written into a copy of the repository in place of the program `rows`, proved and built by `rt run`; the gate doesn't run it. It
-reads each file four times, which have to give the same: from memory and from a source, with rows that are owned and with rows that are lent.
+reads each file four times, which have to give the same: from memory and from a source, with rows that are owned and with rows that are lent. It
+compares owned rows and errors with lent ones itself, and prints those that are lent.
 """
 import gzip
 import json
@@ -35,10 +36,9 @@ ROOT = Path(__file__).resolve().parent.parent
 SMALL = 20000
 
 CALLER = """//! Reads binlog files. The first word says what is printed of each file that is named: `lines`: all changes, read from memory and then from
-//! a source, and then the same again with rows that are lent; `memory`, `source`: how many pairs there are, read from memory or from a source; `crc`: the checksum of the whole file.
+//! a source, with rows that are lent, each compared with the same row of a reading that owns its rows; `memory`, `source`: how many pairs there are,
+//! read from memory or from a source; `crc`: the checksum of the whole file.
 #![tactic(auto)]
-
-pub mod lines;
 
 ghost use Rattle.std.specs.Prelude.{◌≤◌};
 ghost use Rattle.binlog_file.specs.Changes.{most_left};
@@ -54,12 +54,10 @@ use binlog_file::crc::crc32;
 use binlog_file::error::FileError;
 use binlog_file::file::BinlogFile;
 use binlog_file::lent_changes::{LentChange, LentEvent};
-use binlog_file::origin::Origin;
 use binlog_file::reader::EventBuffer;
 use binlog_file::source_changes::SourceChanges;
-use lines::Lines;
-use mysql_binlog_rows::row::BinlogRow;
 use mysql_binlog_rows::rows_event::{LentPair, RowPair};
+use row_lines::push_line;
 use std::alloc::Global;
 use std::env;
 use std::fs::{self, File};
@@ -85,9 +83,7 @@ fn print_file<O: Write>(rt: &HostRuntime, out: &mut O, what: &str, path: &str) -
         "crc" => print_number(out, u64::from(crc32(&fs::read(rt, path)?))),
         _ => {
             print_memory(rt.alloc(), out, &fs::read(rt, path)?)?;
-            print_source(rt.alloc(), out, File::open(rt, path)?)?;
-            print_lent_memory(rt.alloc(), out, &fs::read(rt, path)?)?;
-            print_lent_source(rt.alloc(), out, File::open(rt, path)?)
+            print_source(rt.alloc(), out, File::open(rt, path)?, File::open(rt, path)?)
         }
     }
 }
@@ -125,33 +121,124 @@ fn count_source<R: io::Read + Drop>(alloc: Global, file: R) -> u64 {
 }
 
 fn print_memory<O: Write>(alloc: Global, out: &mut O, file: &[u8]) -> io::Result<()> {
-    match FileChanges::new(alloc, file, AllRows) {
-        Ok(changes) => {
-            for item in changes {
-                match item {
-                    Ok(change) => print_change(out, &change)?,
-                    Err(error) => print_error(out, error)?,
-                }
-            }
-        }
-        Err(error) => print_error(out, error)?,
+    let owned = FileChanges::new(alloc, file, AllRows);
+    match (owned, FileChanges::new(alloc, file, AllRows)) {
+        (Ok(mut owned), Ok(mut changes)) => print_events(alloc, out, &mut owned, &mut changes)?,
+        (Err(error), _) => print_error(out, error)?,
+        (_, Err(error)) => print_error(out, error)?,
     }
     out.write_all(b"end\\n")
 }
 
-fn print_source<R: io::Read + Drop, O: Write>(alloc: Global, out: &mut O, file: R) -> io::Result<()> {
-    match BinlogFile::new(alloc, Counted::new(file)) {
-        Ok(file) => {
-            for item in SourceChanges::new(alloc, file, AllRows) {
-                match item {
-                    Ok(change) => print_change(out, &change)?,
-                    Err(error) => print_error(out, error)?,
-                }
-            }
+fn print_events<'a, O: Write>(
+    alloc: Global,
+    out: &mut O,
+    owned: &mut FileChanges<'a, AllRows>,
+    changes: &mut FileChanges<'a, AllRows>,
+) -> io::Result<()> {
+    let mut pair = LentPair::new(alloc);
+    while let Some(event) = changes.next_event() {
+        match event {
+            Ok(LentEvent::Rows(change)) => print_change(alloc, out, owned, changes, change, &mut pair)?,
+            Ok(LentEvent::Other(_)) => {}
+            Err(error) => print_same_error(out, owned.next(), error)?,
         }
-        Err(error) => print_error(out, error)?,
+    }
+    print_end(out, owned.next().is_none())
+}
+
+fn print_change<'a, O: Write>(
+    alloc: Global,
+    out: &mut O,
+    owned: &mut FileChanges<'a, AllRows>,
+    changes: &mut FileChanges<'a, AllRows>,
+    mut change: LentChange<'a>,
+    pair: &mut LentPair<'a>,
+) -> io::Result<()>
+    ensures { most_left (spot_of changes.new.walk) ≤ most_left (spot_of changes.old.walk) }
+{
+    let Some(Ok(same)) = owned.next() else {
+        return print_end(out, false);
+    };
+    print_origin(out, &same, &change)?;
+    let mut pairs = same.pairs().iter();
+    while let Some(item) = changes.next_pair(&mut change, pair) {
+        match item {
+            Ok(()) => print_pair(alloc, out, pairs.next(), pair)?,
+            Err(error) => print_same_error(out, owned.next(), error)?,
+        }
+    }
+    print_end(out, pairs.next().is_none())
+}
+
+fn print_source<R: io::Read + Drop, O: Write>(alloc: Global, out: &mut O, file: R, same: R) -> io::Result<()> {
+    let owned = BinlogFile::new(alloc, Counted::new(same));
+    match (owned, BinlogFile::new(alloc, Counted::new(file))) {
+        (Ok(owned), Ok(file)) => {
+            let mut owned = SourceChanges::new(alloc, owned, AllRows);
+            let mut changes = SourceChanges::new(alloc, file, AllRows);
+            print_source_events(alloc, out, &mut owned, &mut changes)?;
+        }
+        (Err(error), _) => print_error(out, error)?,
+        (_, Err(error)) => print_error(out, error)?,
     }
     out.write_all(b"end\\n")
+}
+
+fn print_source_events<S: Source + Drop, O: Write>(
+    alloc: Global,
+    out: &mut O,
+    owned: &mut SourceChanges<S, AllRows>,
+    changes: &mut SourceChanges<S, AllRows>,
+) -> io::Result<()> {
+    let mut buffer = EventBuffer::new(alloc);
+    while let Some(event) = changes.next_event_of(&mut buffer, &[]) {
+        match event {
+            Ok(LentEvent::Rows(change)) => print_source_change(alloc, out, owned, changes, change)?,
+            Ok(LentEvent::Other(_)) => {}
+            Err(error) => print_same_error(out, owned.next(), error)?,
+        }
+    }
+    print_end(out, owned.next().is_none())
+}
+
+fn print_source_change<'b, S: Source + Drop, O: Write>(
+    alloc: Global,
+    out: &mut O,
+    owned: &mut SourceChanges<S, AllRows>,
+    changes: &mut SourceChanges<S, AllRows>,
+    mut change: LentChange<'b>,
+) -> io::Result<()>
+    ensures { items_left (reading_in changes.new.walk) changes.new.walk.pending
+        ≤ items_left (reading_in changes.old.walk) changes.old.walk.pending }
+{
+    let Some(Ok(same)) = owned.next() else {
+        return print_end(out, false);
+    };
+    print_origin(out, &same, &change)?;
+    let mut pairs = same.pairs().iter();
+    let mut pair = LentPair::new(alloc);
+    while let Some(item) = changes.next_pair(&mut change, &mut pair) {
+        match item {
+            Ok(()) => print_pair(alloc, out, pairs.next(), &pair)?,
+            Err(error) => print_same_error(out, owned.next(), error)?,
+        }
+    }
+    print_end(out, pairs.next().is_none())
+}
+
+// Prints `differs` unless the owned reading gave the same as the lent one.
+fn print_end<O: Write>(out: &mut O, is_same: bool) -> io::Result<()> {
+    if is_same { Ok(()) } else { out.write_all(b"differs\\n") }
+}
+
+fn print_same_error<O: Write>(
+    out: &mut O,
+    owned: Option<Result<Change<'_>, FileError>>,
+    error: FileError,
+) -> io::Result<()> {
+    print_error(out, error)?;
+    print_end(out, matches!(owned, Some(Err(same)) if same == error))
 }
 
 fn print_error<O: Write>(out: &mut O, error: FileError) -> io::Result<()> {
@@ -159,150 +246,22 @@ fn print_error<O: Write>(out: &mut O, error: FileError) -> io::Result<()> {
     writeln!(out, "error {position} {error:?}")
 }
 
-fn print_origin<O: Write>(out: &mut O, origin: Origin) -> io::Result<()> {
+fn print_origin<O: Write>(out: &mut O, owned: &Change<'_>, change: &LentChange<'_>) -> io::Result<()> {
+    let origin = change.origin();
     let (position, time, server) = (origin.position, origin.timestamp, origin.server_id);
-    write!(out, "change {position} {time} {server} ")
+    write!(out, "change {position} {time} {server} ")?;
+    out.write_all(change.table().database_name_raw())?;
+    out.write_all(b".")?;
+    out.write_all(change.table().table_name_raw())?;
+    out.write_all(b"\\n")?;
+    print_end(out, owned.origin() == origin)
 }
 
-fn print_change<O: Write>(out: &mut O, change: &Change<'_>) -> io::Result<()> {
-    print_origin(out, change.origin())?;
-    if let Some(pair) = change.pairs().first() {
-        print_table(out, pair)?;
-    }
-    let lines = Lines(change.pairs());
-    write!(out, "\\n{lines}")
-}
-
-fn print_table<O: Write>(out: &mut O, pair: &RowPair) -> io::Result<()> {
-    if let Some(row) = &pair.0 {
-        return print_name(out, row);
-    }
-    match &pair.1 {
-        Some(row) => print_name(out, row),
-        None => Ok(()),
-    }
-}
-
-fn print_name<O: Write>(out: &mut O, row: &BinlogRow) -> io::Result<()> {
-    match row.columns_ref().first() {
-        Some(column) => {
-            out.write_all(column.schema_ref())?;
-            out.write_all(b".")?;
-            out.write_all(column.table_ref())
-        }
-        None => Ok(()),
-    }
-}
-
-fn print_lent_memory<O: Write>(alloc: Global, out: &mut O, file: &[u8]) -> io::Result<()> {
-    match FileChanges::new(alloc, file, AllRows) {
-        Ok(mut changes) => print_lent_file(alloc, out, &mut changes)?,
-        Err(error) => print_error(out, error)?,
-    }
-    out.write_all(b"end\\n")
-}
-
-fn print_lent_file<O: Write>(alloc: Global, out: &mut O, changes: &mut FileChanges<'_, AllRows>) -> io::Result<()> {
-    let mut pair = LentPair::new(alloc);
-    while let Some(event) = changes.next_event() {
-        match event {
-            Ok(LentEvent::Rows(change)) => print_lent_change(alloc, out, changes, change, &mut pair)?,
-            Ok(LentEvent::Other(_)) => {}
-            Err(error) => print_error(out, error)?,
-        }
-    }
-    Ok(())
-}
-
-fn print_lent_change<'a, O: Write>(
-    alloc: Global,
-    out: &mut O,
-    changes: &mut FileChanges<'a, AllRows>,
-    mut change: LentChange<'a>,
-    pair: &mut LentPair<'a>,
-) -> io::Result<()>
-    ensures { most_left (spot_of changes.new.walk) ≤ most_left (spot_of changes.old.walk) }
-{
-    print_origin(out, change.origin())?;
-    let mut is_first = true;
-    while let Some(item) = changes.next_pair(&mut change, pair) {
-        print_item(alloc, out, is_first, item, pair)?;
-        is_first = false;
-    }
-    print_end(out, is_first)
-}
-
-fn print_lent_source<R: io::Read + Drop, O: Write>(alloc: Global, out: &mut O, file: R) -> io::Result<()> {
-    match BinlogFile::new(alloc, Counted::new(file)) {
-        Ok(file) => {
-            let mut changes = SourceChanges::new(alloc, file, AllRows);
-            print_lent_events(alloc, out, &mut changes)?;
-        }
-        Err(error) => print_error(out, error)?,
-    }
-    out.write_all(b"end\\n")
-}
-
-fn print_lent_events<S: Source + Drop, O: Write>(alloc: Global, out: &mut O, changes: &mut SourceChanges<S, AllRows>) -> io::Result<()> {
-    let mut buffer = EventBuffer::new(alloc);
-    while let Some(event) = changes.next_event_of(&mut buffer, &[]) {
-        match event {
-            Ok(LentEvent::Rows(change)) => print_lent_event(alloc, out, changes, change)?,
-            Ok(LentEvent::Other(_)) => {}
-            Err(error) => print_error(out, error)?,
-        }
-    }
-    Ok(())
-}
-
-fn print_lent_event<'b, S: Source + Drop, O: Write>(
-    alloc: Global,
-    out: &mut O,
-    changes: &mut SourceChanges<S, AllRows>,
-    mut change: LentChange<'b>,
-) -> io::Result<()>
-    ensures { items_left (reading_in changes.new.walk) changes.new.walk.pending
-        ≤ items_left (reading_in changes.old.walk) changes.old.walk.pending }
-{
-    print_origin(out, change.origin())?;
-    let mut pair = LentPair::new(alloc);
-    let mut is_first = true;
-    while let Some(item) = changes.next_pair(&mut change, &mut pair) {
-        print_item(alloc, out, is_first, item, &pair)?;
-        is_first = false;
-    }
-    print_end(out, is_first)
-}
-
-// Ends the line of a change that has no pairs.
-fn print_end<O: Write>(out: &mut O, is_first: bool) -> io::Result<()> {
-    if is_first { out.write_all(b"\\n") } else { Ok(()) }
-}
-
-fn print_item<O: Write>(
-    alloc: Global,
-    out: &mut O,
-    is_first: bool,
-    item: Result<(), FileError>,
-    pair: &LentPair<'_>,
-) -> io::Result<()> {
-    match item {
-        Ok(()) => print_pair(out, is_first, pair.to_owned(alloc)?),
-        Err(error) => {
-            print_end(out, is_first)?;
-            print_error(out, error)
-        }
-    }
-}
-
-fn print_pair<O: Write>(out: &mut O, is_first: bool, pair: RowPair) -> io::Result<()> {
-    if is_first {
-        print_table(out, &pair)?;
-        out.write_all(b"\\n")?;
-    }
-    let pairs = [pair];
-    let lines = Lines(&pairs);
-    write!(out, "{lines}")
+fn print_pair<O: Write>(alloc: Global, out: &mut O, owned: Option<&RowPair>, pair: &LentPair<'_>) -> io::Result<()> {
+    let mut line = Vec::new(alloc);
+    push_line(alloc, &mut line, pair)?;
+    out.write_all(&line)?;
+    print_end(out, owned == Some(&pair.to_owned(alloc)?))
 }
 """
 
@@ -327,15 +286,14 @@ invariant-loop-item g l = """
 LEFT = "most_left (spot_of l.{}changes.walk)"
 ITEMS = "items_left (reading_in l.{0}changes.walk) l.{0}changes.walk.pending"
 PROOFS = {
-    "print_lent_file": MEMORY + "GOAL" + EVENTS + LEFT.format(""),
-    "print_lent_change": MEMORY + "GOAL" + PAIRS + LEFT.format("") + " ≤ " + LEFT.format("fn."),
-    "print_lent_events": SOURCE + "GOAL" + EVENTS + ITEMS.format(""),
-    "print_lent_event": SOURCE + "GOAL" + PAIRS + ITEMS.format("") + " ≤ " + ITEMS.format("fn."),
+    "print_events": MEMORY + "GOAL" + EVENTS + LEFT.format(""),
+    "print_change": MEMORY + "GOAL" + PAIRS + LEFT.format("") + " ≤ " + LEFT.format("fn."),
+    "print_source_events": SOURCE + "GOAL" + EVENTS + ITEMS.format(""),
+    "print_source_change": SOURCE + "GOAL" + PAIRS + ITEMS.format("") + " ≤ " + ITEMS.format("fn."),
 }
 
 # What of the crate `rows` the caller doesn't need.
-NOT_NEEDED = ["args", "stdin", "stdout", "status", "src/run.rt", "src/words.rt", "src/tests.rt", "src/tests", "specs/Words.antt"]
-NOT_NEEDED += ["proofs/words", "proofs/SixWords.antt"]
+NOT_NEEDED = ["args", "stdin", "stdout", "status", "src/run.rt", "src/words.rt", "src/tests.rt", "src/tests", "specs", "proofs"]
 
 
 def events(data):
@@ -357,13 +315,10 @@ def build(folder):
     for name in NOT_NEEDED:
         path = crate / name
         shutil.rmtree(path) if path.is_dir() else path.unlink(missing_ok=True)
-    for name, line in (("specs/Lib.antt", "pub mod Words\n"), ("proofs/Lib.antt", "pub mod SixWords\n")):
-        path = crate / name
-        path.write_text(path.read_text().replace(line, ""))
     (crate / "src" / "main.rt").write_text(CALLER)
     for function, text in PROOFS.items():
         folder_of = crate / "proofs" / function
-        folder_of.mkdir()
+        folder_of.mkdir(parents=True)
         goal = f"use Rattle.rows.proofs.{function}.Given as goal\n"
         (folder_of / "Invariants.antt").write_text(text.replace("GOAL", goal) + "\n")
     answer = subprocess.run(["rt", "run"], cwd=crate, capture_output=True, text=True)
@@ -392,7 +347,7 @@ def signed(line):
 
 def run(program, files):
     """What the library gives for each file: a list of changes (position, time, server, table, lines), and the error or None. Each file is read
-    from memory and from a source, with owned and with lent rows, which have to give the same."""
+    from memory and from a source, which have to give the same."""
     given = []
     with tempfile.TemporaryDirectory() as folder:
         for start in range(0, len(files), 200):
@@ -404,13 +359,12 @@ def run(program, files):
             if answer.returncode != 0:
                 sys.exit(f"status {answer.returncode}: {answer.stderr[-2000:]}")
             given += parse(answer.stdout.decode())
-    if len(given) != 4 * len(files):
-        sys.exit(f"{len(given)} of {4 * len(files)} readings")
-    for number, memory in enumerate(given[::4]):
-        for way, other in zip(("from a source", "lent", "lent from a source"), given[4 * number + 1 : 4 * number + 4]):
-            if memory != other:
-                sys.exit(f"file {number} ends with {memory[1]} from memory and with {other[1]} {way}, or its rows differ")
-    return given[::4]
+    if len(given) != 2 * len(files):
+        sys.exit(f"{len(given)} of {2 * len(files)} readings")
+    for number, (memory, source) in enumerate(zip(given[::2], given[1::2])):
+        if memory != source:
+            sys.exit(f"file {number} ends with {memory[1]} from memory and with {source[1]} from a source, or its rows differ")
+    return given[::2]
 
 
 def parse(text):
@@ -424,6 +378,8 @@ def parse(text):
             changes.append((int(words[1]), int(words[2]), int(words[3]), words[4], []))
         elif words[0] == "error":
             error = (int(words[1]), line.split(" ", 2)[2])
+        elif line == "differs":
+            sys.exit(f"what is owned and what is lent differ in a file, after {changes[-1:]} and the error {error}")
         else:
             changes[-1][-1].append(signed(line))
     return given

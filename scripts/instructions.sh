@@ -9,10 +9,11 @@
 #
 # COLUMNS are the letters of scripts/make_rows.py; without them the table has ten columns. With `full` it has optional metadata. FEW, MANY and
 # MORE are files of the program's six words, one a line, of the same table with 30, 330 and 630 rows. The instructions of a row are the
-# difference of two runs, divided by 300: of the whole program, and of the call of `decode_pairs` alone. Of `N`, `T` and `Y`, which are one
-# column of NEWDECIMAL(12,2), TIMESTAMP2(6) and YEAR, those of the call that reads the cell are counted too. What a further column of a row
-# costs is the difference of two tables, such as `N` and `NN`. With `one` it counts the call of `decode_pairs` on an insert and on an update of
-# one row of the ten columns. Build the program with `rt run` in crates/rows.
+# difference of two runs, divided by 300: of the whole program, and of decoding alone. Decoding is the call of `run` without the calls in it of
+# `hex_bytes`, which reads the hexadecimal digits, and of `push_image`, which makes the text of a row: both events are read, with cells that are
+# lent. Of `N`, `T` and `Y`, which are one column of NEWDECIMAL(12,2), TIMESTAMP2(6) and YEAR, those of the call that makes the text of the cell
+# are counted too. What a further column of a row costs is the difference of two tables, such as `N` and `NN`. With `one` it counts decoding of an
+# insert and of an update of one row of the ten columns. Build the program with `rt run` in crates/rows.
 #
 # With `kept` and `trees` it counts in tests, which `rt test` builds. `kept`, in crates/tests_streams, reads the events of `one` a second time, by
 # the plan that is kept. `trees`, in crates/tests_values, calls `jsonb::Value::parse` for a tree of 10,000 numbers and two of 10,000 keys and
@@ -62,12 +63,14 @@ instructions() {
     valgrind --tool=callgrind --callgrind-out-file="$folder/callgrind" "${@:2}" "$program" "${words[@]}" 2>"$folder/log" >"$folder/out"
     sed -n 's/^==[0-9]*== Collected : //p' "$folder/log"
 }
+# Decoding alone: the first function is where callgrind begins to count, and it doesn't count in the others.
+decoding=(--collect-atstart=no '--toggle-collect=*rows::run::run*' '--toggle-collect=*hex_bytes*' '--toggle-collect=*push_image*')
 
 if [ "${1:-}" = one ]; then
     "$here/scripts/make_rows.py" all 1 ${2:+"$2"} >"$folder/insert"
     "$here/scripts/make_rows.py" all 1 ${2:+"$2"} update >"$folder/update"
     for event in insert update; do
-        echo "$event of one row: $(instructions "$folder/$event" --collect-atstart=no '--toggle-collect=*decode_pairs*')"
+        echo "$event of one row: $(instructions "$folder/$event" "${decoding[@]}")"
     done
     exit
 fi
@@ -82,7 +85,6 @@ else
     done
 fi
 
-decoding=(--collect-atstart=no '--toggle-collect=*decode_pairs*')
 few=$(instructions "$folder/30" "${decoding[@]}")
 many=$(instructions "$folder/330" "${decoding[@]}")
 more=$(instructions "$folder/630" "${decoding[@]}")
@@ -93,9 +95,9 @@ writes=$(valgrind --tool=none --trace-syscalls=yes "$program" "${words[@]}" 2>&1
 echo "instructions a row: $(((many_all - few_all) / 300)), of which decoding: $(((many - few) / 300))"
 echo "decoding, a row of the rows 331 to 630: $(((more - many) / 300))"
 case "${1:-}" in
-N) cell=read_decimal ;;
-T) cell=read_timestamp2 ;;
-Y) cell=read_year ;;
+N) cell=push_decimal ;;
+T) cell=push_timestamp ;;
+Y) cell=push_year ;;
 *) cell= ;;
 esac
 if [ -n "$cell" ]; then

@@ -3,10 +3,10 @@
 
 usage: scripts/replay_library.py mysql|mariadb FILE
 
-FILE is in the form of corpus/mariadb.jsonl. The program has no word for the server, so a caller of
-`decode_pairs_of` is put in the place of its `main`, in a copy that is thrown away, and run by
-`rt try` (nothing is proved there). An event that differs is a line `differs: ID`, and the last line
-counts. The status is 1 where an event differs.
+FILE is in the form of corpus/mariadb.jsonl. The program has no word for the server, so a `main`
+that reads the events with the server named is put in the place of its own, in a copy that is thrown
+away, and run by `rt try` (nothing is proved there). An event that differs is a line `differs: ID`,
+and the last line counts. The status is 1 where an event differs.
 """
 import json
 import pathlib
@@ -18,12 +18,15 @@ import tempfile
 MAIN = '''//! Prints the pairs of rows of each rows event that is a line of the input.
 #![tactic(auto)]
 
-pub mod lines;
 pub mod run;
 pub mod words;
 
-use binlog_base::below::Server;
-use mysql_binlog_rows::rows_event::decode_pairs_of;
+use binlog_base::below::{ParseBuf, Server};
+use binlog_base::fault::Fault;
+use binlog_table::table_map::TableMapEvent;
+use mysql_binlog_rows::rows_event::{LentPair, RowsEvent};
+use row_lines::push_line;
+use std::alloc::Global;
 use std::io;
 use std::io::{BufWriter, Read, Write};
 use std::process::ExitCode;
@@ -37,6 +40,20 @@ fn main(rt: HostRuntime) -> ExitCode {
     }
 }
 
+// Adds the lines of the pairs of two events, up to the first fault.
+fn add_lines(alloc: Global, words: &words::Words, lines: &mut Vec<u8>) -> Result<(), Fault> {
+    let table: TableMapEvent<'_> = ParseBuf(&words.table).parse(words.table_post_header_len)?;
+    let table = table.with_server(SERVER);
+    let event: RowsEvent<'_> = ParseBuf(&words.rows).parse(words.ctx)?;
+    let mut rows = event.rows(alloc, &table);
+    let mut pair = LentPair::new(alloc);
+    while let Some(read) = rows.next_lent(&mut pair) {
+        read?;
+        push_line(alloc, lines, &pair)?;
+    }
+    Ok(())
+}
+
 fn print_all(rt: &HostRuntime) -> io::Result<()> {
     let mut out = BufWriter::new(rt.alloc(), rt.stdout())?;
     let mut text = String::new(rt.alloc());
@@ -47,16 +64,11 @@ fn print_all(rt: &HostRuntime) -> io::Result<()> {
             list.push(String::from_str(rt.alloc(), word)?)?;
         }
         if let Ok(words) = words::Words::read(rt.alloc(), &list) {
-            let len = words.table_post_header_len;
-            match decode_pairs_of(rt.alloc(), SERVER, &words.table, len, &words.rows, words.ctx) {
-                Ok(decoded) => {
-                    let lines = lines::Lines(&decoded.pairs);
-                    write!(out, "{lines}")?;
-                    if let Some(fault) = decoded.fault {
-                        writeln!(out, "fault {fault:?}")?;
-                    }
-                }
-                Err(fault) => writeln!(out, "fault {fault:?}")?,
+            let mut lines = Vec::new(rt.alloc());
+            let read = add_lines(rt.alloc(), &words, &mut lines);
+            out.write_all(&lines)?;
+            if let Err(fault) = read {
+                writeln!(out, "fault {fault:?}")?;
             }
         }
         writeln!(out, "==")?;

@@ -2,11 +2,15 @@
 //! was: `binlog_count_lent memory FILE` reads the whole file into memory first, and `binlog_count_lent
 //! source FILE` reads it one event at a time.
 //!
+//! `binlog_count_lent json FILE` writes the rows of a file in memory as lines of JSON, and prints how
+//! many lines and bytes there were.
+//!
 //! `binlog_count` does the same over cells that are owned. These are two programs, because what two
 //! readings call is inlined less than what one does, so that each would count as dearer than it is.
 #![tactic(auto)]
 
 mod count;
+mod json;
 mod lent;
 
 use count::Count;
@@ -35,6 +39,10 @@ fn run(rt: &HostRuntime) -> io::Result<u8> {
     let count = match (way.as_str(), words.next()) {
         ("memory", None) => lent::from_memory(alloc, &fs::read(rt, path.as_str())?),
         ("source", None) => lent::from_source(alloc, open(rt, path.as_str())?),
+        ("json", None) => {
+            let lines = json::from_memory(alloc, &fs::read(rt, path.as_str())?);
+            return print_lines(rt, &lines);
+        }
         _ => return usage(rt),
     };
     print(rt, &count)
@@ -47,7 +55,7 @@ fn open(rt: &HostRuntime, path: &str) -> io::Result<BufReader<File>> {
 
 // Prints what the program is called with, and returns the exit status 2.
 fn usage(rt: &HostRuntime) -> io::Result<u8> {
-    eprintln!(rt; "usage: binlog_count_lent memory|source FILE")?;
+    eprintln!(rt; "usage: binlog_count_lent memory|source|json FILE")?;
     Ok(2)
 }
 
@@ -63,4 +71,18 @@ fn print(rt: &HostRuntime, count: &Count) -> io::Result<u8> {
             Ok(1)
         }
     }
+}
+
+// Prints how many lines of JSON there were, the fault of a row if there was one, and the error with
+// which the file ends if it does. Returns the exit status, 1 if there is a fault or an error.
+fn print_lines(rt: &HostRuntime, lines: &json::Lines) -> io::Result<u8> {
+    let (count, bytes) = (lines.count, lines.bytes);
+    println!(rt; "{count} lines, {bytes} bytes")?;
+    if let Some(fault) = lines.fault {
+        eprintln!(rt; "{fault}")?;
+    }
+    if let Some(error) = lines.error {
+        eprintln!(rt; "{error}")?;
+    }
+    Ok(u8::from(lines.fault.is_some() || lines.error.is_some()))
 }

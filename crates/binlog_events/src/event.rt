@@ -46,7 +46,8 @@ impl<'a> Model for Raw<'a> {
 }
 
 impl<'a> Raw<'a> {
-    /// Returns the event with these 19 bytes of the header, which say `header`, and these after them.
+    /// Returns the event with these 19 bytes of the header, this header, and these bytes after it. It
+    /// isn't checked that the bytes say the header.
     pub fn new(head: &'a [u8], header: BinlogEventHeader, rest: &'a [u8]) -> Raw<'a>
         requires { length head.now ≡ 19 }
         ensures { result ≡ Spec.raw head.now header rest.now }

@@ -1,4 +1,4 @@
--- Which events are asked for, and the next of them.
+-- Which events are asked for.
 use Rattle.std.specs.Prelude.{ℕ, nat_eq, Bool, ◌||◌, List}
 use Rattle.std.specs.List.{list_any}
 use Rattle.std.specs.Option.{is_some}

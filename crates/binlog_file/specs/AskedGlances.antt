@@ -28,7 +28,7 @@ pub record GlanceAsked (types : List ℕ) (old : Spot) (item : Option (Result Gl
   pub steps : GlanceSteps place in_force item q t
   pub is_asked_for : IsGlanceAsked types item
 
--- the same of a source: where the reading was when it came to the event
+-- a glance at the next event of a source that is asked for: the reading, past the others, gives it
 pub record SourceGlance (types : List ℕ) (old : Option (List ℕ)) (r : Reading) (p : Option FileError) (g : Glance) (new : Option (List ℕ)) (s : Reading) : Type 0 where
   pub mid : Option (List ℕ)
   pub at : Reading

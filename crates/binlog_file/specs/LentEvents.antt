@@ -79,7 +79,7 @@ abbrev pub PassesOver : List ℕ → ℕ → Spot → Spot → Type 0
 PassesOver types zero old new = new ≡ old
 PassesOver types (suc n) old new = (mid : Spot) × PassesOver types n old mid × PassesOne types mid new
 
--- an event that is given is asked for
+-- an event that is given is asked for; a rows event always is
 abbrev pub IsAsked : List ℕ → Option (Result LentEvent FileError) → Type 0
 IsAsked types (Some (Ok (lent.Other o))) = is_asked types o.header.event_type ≡ true
 IsAsked types item = ⊤

@@ -147,10 +147,14 @@ impl<'a, C: Choice + Drop> FileChanges<'a, C> {
 
     /// Reads on to the next event that is asked for, as `next_event` reads the next one: a rows event,
     /// or an event whose type has one of these numbers. Other events are passed over: they are read,
-    /// with their checksums and tables, and not returned. That takes a third of the time less where
-    /// events have one row.
+    /// with their checksums and tables, and not returned. `None` where none is left, and after an
+    /// error.
     ///
-    /// A rows event that isn't wanted comes as it is, whatever the types are.
+    /// A rows event that isn't wanted comes as it is, whatever the types are. No pair of rows is read
+    /// by this call.
+    ///
+    /// Fails as `next_event` does: an event that can't be read ends the reading, whether it is asked
+    /// for or not. Nothing is left after an error.
     pub fn next_event_of(&mut self, types: &[u8]) -> Option<Result<LentEvent<'a>, FileError>>
         ensures event { NextAsked Spec.IsMemory (C.wanted self.old.choice) types.now
             (spot_of self.old.walk) result (spot_of self.new.walk) }

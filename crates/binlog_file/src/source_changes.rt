@@ -396,9 +396,14 @@ impl<S: Source + Drop, C: Choice + Drop> SourceChanges<S, C> {
 
     /// Reads on to the next event that is asked for, as `next_event` reads the next one: a rows event,
     /// or an event whose type has one of these numbers. Other events are passed over: they are read,
-    /// with their checksums and tables, and not returned.
+    /// with their checksums and tables, and not returned. `None` where none is left, and after an
+    /// error.
     ///
-    /// A rows event that isn't wanted comes as it is, whatever the types are.
+    /// A rows event that isn't wanted comes as it is, whatever the types are. No pair of rows is read
+    /// by this call.
+    ///
+    /// Fails as `next_event` does: an event that can't be read ends the reading, whether it is asked
+    /// for or not. Nothing is left after an error.
     pub fn next_event_of<'b>(
         &mut self,
         buffer: &'b mut EventBuffer,

@@ -1,3 +1,2 @@
 -- The proofs of this program.
 pub mod SixWords
-pub mod Digits

@@ -1,3 +1,2 @@
 -- The definitions that the contracts of this program use.
 pub mod Words
-pub mod Lines

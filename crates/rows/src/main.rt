@@ -1,7 +1,6 @@
 //! Prints the pairs of rows of a rows event: `rows MLEN TYPE PLEN WLEN MAPHEX ROWSHEX`.
 #![tactic(auto)]
 
-pub mod lines;
 pub mod run;
 #[cfg(test)]
 mod tests;

@@ -21,31 +21,13 @@ fn is_same<'c>(one: &LentCell<'c>, other: &LentCell<'c>) -> bool {
     *one == *other
 }
 
-/// Returns whether a cell is equal to one that borrows an owned value.
-fn is_lent_of(cell: Option<&LentCell<'_>>, value: Option<&BinlogValue<'_>>) -> bool {
-    match (cell, value) {
-        (Some(cell), Some(value)) => is_same(cell, &value.lent()),
-        _ => false,
-    }
-}
-
-/// Returns whether each cell of a lent row is equal to one that borrows the value of an owned row.
-fn are_lent_of(lent: &LentRow<'_>, row: &BinlogRow) -> bool {
-    let mut all_are = true;
-    for index in 0..row.len() {
-        all_are = all_are && is_lent_of(lent.as_ref(index), row.as_ref(index));
-    }
-    all_are
-}
-
-/// Returns whether a lent row has the count and the columns of an owned row and equal cells, and a copy
-/// of it is that row.
+/// Returns whether a lent row has the count and the columns of an owned row, and a copy of it is that
+/// row.
 fn is_row(alloc: Global, lent: &LentRow<'_>, row: &BinlogRow) -> Result<bool, AllocError> {
     let same_count = lent.len() == row.len() && lent.is_empty() == row.is_empty();
-    let same_cells = are_lent_of(lent, row);
     let same_columns = lent.columns_ref() == row.columns_ref()
         && lent.columns(alloc)?.as_slice() == row.columns_ref();
-    Ok(same_count && same_cells && same_columns && lent.to_owned(alloc)? == *row)
+    Ok(same_count && same_columns && lent.to_owned(alloc)? == *row)
 }
 
 /// Returns whether both rows are there and are the same, or neither is there.

@@ -1,0 +1,46 @@
+use Rattle.std.proofs.Common.{◌≡◌, ◌<◌, ◌≤◌, true, false, List, [], ◌++◌, length, get_or, arith, sym, subst, append_assoc, append-nil}
+use Rattle.row_json.specs.Wrote.{Named}
+use Rattle.row_json.specs.Rows.{AreMembers}
+use Rattle.row_json.proofs.Steps.{adds_members}
+use Rattle.row_json.proofs.Columns.{present_step, absent_step, last_step}
+use Rattle.row_json.proofs.row.write_members.Goals as goal
+
+pub loop-index-preserved-then-not-is_present : goal.loop-index-preserved-then-not-is_present
+loop-index-preserved-then-not-is_present g c =
+    let inv = c.loop-index.invariant in
+    let i = c.loop-index.index in
+    let below : i < length c.args.columns.now = omega arith in
+    let e : get_or c.args.present.now i false ≡ false = grind arith in
+    (inv.0, inv.1, (λ more are. inv.2 more (absent_step c.args.part c.args.columns.now c.args.present.now i c.loop-index.place (g.R.Row.image c.args.row.now).values more below e are)), omega (arith, inv.3))
+
+pub overflow_add-place : goal.overflow_add-place
+overflow_add-place g c = omega (arith, c.loop-index.invariant.3)
+
+pub loop-index-preserved : goal.loop-index-preserved
+loop-index-preserved g c =
+    let inv = c.loop-index.invariant in
+    let i = c.loop-index.index in
+    let p = c.args.part in
+    let cs = c.args.columns.now in
+    let bits = c.args.present.now in
+    let values = (g.R.Row.image c.args.row.now).values in
+    let place = c.loop-index.place in
+    let column = c.index-columns-index.result in
+    let w = c.in_ok-write_member.ensures.written in
+    let below : i < length cs = omega arith in
+    let e : get_or bits i false ≡ true = grind arith in (
+      inv.0 ++ w.0,
+      adds_members inv.0 w.0 inv.1 w.2,
+      (λ more are. subst (λ (ms : List Named). AreMembers p cs bits 0 values ms) (sym (append_assoc inv.0 w.0 more)) (inv.2 (w.0 ++ more) (present_step p cs bits i place values column w.0 more below c.index-columns-index.is e w.1 are))),
+      omega (arith, inv.3),
+    )
+
+pub returns-clause-written : goal.returns-clause-written
+returns-clause-written g c =
+    let inv = c.loop-index.invariant in
+    let p = c.args.part in
+    let cs = c.args.columns.now in
+    let bits = c.args.present.now in
+    let values = (g.R.Row.image c.args.row.now).values in
+    let past : length cs ≤ c.loop-index.index = omega arith in
+    (inv.0, subst (λ (ms : List Named). AreMembers p cs bits 0 values ms) (append-nil inv.0) (inv.2 [] (last_step p cs bits c.loop-index.index c.loop-index.place values past)), inv.1)

@@ -1,0 +1,12 @@
+-- The definitions that the contracts of this crate use.
+pub mod Charsets
+pub mod Kinds
+pub mod Times
+pub mod Columns
+pub mod Floats
+pub mod Values
+pub mod Wrote
+pub mod Documents
+pub mod Faults
+pub mod Rows
+pub mod Shown

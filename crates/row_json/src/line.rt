@@ -1,0 +1,146 @@
+//! Pairs of rows as lines.
+
+ghost use Rattle.std.specs.Prelude.{◌≡◌, ◌≢◌, ◌++◌, ℕ, List, [], IfErr, OnOk, OnErr, codes};
+ghost use Rattle.binlog_base.specs.declared.fault.Fault.TheVariants as Fault;
+ghost use Rattle.row_json.specs.Rows.{IsLine};
+ghost use Rattle.row_json.specs.Faults.{IsFaultOfPair};
+
+use crate::images::Images;
+use crate::members::{Members, NoMembers};
+use crate::pair::write_images;
+use crate::table::TableJson;
+use binlog_base::fault::Fault;
+use json::Writer;
+use mysql_binlog_rows::rows_event::{LentPair, RowPair, RowsEvent};
+use std::alloc::{AllocError, Global};
+use std::mem;
+
+/// Room in which lines are made, kept from line to line. It takes no memory until it is used, and
+/// grows to the longest line.
+#[derive(Drop)]
+pub struct LineRoom {
+    /// Room for the texts of values.
+    text: String,
+    /// The line.
+    line: Vec<u8>,
+}
+
+impl LineRoom {
+    /// Makes an empty room.
+    pub fn new(alloc: Global) -> LineRoom {
+        LineRoom {
+            text: String::new(alloc),
+            line: Vec::new(alloc),
+        }
+    }
+
+    // Takes the buffer of the line, which is emptied: behind a buffer that holds something the writer
+    // makes room ready that a line seldom needs.
+    fn begin(&mut self, alloc: Global) -> Writer
+        ensures before { result.before ≡ [] }
+        ensures tokens { result.tokens ≡ [] }
+    {
+        let mut line = mem::replace(&mut self.line, Vec::new(alloc));
+        line.clear();
+        Writer::new(line)
+    }
+
+    // Adds the line and a line's end to the lines.
+    fn add_to(&mut self, lines: &mut Vec<u8>) -> Result<(), AllocError>
+        ensures added { OnOk result
+            (lines.new.items ≡ lines.old.items ++ (self.old.line.items ++ codes "\n")) }
+        ensures kept { OnErr result (lines.new.items ≡ lines.old.items) }
+    {
+        self.line.push(b'\n')?;
+        lines.extend_from_slice(&self.line)
+    }
+}
+
+// Adds the line of a pair of rows of either kind, with the members of a caller.
+fn add_line<P: Images, M: Members>(
+    alloc: Global,
+    room: &mut LineRoom,
+    lines: &mut Vec<u8>,
+    table: &TableJson,
+    event: &RowsEvent<'_>,
+    pair: &P,
+    members: &M,
+) -> Result<(), Fault>
+    ensures written { OnOk result ((line : List ℕ)
+        × IsLine table.now event.now (M.members members.now) (P.pair pair.now) line
+        × (lines.new.items ≡ lines.old.items ++ line)) }
+    ensures kept { OnErr result (lines.new.items ≡ lines.old.items) }
+    ensures err { IfErr result (λ e. e ≢ Fault.Memory → IsFaultOfPair (P.pair pair.now) e) }
+{
+    let mut out = room.begin(alloc);
+    let written = write_images(alloc, &mut room.text, &mut out, table, event, pair, members);
+    room.line = out.into_inner();
+    written?;
+    room.add_to(lines)?;
+    Ok(())
+}
+
+/// Adds a pair of rows to the end of `lines`, as a line: the object that `write_pair` writes, and a
+/// line's end.
+///
+/// `room` is kept from call to call: once it and `lines` have grown, a line takes memory only for
+/// documents of JSON and for diffs.
+///
+/// The error is the fault of a document of JSON, or `Memory`. Then `lines` holds what it held.
+pub fn write_line(
+    alloc: Global,
+    room: &mut LineRoom,
+    lines: &mut Vec<u8>,
+    table: &TableJson,
+    event: &RowsEvent<'_>,
+    pair: &LentPair<'_>,
+) -> Result<(), Fault>
+    ensures written { OnOk result ((line : List ℕ)
+        × IsLine table.now event.now [] pair.now line
+        × (lines.new.items ≡ lines.old.items ++ line)) }
+    ensures kept { OnErr result (lines.new.items ≡ lines.old.items) }
+    ensures err { IfErr result (λ e. e ≢ Fault.Memory → IsFaultOfPair pair.now e) }
+{
+    write_line_with(alloc, room, lines, table, event, pair, &NoMembers)
+}
+
+/// Adds a pair of rows to the end of `lines`, as `write_line` does, with the members of the caller's
+/// between `op` and `before`.
+pub fn write_line_with<M: Members>(
+    alloc: Global,
+    room: &mut LineRoom,
+    lines: &mut Vec<u8>,
+    table: &TableJson,
+    event: &RowsEvent<'_>,
+    pair: &LentPair<'_>,
+    members: &M,
+) -> Result<(), Fault>
+    ensures written { OnOk result ((line : List ℕ)
+        × IsLine table.now event.now (M.members members.now) pair.now line
+        × (lines.new.items ≡ lines.old.items ++ line)) }
+    ensures kept { OnErr result (lines.new.items ≡ lines.old.items) }
+    ensures err { IfErr result (λ e. e ≢ Fault.Memory → IsFaultOfPair pair.now e) }
+{
+    add_line(alloc, room, lines, table, event, pair, members)
+}
+
+/// Adds a pair of rows that own their values to the end of `lines`, as `write_line` adds one whose
+/// cells are lent.
+///
+/// The error is the fault of a document of JSON, or `Memory`. Then `lines` holds what it held.
+pub fn write_owned_line(
+    alloc: Global,
+    room: &mut LineRoom,
+    lines: &mut Vec<u8>,
+    table: &TableJson,
+    event: &RowsEvent<'_>,
+    pair: &RowPair,
+) -> Result<(), Fault>
+    ensures written { OnOk result ((line : List ℕ)
+        × IsLine table.now event.now [] pair.now line
+        × (lines.new.items ≡ lines.old.items ++ line)) }
+    ensures kept { OnErr result (lines.new.items ≡ lines.old.items) }
+    ensures err { IfErr result (λ e. e ≢ Fault.Memory → IsFaultOfPair pair.now e) }
+{
+    add_line(alloc, room, lines, table, event, pair, &NoMembers)
+}

@@ -1,0 +1,191 @@
+//! Pairs of rows as JSON.
+
+ghost use Rattle.std.specs.Prelude.{◌≡◌, ◌≢◌, [], IfErr, OnOk};
+ghost use Rattle.std.specs.List.{list_any};
+ghost use Rattle.std.specs.Option.{option_map};
+ghost use Rattle.binlog_base.specs.declared.fault.Fault.TheVariants as Fault;
+ghost use Rattle.row_json.specs.Rows.{IsImageJson, is_diffs, AreDiffs, present_in, operation_of, IsPairJson};
+ghost use Rattle.row_json.specs.Faults.{IsFaultOfImage, IsFaultOfPair};
+ghost use Rattle.row_json.specs.Wrote.{Wrote, WroteMembers};
+
+use crate::images::{Images, Row};
+use crate::members::{Members, NoMembers};
+use crate::row::{Part, write_object};
+use crate::table::TableJson;
+use binlog_base::bits::{BitOrder, BitView};
+use binlog_base::fault::Fault;
+use json::Writer;
+use mysql_binlog_rows::rows_event::{LentPair, RowPair, RowsEvent};
+use std::alloc::Global;
+
+// Returns the columns of an image: none if the event has no such image.
+fn present_in(present: Option<BitView<'_>>) -> BitView<'_>
+    ensures { result ≡ present_in present.entry }
+{
+    match present {
+        Some(present) => present,
+        None => BitView::new(&[], 0, BitOrder::LeastSignificantFirst),
+    }
+}
+
+// Writes an image; null if it isn't there.
+fn write_image<R: Row>(
+    alloc: Global,
+    text: &mut String,
+    out: &mut Writer,
+    table: &TableJson,
+    present: &BitView<'_>,
+    image: Option<&R>,
+) -> Result<(), Fault>
+    ensures written { OnOk result (Wrote (IsImageJson table.now present.now
+        (option_map (λ r. R.image r.now) image.entry)) out.old out.new) }
+    ensures err { IfErr result (λ e. e ≢ Fault.Memory
+        → IsFaultOfImage (option_map (λ r. R.image r.now) image.entry) e) }
+{
+    match image {
+        None => Ok(out.null()?),
+        Some(row) => write_object(alloc, text, out, Part::Row, table, present, row),
+    }
+}
+
+// Returns whether a value of a row is diffs.
+fn has_diffs_in<R: Row>(row: &R) -> bool
+    ensures { result ≡ list_any is_diffs (R.image row.now).values }
+{
+    for index in 0..row.len() {
+        if row.is_diffs(index) {
+            return true;
+        }
+    }
+    false
+}
+
+// Writes the member `diffs`, if a value of the image is diffs.
+fn write_diffs_of<R: Row>(
+    alloc: Global,
+    text: &mut String,
+    out: &mut Writer,
+    table: &TableJson,
+    present: &BitView<'_>,
+    image: Option<&R>,
+) -> Result<(), Fault>
+    ensures written { OnOk result (WroteMembers (AreDiffs table.now present.now
+        (option_map (λ r. R.image r.now) image.entry)) out.old out.new) }
+    ensures err { IfErr result (λ e. e ≢ Fault.Memory
+        → IsFaultOfImage (option_map (λ r. R.image r.now) image.entry) e) }
+{
+    match image {
+        Some(row) if has_diffs_in(row) => {
+            out.key("diffs")?;
+            write_object(alloc, text, out, Part::Diffs, table, present, row)
+        }
+        _ => Ok(()),
+    }
+}
+
+// Returns c for a row that was inserted, d for one that was deleted, and else u.
+fn operation_of<P: Images>(pair: &P) -> &'static str
+    ensures { result.now ≡ operation_of (P.pair pair.now) }
+{
+    match (pair.before(), pair.after()) {
+        (None, Some(_)) => "c",
+        (Some(_), None) => "d",
+        _ => "u",
+    }
+}
+
+/// Writes a pair of rows of either kind, with the members of a caller.
+pub(crate) fn write_images<P: Images, M: Members>(
+    alloc: Global,
+    text: &mut String,
+    out: &mut Writer,
+    table: &TableJson,
+    event: &RowsEvent<'_>,
+    pair: &P,
+    members: &M,
+) -> Result<(), Fault>
+    ensures written { OnOk result (Wrote
+        (IsPairJson table.now event.now (M.members members.now) (P.pair pair.now)) out.old out.new) }
+    ensures err { IfErr result (λ e. e ≢ Fault.Memory → IsFaultOfPair (P.pair pair.now) e) }
+{
+    let before = present_in(event.columns_before_image());
+    let after = present_in(event.columns_after_image());
+    out.begin_object()?;
+    out.key("op")?;
+    out.string(operation_of(pair))?;
+    members.write(out)?;
+    out.key("before")?;
+    write_image(alloc, text, out, table, &before, pair.before())?;
+    out.key("after")?;
+    write_image(alloc, text, out, table, &after, pair.after())?;
+    write_diffs_of(alloc, text, out, table, &after, pair.after())?;
+    out.end_object()?;
+    Ok(())
+}
+
+/// Writes a pair of rows of an event as an object:
+///
+/// - `op`: `c` if the row was inserted, `d` if it was deleted, `u` if it was changed;
+/// - `before` and `after`: the rows, as `write_row` writes them; null for one that isn't there;
+/// - `diffs`, if some column of the row after the change has diffs of a document: these columns, with
+///   their diffs as arrays.
+///
+/// `table` is of the table map event that is in force for the event. `text` is room for making texts.
+/// It takes no memory where it is kept from call to call.
+///
+/// The error is the fault of a document of JSON, or `Memory`. A part of the object may then have been
+/// written.
+pub fn write_pair(
+    alloc: Global,
+    text: &mut String,
+    out: &mut Writer,
+    table: &TableJson,
+    event: &RowsEvent<'_>,
+    pair: &LentPair<'_>,
+) -> Result<(), Fault>
+    ensures written { OnOk result (Wrote
+        (IsPairJson table.now event.now [] pair.now) out.old out.new) }
+    ensures err { IfErr result (λ e. e ≢ Fault.Memory → IsFaultOfPair pair.now e) }
+{
+    write_pair_with(alloc, text, out, table, event, pair, &NoMembers)
+}
+
+/// Writes a pair of rows as `write_pair` does, with members of the caller's between `op` and `before`.
+///
+/// The error is the fault of a document of JSON, or `Memory`. A part of the object may then have been
+/// written.
+pub fn write_pair_with<M: Members>(
+    alloc: Global,
+    text: &mut String,
+    out: &mut Writer,
+    table: &TableJson,
+    event: &RowsEvent<'_>,
+    pair: &LentPair<'_>,
+    members: &M,
+) -> Result<(), Fault>
+    ensures written { OnOk result (Wrote
+        (IsPairJson table.now event.now (M.members members.now) pair.now) out.old out.new) }
+    ensures err { IfErr result (λ e. e ≢ Fault.Memory → IsFaultOfPair pair.now e) }
+{
+    write_images(alloc, text, out, table, event, pair, members)
+}
+
+/// Writes a pair of rows that own their values, as `write_pair` writes one whose cells are lent: the
+/// same pair has the same JSON.
+///
+/// The error is the fault of a document of JSON, or `Memory`. A part of the object may then have been
+/// written.
+pub fn write_owned_pair(
+    alloc: Global,
+    text: &mut String,
+    out: &mut Writer,
+    table: &TableJson,
+    event: &RowsEvent<'_>,
+    pair: &RowPair,
+) -> Result<(), Fault>
+    ensures written { OnOk result (Wrote
+        (IsPairJson table.now event.now [] pair.now) out.old out.new) }
+    ensures err { IfErr result (λ e. e ≢ Fault.Memory → IsFaultOfPair pair.now e) }
+{
+    write_images(alloc, text, out, table, event, pair, &NoMembers)
+}

@@ -1,0 +1,225 @@
+//! Rows as JSON.
+
+ghost use Rattle.std.specs.Prelude.{◌≡◌, ◌≢◌, ◌<◌, OnOk, IfErr, Some, slice_index_or, false};
+ghost use Rattle.std.specs.Option.{option_map};
+ghost use Rattle.binlog_base.specs.declared.fault.Fault.TheVariants as Fault;
+ghost use Rattle.binlog_cells.specs.LentCells.{lent_cell};
+ghost use Rattle.row_json.specs.Rows.{IsMember, IsDiffsMember, IsMemberOf, AreMembers, IsObjectOf, IsRowJson};
+ghost use Rattle.row_json.specs.Faults.{IsFaultOfCell, IsFaultOfRow};
+ghost use Rattle.row_json.specs.Wrote.{Wrote, WroteMembers};
+
+use crate::cell::write_cell;
+use crate::document::write_lent_diffs;
+use crate::images::Row;
+use crate::table::{ColumnJson, TableJson};
+use binlog_base::bits::BitView;
+use binlog_base::fault::Fault;
+use json::Writer;
+use mysql_binlog_rows::row::{BinlogRow, LentRow};
+use mysql_binlog_rows::value::LentCell;
+use std::alloc::Global;
+
+/// What of a row an object has.
+#[derive(Clone, Copy)]
+pub(crate) enum Part {
+    /// The cells that aren't diffs.
+    Row,
+    /// The cells that are diffs.
+    Diffs,
+}
+
+// Writes the member of a value; none for diffs.
+fn write_member_of_value(
+    alloc: Global,
+    text: &mut String,
+    out: &mut Writer,
+    column: &ColumnJson,
+    value: &LentCell<'_>,
+) -> Result<(), Fault>
+    ensures written { OnOk result (WroteMembers
+        (IsMember column.now (Some (lent_cell value.now))) out.old out.new) }
+    ensures err { IfErr result (λ e. e ≢ Fault.Memory → IsFaultOfCell (Some (lent_cell value.now)) e) }
+{
+    match value {
+        LentCell::Diffs(_) => Ok(()),
+        _ => {
+            out.key(column.name())?;
+            write_cell(alloc, text, out, column, value)?;
+            Ok(())
+        }
+    }
+}
+
+// Writes the member of a cell; none for diffs. A value that was taken from its row is null.
+fn write_member(
+    alloc: Global,
+    text: &mut String,
+    out: &mut Writer,
+    column: &ColumnJson,
+    cell: Option<&LentCell<'_>>,
+) -> Result<(), Fault>
+    ensures written { OnOk result (WroteMembers
+        (IsMember column.now (option_map (λ v. lent_cell v.now) cell.entry)) out.old out.new) }
+    ensures err { IfErr result (λ e. e ≢ Fault.Memory
+        → IsFaultOfCell (option_map (λ v. lent_cell v.now) cell.entry) e) }
+{
+    match cell {
+        None => {
+            out.key(column.name())?;
+            out.null()?;
+            Ok(())
+        }
+        Some(value) => write_member_of_value(alloc, text, out, column, value),
+    }
+}
+
+// Writes the member of a value in `diffs`; none for a value that isn't diffs.
+fn write_diffs_of_value(
+    alloc: Global,
+    text: &mut String,
+    out: &mut Writer,
+    column: &ColumnJson,
+    value: &LentCell<'_>,
+) -> Result<(), Fault>
+    ensures written { OnOk result (WroteMembers
+        (IsDiffsMember column.now (Some (lent_cell value.now))) out.old out.new) }
+    ensures err { IfErr result (λ e. e ≢ Fault.Memory → IsFaultOfCell (Some (lent_cell value.now)) e) }
+{
+    match value {
+        LentCell::Diffs(diffs) => {
+            out.key(column.name())?;
+            write_lent_diffs(alloc, text, out, diffs)?;
+            Ok(())
+        }
+        _ => Ok(()),
+    }
+}
+
+// Writes the member of a cell in `diffs`; none for a cell that isn't diffs.
+fn write_diffs_member(
+    alloc: Global,
+    text: &mut String,
+    out: &mut Writer,
+    column: &ColumnJson,
+    cell: Option<&LentCell<'_>>,
+) -> Result<(), Fault>
+    ensures written { OnOk result (WroteMembers
+        (IsDiffsMember column.now (option_map (λ v. lent_cell v.now) cell.entry)) out.old out.new) }
+    ensures err { IfErr result (λ e. e ≢ Fault.Memory
+        → IsFaultOfCell (option_map (λ v. lent_cell v.now) cell.entry) e) }
+{
+    match cell {
+        None => Ok(()),
+        Some(value) => write_diffs_of_value(alloc, text, out, column, value),
+    }
+}
+
+// Returns whether a column is in an image.
+fn is_present(present: &BitView<'_>, index: usize) -> bool
+    ensures { result ≡ slice_index_or present.now index false }
+{
+    present.get(index).unwrap_or(false)
+}
+
+/// Writes the member of a cell in its row, or in `diffs`.
+pub(crate) fn write_member_of(
+    alloc: Global,
+    text: &mut String,
+    out: &mut Writer,
+    part: Part,
+    column: &ColumnJson,
+    cell: Option<&LentCell<'_>>,
+) -> Result<(), Fault>
+    ensures written { OnOk result (WroteMembers
+        (IsMemberOf part column.now (option_map (λ v. lent_cell v.now) cell.entry)) out.old out.new) }
+    ensures err { IfErr result (λ e. e ≢ Fault.Memory
+        → IsFaultOfCell (option_map (λ v. lent_cell v.now) cell.entry) e) }
+{
+    match part {
+        Part::Row => write_member(alloc, text, out, column, cell),
+        Part::Diffs => write_diffs_member(alloc, text, out, column, cell),
+    }
+}
+
+// Writes the members of the columns that are in the image.
+fn write_members<R: Row>(
+    alloc: Global,
+    text: &mut String,
+    out: &mut Writer,
+    part: Part,
+    columns: &[ColumnJson],
+    present: &BitView<'_>,
+    row: &R,
+) -> Result<(), Fault>
+    ensures written { OnOk result (WroteMembers
+        (AreMembers part columns.now present.now 0 (R.image row.now).values) out.old out.new) }
+    ensures err { IfErr result (λ e. e ≢ Fault.Memory → IsFaultOfRow (R.image row.now) e) }
+{
+    let mut place = 0;
+    for index in 0..columns.len() {
+        if !is_present(present, index) {
+            continue;
+        }
+        row.write_member(place, alloc, text, out, part, &columns[index])?;
+        place += 1;
+    }
+    Ok(())
+}
+
+/// Writes a row as an object. `present` has a bit for each column of the rows event, which is set if
+/// the column is in the row's image. `text` is room for making texts.
+///
+/// The error is the fault of a document of JSON, or `Memory`. A part of the object may then have been
+/// written.
+pub fn write_row(
+    alloc: Global,
+    text: &mut String,
+    out: &mut Writer,
+    table: &TableJson,
+    present: &BitView<'_>,
+    row: &LentRow<'_>,
+) -> Result<(), Fault>
+    ensures written { OnOk result (Wrote (IsRowJson table.now present.now row.now) out.old out.new) }
+    ensures err { IfErr result (λ e. e ≢ Fault.Memory → IsFaultOfRow row.now e) }
+{
+    write_object(alloc, text, out, Part::Row, table, present, row)
+}
+
+/// Writes a row that owns its values as an object, as `write_row` writes one whose cells are lent: the
+/// same row has the same JSON. A value that was taken from the row is null.
+///
+/// The error is the fault of a document of JSON, or `Memory`. A part of the object may then have been
+/// written.
+pub fn write_owned_row(
+    alloc: Global,
+    text: &mut String,
+    out: &mut Writer,
+    table: &TableJson,
+    present: &BitView<'_>,
+    row: &BinlogRow,
+) -> Result<(), Fault>
+    ensures written { OnOk result (Wrote (IsRowJson table.now present.now row.now) out.old out.new) }
+    ensures err { IfErr result (λ e. e ≢ Fault.Memory → IsFaultOfRow row.now e) }
+{
+    write_object(alloc, text, out, Part::Row, table, present, row)
+}
+
+/// Writes a part of a row as an object.
+pub(crate) fn write_object<R: Row>(
+    alloc: Global,
+    text: &mut String,
+    out: &mut Writer,
+    part: Part,
+    table: &TableJson,
+    present: &BitView<'_>,
+    row: &R,
+) -> Result<(), Fault>
+    ensures written { OnOk result (Wrote
+        (IsObjectOf part table.now present.now (R.image row.now)) out.old out.new) }
+    ensures err { IfErr result (λ e. e ≢ Fault.Memory → IsFaultOfRow (R.image row.now) e) }
+{
+    out.begin_object()?;
+    write_members(alloc, text, out, part, table.columns(), present, row)?;
+    out.end_object()?;
+    Ok(())
+}

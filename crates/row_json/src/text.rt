@@ -1,0 +1,71 @@
+//! Bytes as JSON: text, numbers in bytes, and names.
+
+ghost use Rattle.std.specs.Prelude.{OnOk, ◌<◌};
+ghost use Rattle.json.specs.Tree.{json_tokens};
+ghost use Rattle.row_json.specs.Values.{base64_json, text_json, number_or_string, year_json};
+ghost use Rattle.row_json.specs.Wrote.{Adds};
+
+use crate::charset::{Charset, push_latin1, str_in};
+use base64::engine::general_purpose::STANDARD;
+use json::{Writer, is_number};
+use std::alloc::AllocError;
+
+/// Writes `{"base64":".."}`.
+pub(crate) fn write_base64(
+    text: &mut String,
+    out: &mut Writer,
+    bytes: &[u8],
+) -> Result<(), AllocError>
+    ensures { OnOk result (Adds out.old out.new (json_tokens (base64_json bytes.now))) }
+{
+    text.clear();
+    STANDARD.encode_string(bytes, text)?;
+    out.begin_object()?;
+    out.key("base64")?;
+    out.string(text.as_str())?;
+    out.end_object()
+}
+
+/// Writes bytes as a string if they are text of their character set, and else in base64.
+pub(crate) fn write_text(
+    text: &mut String,
+    out: &mut Writer,
+    charset: Charset,
+    bytes: &[u8],
+) -> Result<(), AllocError>
+    ensures { OnOk result (Adds out.old out.new (json_tokens (text_json charset bytes.now))) }
+{
+    if let Charset::Latin1 = charset {
+        text.clear();
+        push_latin1(text, bytes)?;
+        return out.string(text.as_str());
+    }
+    match str_in(charset, bytes) {
+        Some(characters) => out.string(characters),
+        None => write_base64(text, out, bytes),
+    }
+}
+
+/// Writes a text as a number if it is one of JSON, and else as a string.
+pub(crate) fn write_number_or_string(out: &mut Writer, text: &str) -> Result<(), AllocError>
+    ensures { OnOk result (Adds out.old out.new (json_tokens (number_or_string text.now))) }
+{
+    if is_number(text) {
+        out.number(text)
+    } else {
+        out.string(text)
+    }
+}
+
+/// Writes a year, given by its text, as a number. 1900 is 0.
+pub(crate) fn write_year(text: &mut String, out: &mut Writer, year: &[u8]) -> Result<(), AllocError>
+    ensures { OnOk result (Adds out.old out.new (json_tokens (year_json year.now))) }
+{
+    if year == b"1900".as_slice() {
+        return out.u64(0);
+    }
+    match str_in(Charset::Utf8mb4, year) {
+        Some(year) => write_number_or_string(out, year),
+        None => write_base64(text, out, year),
+    }
+}

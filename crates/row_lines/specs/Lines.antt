@@ -1,0 +1,75 @@
+-- The lines of pairs of rows, as bytes.
+use Rattle.std.specs.Prelude.{ℕ, Bool, zero, suc, ◌==◌, if◌then◌else◌, List, [], ◌∷◌, ◌++◌, length, codes, encode_utf8_all, Option, Some, None, slice_get}
+use Rattle.std.specs.List.{flat_map}
+use Rattle.std.specs.Fmt.{decimal, signed_decimal}
+use Rattle.std.specs.Int.{w32, w64, to_be_bytes}
+use Rattle.bstr.specs.Utf8.{lossy_chars}
+use Rattle.hex.specs.Hex.{encode_lower}
+use Rattle.binlog_base.specs.Writing.{IsPrefix}
+use Rattle.binlog_base.specs.Values.{PlainValue, Null, Bytes, Int, UInt, Float, Double, Date, Time, ColumnView, value_at}
+use Rattle.binlog_values.specs.JsonbValues.{JsonbValue, is_array, count_in}
+use Rattle.binlog_cells.specs.Cells.{Cell, PlainCell, JsonCell, DiffsCell}
+use Rattle.mysql_binlog_rows.specs.Images.{BinlogRow, Pair}
+
+-- numbers in decimal, separated by commas
+abbrev pub numbers_text : List ℕ → List ℕ
+numbers_text [] = []
+numbers_text (n ∷ []) = decimal n
+numbers_text (n ∷ m ∷ more) = decimal n ++ (codes "," ++ numbers_text (m ∷ more))
+
+abbrev pub plain_text : PlainValue → List ℕ
+plain_text Null = codes "NULL"
+plain_text (Bytes bytes) = codes "x" ++ encode_lower bytes
+plain_text (Int number) = signed_decimal number
+plain_text (UInt number) = decimal number
+plain_text (Float bits) = codes "f32:" ++ encode_lower (to_be_bytes w32 bits)
+plain_text (Double bits) = codes "f64:" ++ encode_lower (to_be_bytes w64 bits)
+plain_text (Date y m d h i s u) = codes "date(" ++ (numbers_text (y ∷ m ∷ d ∷ h ∷ i ∷ s ∷ u ∷ []) ++ codes ")")
+plain_text (Time is_negative d h i s u) = codes "time(" ++ ((if is_negative then codes "true" else codes "false") ++ (codes "," ++ (numbers_text (d ∷ h ∷ i ∷ s ∷ u ∷ []) ++ codes ")")))
+
+-- a document of binary JSON: the kind of a container and the count of its elements, or `scalar`
+abbrev pub container_text : Bool → Option ℕ → List ℕ
+container_text is_array None = codes "scalar"
+container_text is_array (Some count) = (if is_array then codes "array(" else codes "object(") ++ (decimal count ++ codes ")")
+
+abbrev pub json_text : JsonbValue → List ℕ
+json_text v = container_text (is_array v) (count_in v)
+
+-- the text of a cell; empty if the value was taken from its row
+abbrev pub cell_text : Option Cell → List ℕ
+cell_text None = []
+cell_text (Some (PlainCell value)) = plain_text value
+cell_text (Some (JsonCell value)) = json_text value
+cell_text (Some (DiffsCell diffs)) = codes "diffs(" ++ (decimal (length diffs) ++ codes ")")
+
+-- the name of a column, with invalid UTF-8 replaced; empty if there is no column
+abbrev pub name_text : Option ColumnView → List ℕ
+name_text None = []
+name_text (Some column) = encode_utf8_all (lossy_chars column.name)
+
+-- column i of a row as `name=cell`, with a comma before it unless it is the first
+abbrev pub comma : ℕ → List ℕ
+comma i = if i == 0 then [] else codes ", "
+
+abbrev pub field_text : BinlogRow → ℕ → List ℕ
+field_text row i = comma i ++ (name_text (slice_get row.columns i) ++ (codes "=" ++ cell_text (value_at row.values i)))
+
+-- the first n columns of a row
+unfoldable pub fields_text : BinlogRow → ℕ → List ℕ
+fields_text row zero = []
+fields_text row (suc i) = fields_text row i ++ field_text row i
+
+abbrev pub image_text : Option BinlogRow → List ℕ
+image_text None = codes "-"
+image_text (Some row) = codes "{" ++ (fields_text row (length row.values) ++ codes "}")
+
+-- the line of a pair of rows
+abbrev pub line_text : Pair → List ℕ
+line_text pair = image_text pair.0 ++ (codes " -> " ++ (image_text pair.1 ++ codes "\n"))
+
+abbrev pub lines_text : List Pair → List ℕ
+lines_text pairs = flat_map line_text pairs
+
+-- the new content begins with the old
+pub record Keeps (old new : List ℕ) : Type 0 where
+  pub kept : IsPrefix old new

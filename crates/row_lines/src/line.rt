@@ -1,0 +1,139 @@
+//! Rows, and pairs of rows, as text.
+#![tactic(auto, using(crate::proofs::Kept::keeping))]
+
+ghost use Rattle.std.specs.Prelude.{◌≡◌, ◌++◌, length, slice_get, OnOk, OnErr};
+ghost use Rattle.std.specs.Option.{option_map};
+ghost use Rattle.binlog_base.specs.Values.{value_at};
+ghost use Rattle.row_lines.specs.Lines.{Keeps, cell_text, comma, name_text, field_text, fields_text, image_text, line_text};
+
+use crate::bytes::push_text;
+use crate::cell::push_cell;
+use binlog_base::below::Column;
+use bstr::ByteSlice;
+use mysql_binlog_rows::row::LentRow;
+use mysql_binlog_rows::rows_event::LentPair;
+use std::alloc::{AllocError, Global};
+
+// Adds the name of the column at `index`, with invalid UTF-8 replaced; nothing where there is no
+// column.
+fn push_name(
+    alloc: Global,
+    buf: &mut Vec<u8>,
+    columns: &[Column],
+    index: usize,
+) -> Result<(), AllocError>
+    ensures added { OnOk result (buf.new.items
+        ≡ buf.old.items ++ name_text (slice_get columns.now index)) }
+    ensures kept { Keeps buf.old.items buf.new.items }
+{
+    match columns.get(index) {
+        None => Ok(()),
+        Some(column) => {
+            let name = column.name_ref().to_str_lossy(alloc)?;
+            push_text(buf, name.as_str().as_bytes())
+        }
+    }
+}
+
+// Adds the text of the cell at `index`; nothing where there is no cell.
+fn push_cell_at(
+    alloc: Global,
+    buf: &mut Vec<u8>,
+    row: &LentRow<'_>,
+    index: usize,
+) -> Result<(), AllocError>
+    ensures added { OnOk result (buf.new.items
+        ≡ buf.old.items ++ cell_text (value_at row.now.values index)) }
+    ensures kept { Keeps buf.old.items buf.new.items }
+{
+    match row.as_ref(index) {
+        None => Ok(()),
+        Some(cell) => push_cell(alloc, buf, cell),
+    }
+}
+
+// Adds a comma and a space before each column but the first.
+fn push_comma(buf: &mut Vec<u8>, index: usize) -> Result<(), AllocError>
+    ensures added { OnOk result (buf.new.items ≡ buf.old.items ++ comma index) }
+    ensures kept { Keeps buf.old.items buf.new.items }
+{
+    if index == 0 {
+        Ok(())
+    } else {
+        push_text(buf, b", ")
+    }
+}
+
+// Adds the column at `index`, as `name=cell`, with a comma before it unless it is the first.
+fn push_field(
+    alloc: Global,
+    buf: &mut Vec<u8>,
+    row: &LentRow<'_>,
+    index: usize,
+) -> Result<(), AllocError>
+    ensures added { OnOk result (buf.new.items ≡ buf.old.items ++ field_text row.now index) }
+    ensures kept { Keeps buf.old.items buf.new.items }
+{
+    push_comma(buf, index)?;
+    push_name(alloc, buf, row.columns_ref(), index)?;
+    push_text(buf, b"=")?;
+    push_cell_at(alloc, buf, row, index)
+}
+
+// Adds all columns of a row, in order.
+#[tactic(auto, using(crate::proofs::Kept::keeping), unfolding(crate::specs::Lines::fields_text))]
+fn push_fields(alloc: Global, buf: &mut Vec<u8>, row: &LentRow<'_>) -> Result<(), AllocError>
+    ensures added { OnOk result (buf.new.items
+        ≡ buf.old.items ++ fields_text row.now (length row.now.values)) }
+    ensures kept { Keeps buf.old.items buf.new.items }
+{
+    for index in 0..row.len() {
+        push_field(alloc, buf, row, index)?;
+    }
+    Ok(())
+}
+
+// Adds one row of a pair, in braces; `-` where it isn't there.
+fn push_image(alloc: Global, buf: &mut Vec<u8>, row: Option<&LentRow<'_>>) -> Result<(), AllocError>
+    ensures added { OnOk result (buf.new.items
+        ≡ buf.old.items ++ image_text (option_map (λ r. r.now) row.entry)) }
+    ensures kept { Keeps buf.old.items buf.new.items }
+{
+    match row {
+        None => push_text(buf, b"-"),
+        Some(row) => {
+            push_text(buf, b"{")?;
+            push_fields(alloc, buf, row)?;
+            push_text(buf, b"}")
+        }
+    }
+}
+
+// Adds both rows of a pair, with an arrow between them, and a line's end.
+fn push_images(alloc: Global, buf: &mut Vec<u8>, pair: &LentPair<'_>) -> Result<(), AllocError>
+    ensures added { OnOk result (buf.new.items ≡ buf.old.items ++ line_text pair.now) }
+    ensures kept { Keeps buf.old.items buf.new.items }
+{
+    push_image(alloc, buf, pair.before())?;
+    push_text(buf, b" -> ")?;
+    push_image(alloc, buf, pair.after())?;
+    push_text(buf, b"\n")
+}
+
+/// Adds the line of a pair of rows to the end of the buffer. It takes memory of its own only for the
+/// diffs of a document, and for a name that isn't UTF-8.
+///
+/// Fails if memory is refused; the buffer then holds what it held.
+pub fn push_line(alloc: Global, buf: &mut Vec<u8>, pair: &LentPair<'_>) -> Result<(), AllocError>
+    ensures added { OnOk result (buf.new.items ≡ buf.old.items ++ line_text pair.now) }
+    ensures kept { OnErr result (buf.new.items ≡ buf.old.items) }
+{
+    let len = buf.len();
+    match push_images(alloc, buf, pair) {
+        Ok(()) => Ok(()),
+        Err(error) => {
+            buf.truncate(len);
+            Err(error)
+        }
+    }
+}

@@ -72,24 +72,23 @@ fn events_that_are_left(rt: HostRuntime) -> Result<(), Fail> {
     Ok(())
 }
 
-/// Returns the kind of an event: `r` for a change, `t` for a table map event, `o` for another event, `f`
-/// for an error, `-` for nothing.
-fn kind_of(item: Option<Result<LentEvent<'_>, FileError>>) -> char {
-    match item {
-        None => '-',
-        Some(Err(_)) => 'f',
-        Some(Ok(LentEvent::Rows(_))) => 'r',
-        Some(Ok(LentEvent::Other(event))) if event.header().event_type() == 0x13 => 't',
-        Some(Ok(LentEvent::Other(_))) => 'o',
-    }
+/// Returns `r` for a change of the table of two columns, and else `?`.
+fn kind_of(change: &LentChange<'_>) -> char {
+    if is_of_two_columns(change) { 'r' } else { '?' }
 }
 
-/// Returns the kinds of the events of a file in memory that are asked for by these types.
+/// Returns the kinds of the events of a file in memory that are asked for by these types: `r` for a
+/// change, `o` for another event, `f` for an error, `-` for nothing.
 fn asked(alloc: Global, file: &[u8], types: &[u8]) -> Result<[char; 5], FileError> {
     let mut lent = FileChanges::new(alloc, file, AllRows)?;
     let mut kinds = ['?'; 5];
     for kind in &mut kinds {
-        *kind = kind_of(lent.next_event_of(types));
+        *kind = match lent.next_event_of(types) {
+            None => '-',
+            Some(Err(_)) => 'f',
+            Some(Ok(LentEvent::Other(_))) => 'o',
+            Some(Ok(LentEvent::Rows(change))) => kind_of(&change),
+        };
     }
     Ok(kinds)
 }
@@ -101,7 +100,12 @@ fn asked_of_a_source(alloc: Global, file: &[u8], types: &[u8]) -> Result<[char; 
     let mut buffer = EventBuffer::new(alloc);
     let mut kinds = ['?'; 5];
     for kind in &mut kinds {
-        *kind = kind_of(lent.next_event_of(&mut buffer, types));
+        *kind = match lent.next_event_of(&mut buffer, types) {
+            None => '-',
+            Some(Err(_)) => 'f',
+            Some(Ok(LentEvent::Other(_))) => 'o',
+            Some(Ok(LentEvent::Rows(change))) => kind_of(&change),
+        };
     }
     Ok(kinds)
 }
@@ -109,9 +113,9 @@ fn asked_of_a_source(alloc: Global, file: &[u8], types: &[u8]) -> Result<[char; 
 /// The types that are asked for, and the kinds of the events that come.
 const ASKED: &[(&[u8], [char; 5])] = &[
     (&[], ['r', 'r', '-', '-', '-']),
-    (&[0x13], ['t', 'r', 'r', '-', '-']),
+    (&[0x13], ['o', 'r', 'r', '-', '-']),
     (&[0x0f], ['o', 'r', 'r', '-', '-']),
-    (&[0x1e, 0x0f, 0x13], ['o', 't', 'r', 'r', '-']),
+    (&[0x1e, 0x0f, 0x13], ['o', 'o', 'r', 'r', '-']),
 ];
 
 #[test]

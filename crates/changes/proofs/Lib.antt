@@ -1,0 +1,10 @@
+-- The proofs of this program.
+pub mod Names
+pub mod Members
+pub mod Outputs
+pub mod Rows
+pub mod Alike
+pub mod Pairs
+pub mod Written
+pub mod Events
+pub mod Whole

@@ -1,0 +1,77 @@
+-- A file is read event by event, from its start to its end.
+use Rattle.std.proofs.Common.{◌≡◌, ◌<◌, ◌^◌, ◌+◌, ℕ, Bool, false, List, [], ◌∷◌, ◌++◌, length, Option, Some, None, Ok, refl, sym, ap, subst, ◌∙◌, length-append, arith}
+use Rattle.std.specs.Io.KnownBytes.{Appends, Keeps, Consumes}
+use Rattle.std.proofs.KnownBytes.{Appends-trans}
+use Rattle.binlog_events.specs.declared.error.FileError.{FileError}
+use Rattle.binlog_file.specs.declared.lent_changes.LentEvent.{LentEvent}
+use Rattle.binlog_file.specs.Events.{Event, magic}
+use Rattle.binlog_file.specs.Changes.{Wanted, Spot}
+use Rattle.binlog_file.specs.Stream.{Kept, Reading, first_kept}
+use Rattle.binlog_file.specs.LentEvents.{GoesPast}
+use Rattle.binlog_file.specs.SourceChanges.{Found, Finds, spot_at, SourceEvent}
+use Rattle.changes.specs.declared.run.Form.{Form}
+use Rattle.changes.specs.declared.run.Settings.{Settings}
+use Rattle.changes.specs.declared.filter.Filter.{Filter}
+use Rattle.changes.specs.Filters.{wanted_by}
+use Rattle.changes.specs.Outputs.{Outputs}
+use Rattle.changes.specs.Lines.{gtid_past, AreLines, WritesEvent, Writes}
+use Rattle.changes.specs.Runs.{AreAllLines}
+use Rattle.changes.proofs.Events.{event_more}
+use Rattle.changes.proofs.Outputs.{outputs_more}
+
+-- What was written so far: the lines of the events from a spot on up to the place of a reading, which finds
+-- these bytes.
+pub record SoFar (f : Form) (wanted : Wanted) (file : List ℕ) (from : Spot) (gtid : Option (List ℕ)) (out : Option (List ℕ)) (held : List ℕ) (source : Option (List ℕ)) (r : Reading) (pending : Option FileError) (here : Option (List ℕ)) (new : Option (List ℕ)) (left : List ℕ) : Type 0 where
+  pub goes_on : pending ≡ None
+  pub bytes : List ℕ
+  pub finds : Finds r source bytes
+  pub events : List Event
+  pub text : List ℕ
+  pub lines : AreLines f wanted file from gtid events text (spot_at r.kept None bytes) here
+  pub outputs : Outputs out held text new left
+
+-- one event more was read and written
+pub step : (f : Form) (wanted : Wanted) (file : List ℕ) (from : Spot) (gtid : Option (List ℕ)) (out : Option (List ℕ)) (held : List ℕ) (old : Option (List ℕ)) (r : Reading) (p : Option FileError) (here : Option (List ℕ)) (mid : Option (List ℕ)) (kept : List ℕ)
+    → SoFar f wanted file from gtid out held old r p here mid kept
+    → (x : LentEvent) (source : Option (List ℕ)) (s : Reading) (q : Option FileError) (after : Option (List ℕ)) (new : Option (List ℕ)) (left : List ℕ)
+    → SourceEvent wanted old r p (Some (Ok x)) source s q → WritesEvent f file here x mid kept new left → after ≡ gtid_past here x → SoFar f wanted file from gtid out held source s q after new left
+step f wanted file from gtid out held old r p here mid kept h x source s q after new left gives writes is =
+    let m = gives h.bytes h.finds in
+    let n = m.2 in
+    let e : Event = n.0 in
+    let begun = subst (λ (o : Option FileError). GoesPast (spot_at r.kept o h.bytes) e (spot_at s.kept q m.0)) h.goes_on n.1 in
+    let ended : q ≡ None = begun.goes_on in
+    let past = subst (λ (o : Option FileError). GoesPast (spot_at r.kept None h.bytes) e (spot_at s.kept o m.0)) ended begun in
+    let lines = event_more f wanted file from gtid h.events h.text (spot_at r.kept None h.bytes) here e (spot_at s.kept None m.0) x writes.0 h.lines past n.2 writes.1 in record {
+      goes_on = ended;
+      bytes = m.0;
+      finds = m.1;
+      events = h.events ++ e ∷ [];
+      text = h.text ++ writes.0;
+      lines = subst (λ (g : Option (List ℕ)). AreLines f wanted file from gtid (h.events ++ e ∷ []) (h.text ++ writes.0) (spot_at s.kept None m.0) g) (sym is) lines;
+      outputs = outputs_more out mid new held kept left h.text writes.0 h.outputs writes.2;
+    }
+
+appends_kept : (a b d : Option (List ℕ)) (t : List ℕ) → Appends a b t → Keeps b d → Appends a d t
+appends_kept None b d t p q = tt
+appends_kept (Some x) None d t p q = absurd p
+appends_kept (Some x) (Some y) None t p q = absurd q
+appends_kept (Some x) (Some y) (Some z) t p q = q ∙ p
+
+-- the lines of a whole file were written
+pub whole : (settings : Settings) (choice : Filter) (file x : List ℕ) (source : Option (List ℕ)) (r : Reading) (gtid : Option (List ℕ)) (a b d e : Option (List ℕ)) (held left : List ℕ)
+    → Consumes (Some x) source magic → r.kept ≡ first_kept → r.is_over ≡ false → length x < 2 ^ 64 → choice ≡ settings.filter → held ≡ [] → gtid ≡ None
+    → ((y : List ℕ) → Finds r source y → Writes settings.form (wanted_by choice) file settings.filter.positions.stop (spot_at r.kept None y) gtid a held b left)
+    → Appends b d left → Keeps d e → (text : List ℕ) × AreAllLines settings file x text × Appends a e text
+whole settings choice file x None r gtid a b d e held left consumes kept on small chosen empty none writes written flushed = absurd consumes
+whole settings choice file x (Some y) r gtid a b d e held left consumes kept on small chosen empty none writes written flushed =
+    let fits : r.kept.at + length y < 2 ^ 64 = omega (arith, ap (λ (k : Kept). k.at) kept, ap length consumes, length-append magic y, small) in
+    let w = writes y (subst (λ (o : Bool). Found o r.kept.at (Some y) y) (sym on) (refl, fits)) in
+    let f = settings.form in
+    let lines1 = subst (λ (c : Filter). AreLines f (wanted_by c) file (spot_at r.kept None y) gtid w.events w.text w.end w.after) chosen w.lines in
+    let lines2 = subst (λ (k : Kept). AreLines f (wanted_by settings.filter) file (spot_at k None y) gtid w.events w.text w.end w.after) kept lines1 in
+    let lines3 = subst (λ (g : Option (List ℕ)). AreLines f (wanted_by settings.filter) file (spot_at first_kept None y) g w.events w.text w.end w.after) none lines2 in
+    let all = Appends-trans a b d w.outputs.0 left w.outputs.1 written in
+    let out = subst (λ (t : List ℕ). Appends a d t) (sym w.outputs.2 ∙ ap (λ (t : List ℕ). t ++ w.text) empty) all in
+    subst (λ (t : List ℕ). (text : List ℕ) × AreAllLines settings file t text × Appends a e text) (sym consumes)
+    (w.text, record { magic = refl; events = w.events; end = w.end; gtid = w.after; lines = lines3; is_end = w.is_end }, appends_kept a d e w.text out flushed)

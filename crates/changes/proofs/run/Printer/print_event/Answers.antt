@@ -1,0 +1,12 @@
+use Rattle.std.proofs.Common.{[], refl, sym, subst, ap, ◌∙◌, append-nil}
+use Rattle.binlog_file.specs.declared.lent_changes.LentEvent.{LentEvent}
+use Rattle.changes.specs.declared.run.Lines.{Lines}
+use Rattle.changes.specs.Lines.{AreEventLines}
+use Rattle.changes.proofs.Outputs.{outputs_held}
+use Rattle.changes.proofs.run.Printer.print_event.Goals as goal
+
+pub returns-in_ok-see-in-Other-clause-lines : goal.returns-in_ok-see-in-Other-clause-lines
+returns-in_ok-see-in-Other-clause-lines g c =
+    let s = c.args.self.now in
+    let held = s.lines.bytes.items in
+    ([], subst (λ (x : LentEvent). AreEventLines s.settings.now.form s.file.now s.gtid x []) (sym c.in-Other.is) refl, outputs_held (g.O.Write.contents c.args.out.now) held [] c.see.new.self.lines.bytes.items (ap (λ (l : Lines). l.bytes.items) c.see.ensures.lines ∙ sym (append-nil held)))

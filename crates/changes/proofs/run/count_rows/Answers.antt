@@ -1,0 +1,27 @@
+use Rattle.std.proofs.Common.{◌≡◌, [], ◌∷◌, ◌++◌, refl, ◌∙◌}
+use Rattle.changes.proofs.Pairs.{nothing_read, pair_read, ok_gives, stays, same_table, same_rows}
+use Rattle.changes.proofs.run.count_rows.Goals as goal
+
+pub loop-read-init : goal.loop-read-init
+loop-read-init g c =
+    let e = c.args.change in
+    (record { walk = refl; source = refl; choice = refl }, refl, refl, [], nothing_read e.table e.rows e.left)
+
+pub loop-read-preserved : goal.loop-read-preserved
+loop-read-preserved g c =
+    let h = c.loop-read.invariant in
+    let e = c.args.change in
+    let old = c.loop-read.change in
+    let new = c.next_pair.new.change in
+    let p = c.next_pair.new.pair in
+    let gives = ok_gives old new p c.in-Some.read _ c.in-Ok.is c.in-Some.ensures.pair in (
+      record {
+        walk = stays _ c.in-Some.read _ _ _ c.in-Ok.is c.in-Some.ensures.reading ∙ h.0.walk;
+        source = c.in-Some.ensures.source ∙ h.0.source;
+        choice = c.in-Some.ensures.choice ∙ h.0.choice;
+      },
+      same_table old new p _ gives ∙ h.1,
+      same_rows old new p _ gives ∙ h.2,
+      h.3 ++ p ∷ [],
+      pair_read e.table e.rows e.left h.3 old new p _ h.1 h.2 h.4 gives,
+    )

@@ -1,0 +1,47 @@
+use Rattle.std.proofs.Common.{◌≡◌, ℕ, [], ◌∷◌, ◌++◌, length, refl, ◌∙◌, subst, arith, length-append, ap}
+use Rattle.mysql_binlog_rows.specs.RowsEvent.{RowsEvent}
+use Rattle.row_json.specs.Rows.{IsLine}
+use Rattle.changes.specs.declared.source.Source.{Source}
+use Rattle.changes.specs.Sources.{members_in, source_at}
+use Rattle.changes.specs.Rows.{row_number}
+use Rattle.changes.proofs.Pairs.{nothing_read, pair_read, ok_gives, stays, same_table, same_rows}
+use Rattle.changes.proofs.Rows.{line_more}
+use Rattle.changes.proofs.Outputs.{outputs_nothing, outputs_line, outputs_more}
+use Rattle.changes.proofs.run.write_json_rows.Goals as goal
+
+pub loop-read-init : goal.loop-read-init
+loop-read-init g c =
+    let e = c.args.change in
+    (record { walk = refl; source = refl; choice = refl }, refl, refl, [], [], nothing_read e.table e.rows e.left, refl, refl, outputs_nothing (g.O.Write.contents c.args.out.now) c.args.lines.now.bytes.items)
+
+pub loop-read-preserved : goal.loop-read-preserved
+loop-read-preserved g c =
+    let h = c.loop-read.invariant in
+    let e = c.args.change in
+    let old = c.loop-read.change in
+    let new = c.next_pair.new.change in
+    let p = c.next_pair.new.pair in
+    let u = c.in_ok-read.field-0 in
+    let gives = ok_gives old new p c.in-Some.read u c.in_ok-read.was c.in-Some.ensures.pair in
+    let added = c.in_ok-add_json.ensures in
+    let line = added.0 in
+    let cs = c.args.table.now in
+    let source = c.args.source.now in
+    let is = subst (λ (x : RowsEvent). IsLine cs x (members_in (source_at source (row_number (length h.3)))) p line) (c.rows.ensures ∙ same_rows old new p u gives ∙ h.2)
+    (subst (λ (n : ℕ). IsLine cs c.rows.result.now (members_in (source_at source n)) p line) h.7
+    (subst (λ (s : Source). IsLine cs c.rows.result.now (members_in s) p line) c.at.ensures added.1)) in
+    let out = outputs_line (g.O.Write.contents c.loop-read.out) (g.O.Write.contents c.write_if_full.new.out) c.loop-read.lines.bytes.items line c.add_json.new.self.bytes.items c.write_if_full.new.self.bytes.items added.2 c.in_ok-write_if_full.ensures in (
+      record {
+        walk = stays _ c.in-Some.read u _ _ c.in_ok-read.was c.in-Some.ensures.reading ∙ h.0.walk;
+        source = c.in-Some.ensures.source ∙ h.0.source;
+        choice = c.in-Some.ensures.choice ∙ h.0.choice;
+      },
+      same_table old new p u gives ∙ h.1,
+      same_rows old new p u gives ∙ h.2,
+      h.3 ++ p ∷ [],
+      h.4 ++ line,
+      pair_read e.table e.rows e.left h.3 old new p u h.1 h.2 h.5 gives,
+      line_more _ 0 h.3 h.4 p line (length h.3) h.6 (omega arith) is,
+      omega (arith, c.saturating_add-row.ensures, h.7, length-append h.3 (p ∷ [])),
+      outputs_more _ _ _ _ c.loop-read.lines.bytes.items _ h.4 line h.8 out,
+    )

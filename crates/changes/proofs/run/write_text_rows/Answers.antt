@@ -1,0 +1,36 @@
+use Rattle.std.proofs.Common.{◌≡◌, [], ◌∷◌, ◌++◌, length, refl, ◌∙◌, arith}
+use Rattle.row_lines.specs.Lines.{line_text}
+use Rattle.changes.proofs.Pairs.{nothing_read, pair_read, ok_gives, stays, same_table, same_rows}
+use Rattle.changes.proofs.Rows.{line_more}
+use Rattle.changes.proofs.Outputs.{outputs_nothing, outputs_line, outputs_more}
+use Rattle.changes.proofs.run.write_text_rows.Goals as goal
+
+pub loop-read-init : goal.loop-read-init
+loop-read-init g c =
+    let e = c.args.change in
+    (record { walk = refl; source = refl; choice = refl }, refl, refl, [], [], nothing_read e.table e.rows e.left, refl, outputs_nothing (g.O.Write.contents c.args.out.now) c.args.lines.now.bytes.items)
+
+pub loop-read-preserved : goal.loop-read-preserved
+loop-read-preserved g c =
+    let h = c.loop-read.invariant in
+    let e = c.args.change in
+    let old = c.loop-read.change in
+    let new = c.next_pair.new.change in
+    let p = c.next_pair.new.pair in
+    let u = c.in_ok-read.field-0 in
+    let gives = ok_gives old new p c.in-Some.read u c.in_ok-read.was c.in-Some.ensures.pair in
+    let line = c.args.place.now ++ line_text p in
+    let out = outputs_line (g.O.Write.contents c.loop-read.out) (g.O.Write.contents c.write_if_full.new.out) c.loop-read.lines.bytes.items line c.add_text.new.self.bytes.items c.write_if_full.new.self.bytes.items c.in_ok-add_text.ensures c.in_ok-write_if_full.ensures in (
+      record {
+        walk = stays _ c.in-Some.read u _ _ c.in_ok-read.was c.in-Some.ensures.reading ∙ h.0.walk;
+        source = c.in-Some.ensures.source ∙ h.0.source;
+        choice = c.in-Some.ensures.choice ∙ h.0.choice;
+      },
+      same_table old new p u gives ∙ h.1,
+      same_rows old new p u gives ∙ h.2,
+      h.3 ++ p ∷ [],
+      h.4 ++ line,
+      pair_read e.table e.rows e.left h.3 old new p u h.1 h.2 h.5 gives,
+      line_more _ 0 h.3 h.4 p line (length h.3) h.6 (omega arith) refl,
+      outputs_more _ _ _ _ c.loop-read.lines.bytes.items _ h.4 line h.7 out,
+    )

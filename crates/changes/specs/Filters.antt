@@ -1,0 +1,43 @@
+-- Which changes are wanted. It is a module of its own because Filter is a type of the code.
+use Rattle.std.specs.Prelude.{ℕ, Bool, false, ◌==◌, ◌&&◌, ◌||◌, List, length, bytes_eq, Option, Some, None}
+use Rattle.std.specs.List.{list_any}
+use Rattle.binlog_consts.specs.declared.consts.event_type.EventType.{EventType}
+use Rattle.binlog_consts.specs.declared.consts.event_type.EventType.TheVariants as types
+use Rattle.binlog_table.specs.TableMap.{TableMap}
+use Rattle.changes.specs.declared.filter.Operation.{Operation}
+use Rattle.changes.specs.declared.filter.Operation.TheVariants as operation
+use Rattle.changes.specs.declared.filter.Operations.{Operations}
+use Rattle.changes.specs.declared.filter.Positions.{Positions}
+use Rattle.changes.specs.declared.filter.TableNames.{TableNames}
+use Rattle.changes.specs.declared.filter.Filter.{Filter}
+use Rattle.changes.specs.Names.{full_name, is_from, is_before}
+
+-- what becomes of the rows of a rows event
+abbrev pub operation_of : EventType → Option Operation
+operation_of types.WRITE_ROWS_EVENT = Some operation.Insert
+operation_of types.WRITE_ROWS_EVENT_V1 = Some operation.Insert
+operation_of types.UPDATE_ROWS_EVENT = Some operation.Update
+operation_of types.UPDATE_ROWS_EVENT_V1 = Some operation.Update
+operation_of types.PARTIAL_UPDATE_ROWS_EVENT = Some operation.Update
+operation_of types.DELETE_ROWS_EVENT = Some operation.Delete
+operation_of types.DELETE_ROWS_EVENT_V1 = Some operation.Delete
+operation_of _ = None
+
+abbrev pub is_wanted : Operations → Option Operation → Bool
+is_wanted o None = false
+is_wanted o (Some operation.Insert) = o.inserts
+is_wanted o (Some operation.Update) = o.updates
+is_wanted o (Some operation.Delete) = o.deletes
+
+abbrev pub is_among : Positions → ℕ → Bool
+is_among p at = is_from p.start at && is_before p.stop at
+
+-- no names, or one of the databases or of the tables is the table's
+abbrev pub is_named : TableNames → List ℕ → List ℕ → Bool
+is_named names database table =
+    (length names.databases.now == 0 && length names.tables.now == 0)
+    || (list_any (λ name. bytes_eq name.now database) names.databases.now || list_any (λ name. bytes_eq name.now (full_name database table)) names.tables.now)
+
+-- a change is wanted if its event begins at one of the positions, and its operation and its table are wanted
+abbrev pub wanted_by : Filter → ℕ → TableMap → EventType → Bool
+wanted_by f at t type = is_among f.positions at && (is_wanted f.operations (operation_of type) && is_named f.tables t.database t.table)

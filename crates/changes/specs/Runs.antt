@@ -1,0 +1,17 @@
+-- What a run prints. It is a module of its own because Settings is a type of the code.
+use Rattle.std.specs.Prelude.{◌≡◌, ℕ, true, List, Option, None}
+use Rattle.binlog_file.specs.Events.{Event, is_binlog}
+use Rattle.binlog_file.specs.Changes.{Spot, first_spot}
+use Rattle.changes.specs.declared.run.Settings.{Settings}
+use Rattle.changes.specs.Filters.{wanted_by}
+use Rattle.changes.specs.Lines.{AreLines, IsEnd}
+
+-- These are all lines of a file of this name and these bytes: those of the events from its beginning up to
+-- its end or the stop position, each of which is read without an error.
+pub record AreAllLines (settings : Settings) (file : List ℕ) (x : List ℕ) (text : List ℕ) : Type 0 where
+  pub magic : is_binlog x ≡ true
+  pub events : List Event
+  pub end : Spot
+  pub gtid : Option (List ℕ)
+  pub lines : AreLines settings.form (wanted_by settings.filter) file (first_spot x) None events text end gtid
+  pub is_end : IsEnd settings.filter.positions.stop end

@@ -1,0 +1,68 @@
+//! The positions at which the reading of a file begins and stops.
+
+ghost use Rattle.std.specs.Prelude.{◌≡◌, ◌⊎◌, Some, None, OnOk};
+ghost use Rattle.changes.specs.Names.{is_before};
+
+use crate::error::Failure;
+use crate::filter::Positions;
+
+/// Finds out whether events begin at the start and stop positions.
+#[derive(Clone, Copy, Debug)]
+pub struct Bounds {
+    // The start position, as long as no event began there.
+    start: Option<u64>,
+    stop: Option<u64>,
+}
+
+impl Bounds {
+    /// Returns the bounds of a file of which nothing was read yet.
+    pub fn of(positions: Positions) -> Bounds
+        ensures start { result.start ≡ positions.start }
+        ensures stop { result.stop ≡ positions.stop }
+    {
+        Bounds {
+            start: positions.start,
+            stop: positions.stop,
+        }
+    }
+
+    /// Returns whether the event at a position, if there is one, is before the stop position.
+    pub fn goes_on(&self, position: u64) -> bool
+        ensures { result ≡ is_before self.now.stop position }
+    {
+        match self.stop {
+            Some(stop) => position < stop,
+            None => true,
+        }
+    }
+
+    /// Takes in that an event begins at a position. Fails with `NoEvent` if it is the first after the
+    /// start position, where none begins.
+    pub fn begin(&mut self, position: u64) -> Result<(), Failure>
+        ensures stop { self.new.stop ≡ self.old.stop }
+    {
+        match self.start {
+            Some(start) if start < position => Err(Failure::NoEvent(start)),
+            Some(start) if start == position => {
+                self.start = None;
+                Ok(())
+            }
+            _ => Ok(()),
+        }
+    }
+
+    /// Takes in that the reading ends at a position. Fails with `NoEvent` if no event began at the start
+    /// position, or if the stop position isn't this one.
+    pub fn end(&self, position: u64) -> Result<(), Failure>
+        ensures start { OnOk result (self.now.start ≡ None) }
+        ensures stop { OnOk result ((self.now.stop ≡ None) ⊎ (self.now.stop ≡ Some position)) }
+    {
+        if let Some(start) = self.start {
+            return Err(Failure::NoEvent(start));
+        }
+        match self.stop {
+            Some(stop) if stop != position => Err(Failure::NoEvent(stop)),
+            _ => Ok(()),
+        }
+    }
+}

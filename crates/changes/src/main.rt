@@ -1,0 +1,146 @@
+//! Prints the rows that changed in binlog files, one line of JSON each.
+#![tactic(auto)]
+
+pub mod arguments;
+pub mod bounds;
+pub mod count;
+pub mod error;
+pub mod filter;
+pub mod gtid;
+pub mod notes;
+pub mod progress;
+pub mod run;
+pub mod signs;
+pub mod source;
+pub mod statements;
+pub mod table;
+pub mod tables;
+
+use arguments::{Arguments, command, usage_error};
+use clap::ArgMatches;
+use count::Counts;
+use notes::Notes;
+use progress::Meter;
+use run::{Ended, run};
+use std::fs::File;
+use std::io::{BufReader, ErrorKind, Stderr};
+use std::process::ExitCode;
+use std::{env, io};
+
+fn main(rt: HostRuntime) -> ExitCode {
+    match program(&rt) {
+        Ok(status) => ExitCode::from(status),
+        Err(error) if error.kind() == ErrorKind::BrokenPipe => ExitCode::SUCCESS,
+        Err(error) => {
+            let _told = eprintln!(rt; "changes: {error}");
+            ExitCode::FAILURE
+        }
+    }
+}
+
+// Reads the words and the files, and returns the exit status.
+fn program(rt: &HostRuntime) -> io::Result<u8> {
+    let alloc = rt.alloc();
+    let words: Vec<String> = match env::args(rt) {
+        Ok(words) => words.collect(alloc)?,
+        Err(error) if error.kind() == ErrorKind::InvalidData => return not_utf8(rt),
+        Err(error) => return Err(error),
+    };
+    match command(alloc)?.try_get_matches_from(words.as_slice()) {
+        Ok(matches) => over_files(rt, &matches),
+        Err(error) => {
+            error.print(rt)?;
+            Ok(if error.use_stderr() { 2 } else { 0 })
+        }
+    }
+}
+
+// Tells that an argument isn't UTF-8, and returns the exit status 2.
+fn not_utf8(rt: &HostRuntime) -> io::Result<u8> {
+    usage_error(rt.alloc(), "an argument isn't UTF-8")?.print(rt)?;
+    Ok(2)
+}
+
+// Reads the files in the order given, up to the first that fails, and returns the exit status.
+fn over_files(rt: &HostRuntime, matches: &ArgMatches<'_>) -> io::Result<u8> {
+    let arguments = Arguments::of(matches);
+    let mut counts = Counts::new(rt.alloc());
+    let mut notes = Notes::new(rt.alloc(), rt.stderr(), arguments.is_quiet);
+    let mut ended = Ended::Whole;
+    for (index, path) in arguments.files.iter().enumerate() {
+        ended = one_file(rt, &arguments, index, path, &mut counts, &mut notes)?;
+        if !matches!(ended, Ended::Whole) {
+            break;
+        }
+    }
+    if arguments.is_count && !matches!(ended, Ended::Closed) {
+        counts.print(&mut rt.stdout())?;
+    }
+    Ok(ended.status())
+}
+
+// Reads one file.
+fn one_file<'r>(
+    rt: &'r HostRuntime,
+    arguments: &Arguments<'_>,
+    index: usize,
+    path: &str,
+    counts: &mut Counts,
+    notes: &mut Notes<'r, Stderr, HostRuntime>,
+) -> io::Result<Ended> {
+    let settings = arguments.settings(index);
+    let file = file_name(path);
+    let mut out = rt.stdout();
+    if path == "-" {
+        notes.begin(arguments.is_progress.then(|| Meter::new(rt, None)));
+        let reader = BufReader::new(rt.alloc(), rt.stdin())?;
+        return Ok(run(
+            rt.alloc(),
+            &settings,
+            path,
+            file,
+            reader,
+            counts,
+            &mut out,
+            notes,
+        ));
+    }
+    match open(rt, path) {
+        Ok((opened, len)) => {
+            notes.begin(arguments.is_progress.then(|| Meter::new(rt, Some(len))));
+            let reader = BufReader::new(rt.alloc(), opened)?;
+            Ok(run(
+                rt.alloc(),
+                &settings,
+                path,
+                file,
+                reader,
+                counts,
+                &mut out,
+                notes,
+            ))
+        }
+        Err(error) => {
+            eprintln!(rt; "changes: {path}: {error}")?;
+            Ok(Ended::Failed)
+        }
+    }
+}
+
+// Returns the last part of a path.
+fn file_name(path: &str) -> &str {
+    match path.rsplit_once('/') {
+        Some((_, name)) => name,
+        None => path,
+    }
+}
+
+// Opens a file, and says how many bytes it has.
+fn open(rt: &HostRuntime, path: &str) -> io::Result<(File, u64)> {
+    let file = File::open(rt, path)?;
+    let metadata = file.metadata()?;
+    if metadata.is_dir() {
+        return Err(io::Error::from(ErrorKind::IsADirectory));
+    }
+    Ok((file, metadata.len()))
+}

@@ -1,0 +1,105 @@
+//! What is said on standard error.
+
+use crate::count::TableName;
+use crate::error::{Failure, Told};
+use crate::progress::Meter;
+use crate::run::Form;
+use crate::signs::lacks_signs;
+use crate::statements::Statements;
+use binlog_file::lent_changes::LentEvent;
+use binlog_table::table_map::TableMapEvent;
+use std::alloc::{AllocError, Global};
+use std::collections::BTreeSet;
+use std::io::Write;
+use std::time::Clock;
+
+/// How many tables without signs are told at most.
+const MOST_TABLES: usize = 1024;
+
+/// What is said on standard error, and what was said. That it can't be written there is no error.
+#[derive(Drop)]
+pub struct Notes<'c, E, K> {
+    alloc: Global,
+    err: E,
+    is_quiet: bool,
+    told: BTreeSet<TableName>,
+    meter: Option<Meter<'c, K>>,
+}
+
+impl<'c, E: Write + Drop, K: Clock> Notes<'c, E, K> {
+    /// Returns notes that were not begun. If they are quiet, only errors are told.
+    pub fn new(alloc: Global, err: E, is_quiet: bool) -> Notes<'c, E, K> {
+        Notes {
+            alloc,
+            err,
+            is_quiet,
+            told: BTreeSet::new(alloc),
+            meter: None,
+        }
+    }
+
+    /// Begins the notes of a file, with a meter if progress is to be told.
+    pub fn begin(&mut self, meter: Option<Meter<'c, K>>) {
+        self.meter = meter;
+    }
+
+    /// Tells why the reading of a file ended early.
+    pub fn tell(&mut self, path: &str, failure: &Failure) {
+        let told = Told { path, failure };
+        let _written = writeln!(self.err, "{told}");
+    }
+
+    /// Takes in that so many rows of the event at a position were read, and tells the progress.
+    pub fn step(&mut self, path: &str, position: u64, rows: u64) {
+        if let Some(meter) = &mut self.meter {
+            meter.add_rows(rows);
+            let _written = meter.step(path, position, &mut self.err);
+        }
+    }
+
+    /// Tells how many statements were logged as text.
+    pub fn tell_statements(&mut self, path: &str, statements: &Statements) {
+        if self.is_quiet {
+            return;
+        }
+        let (text, compressed) = (statements.text, statements.compressed);
+        if text > 0 {
+            let _written = writeln!(
+                self.err,
+                "changes: {path}: {text} statements were logged as text, so that their rows aren't in the file (binlog_format)"
+            );
+        }
+        if compressed > 0 {
+            let _written = writeln!(
+                self.err,
+                "changes: {path}: {compressed} statements are compressed, and may have changed rows that aren't in the file (log_bin_compress)"
+            );
+        }
+    }
+
+    /// Takes in an event that is printed in a form.
+    pub fn see(&mut self, form: Form, event: &LentEvent<'_>) -> Result<(), AllocError> {
+        match (form, event) {
+            (Form::Json | Form::Text, LentEvent::Rows(change)) => self.see_table(change.table()),
+            _ => Ok(()),
+        }
+    }
+
+    // Tells once for each table that its event has no signs although it has columns of numbers.
+    fn see_table(&mut self, table: &TableMapEvent<'_>) -> Result<(), AllocError> {
+        if self.is_quiet || self.told.len() >= MOST_TABLES || !lacks_signs(table) {
+            return Ok(());
+        }
+        let name = TableName::of(self.alloc, table)?;
+        if self.told.contains(&name) {
+            return Ok(());
+        }
+        let text = name.text(self.alloc)?;
+        let _written = writeln!(
+            self.err,
+            "changes: {text}: the server logged no signs (binlog_row_metadata): unsigned numbers may be negative here, and columns are @0, @1, .."
+        );
+        self.told.insert(name)?;
+        Ok(())
+    }
+}

@@ -1,0 +1,71 @@
+//! What is found out once of a table.
+
+ghost use Rattle.std.specs.Prelude.{◌≡◌, ◌↔◌, IfOk, IsTrue};
+ghost use Rattle.std.specs.String.{string_bytes};
+ghost use Rattle.std.specs.Str.Lossy.{utf8_lossy};
+ghost use Rattle.binlog_table.specs.TableMap.{without_id};
+ghost use Rattle.row_json.specs.Columns.{columns_of};
+
+use binlog_table::table_map::TableMapEvent;
+use row_json::TableJson;
+use std::alloc::{AllocError, Global};
+
+/// What is found out once of a table map event.
+#[derive(Drop)]
+pub struct Table {
+    event: TableMapEvent<'static>,
+    json: TableJson,
+    database: String,
+    name: String,
+    ghost columns: { json ≡ columns_of event },
+    ghost is_database: { string_bytes database ≡ utf8_lossy event.database },
+    ghost is_name: { string_bytes name ≡ utf8_lossy event.table },
+}
+
+impl Table {
+    /// Finds out what there is to know of a table.
+    pub fn new(alloc: Global, event: &TableMapEvent<'_>) -> Result<Table, AllocError>
+        ensures columns { IfOk result (λ t. t.json ≡ columns_of event.now) }
+        ensures database { IfOk result (λ t. string_bytes t.database ≡ utf8_lossy event.now.database) }
+        ensures name { IfOk result (λ t. string_bytes t.name ≡ utf8_lossy event.now.table) }
+        ensures same { IfOk result (λ t. t.event ≡ event.now) }
+    {
+        let Ok(json) = TableJson::new(alloc, event) else {
+            return Err(AllocError);
+        };
+        Ok(Table {
+            event: event.clone(alloc)?.into_owned(alloc)?,
+            json,
+            database: String::from_utf8_lossy(alloc, event.database_name_raw())?,
+            name: String::from_utf8_lossy(alloc, event.table_name_raw())?,
+        })
+    }
+
+    /// Returns whether this is what there is to know of the table that an event describes.
+    pub fn is_of(&self, event: &TableMapEvent<'_>) -> bool
+        ensures { IsTrue result ↔ (without_id self.now.event ≡ without_id event.now) }
+    {
+        self.event.tells_the_same(event)
+    }
+
+    /// Returns what decides the JSON of the table's rows.
+    pub fn json(&self) -> &TableJson
+        ensures { result.now ≡ self.now.json }
+    {
+        &self.json
+    }
+
+    /// Returns the name of the database, with U+FFFD in place of what isn't UTF-8.
+    pub fn database(&self) -> &str
+        ensures { result.now ≡ string_bytes self.now.database }
+    {
+        self.database.as_str()
+    }
+
+    /// Returns the name of the table, with U+FFFD in place of what isn't UTF-8.
+    pub fn name(&self) -> &str
+        ensures { result.now ≡ string_bytes self.now.name }
+    {
+        self.name.as_str()
+    }
+}

@@ -1,0 +1,185 @@
+#!/usr/bin/env python3
+"""Runs the program `changes` on real binlog files, and on damaged copies of them.
+
+    python3 scripts/changes.py PROGRAM FILE..
+
+PROGRAM is the built program (crates/changes/out/changes). Each FILE is a `.bin.gz`, a binlog file of a MariaDB server, with a
+`.jsonl.gz` beside it: a line for each rows event in order, with `pos` (where the event begins), `time`, `server_id`, `gtid`, `db`, `table`,
+`op` and `lines` (its rows, in the form of the program `rows`).
+
+- `--text` prints these lines, each after its place, and nothing else.
+- Each line of JSON, read by Python's `json`, is that of a plain decoding of the file (that of scripts/json_rows.py), with its source.
+- Standard input gives the same as the file.
+- `--table` gives the lines of that table, for each table, and `--database` and `--op` those of theirs; `--count` gives their numbers.
+- `--start-position` and `--stop-position` at each rows event give the lines from it on, and before it.
+- A copy that is cut in its last event gives the lines before it and one message; so does one with a byte changed, if it has checksums.
+"""
+import gzip
+import json
+import subprocess
+import sys
+import tempfile
+import zlib
+from collections import Counter
+from pathlib import Path
+
+sys.path.insert(0, str(Path(__file__).resolve().parent))
+import json_rows  # noqa: E402
+
+
+class Failed(Exception):
+    """The program did something else than it should."""
+
+
+def check(holds, what):
+    if not holds:
+        raise Failed(what)
+
+
+def run(program, *words, data=None, status=0):
+    ran = subprocess.run([program, "--quiet", *words], input=data, capture_output=True)
+    check(ran.returncode == status, f"{words}: status {ran.returncode}, {ran.stderr.decode()}")
+    check(len(ran.stderr.splitlines()) == (status != 0), f"{words}: {ran.stderr.decode()}")
+    return ran.stdout.decode().splitlines()
+
+
+def events_of(data):
+    """The position, the type, the header's length of post-headers and the body of each event."""
+    at, lengths, sums = 4, b"", False
+    while at < len(data):
+        kind = data[at + 4]
+        size = int.from_bytes(data[at + 9:at + 13], "little")
+        raw = data[at:at + size]
+        if kind == 0x0F:
+            lengths, sums = raw[19 + 57:-5], raw[-5] == 1
+            body = raw[19:-5]
+        else:
+            body = raw[19:-4] if sums else raw[19:]
+            check(not sums or zlib.crc32(raw[:-4]) == int.from_bytes(raw[-4:], "little"), f"checksum at {at}")
+        yield at, kind, lengths, body
+        at += size
+
+
+def decoded(data):
+    """The position and the rows of each rows event, by a plain decoding."""
+    maps = {}
+    for at, kind, lengths, body in events_of(data):
+        if kind == 0x13:
+            maps[body[:6]] = body
+        elif kind in (0x17, 0x18, 0x19):
+            line = {
+                "mlen": lengths[0x13 - 1], "type": f"{kind:02X}", "plen": lengths[kind - 1], "wlen": lengths[0x1E - 1],
+                "map_hex": maps[body[:6]].hex(), "rows_hex": body.hex(),
+            }
+            yield at, json_rows.pairs_of(line)
+
+
+def sources(name, rows):
+    """The sources of all lines, in order, as lists of members."""
+    number = json_rows.Number
+    return [
+        [
+            ("file", name), ("pos", number(str(event["pos"]))), ("row", number(str(row))), ("ts_ms", number(str(event["time"] * 1000))),
+            ("server_id", number(str(event["server_id"]))), ("gtid", event["gtid"]), ("db", event["db"]), ("table", event["table"]),
+        ]
+        for event in rows for row in range(len(event["lines"]))
+    ]
+
+
+def same_source(found, expected):
+    texts = [[(k, v.text if isinstance(v, json_rows.Number) else v) for k, v in members] for members in (found, expected)]
+    return texts[0] == texts[1]
+
+
+def check_json(program, path, rows, data):
+    lines = run(program, str(path))
+    pairs = [(at, pair) for at, pairs in decoded(data) for pair in pairs]
+    expected = sources(path.name, rows)
+    check(len(lines) == len(pairs) == len(expected), f"{len(lines)} lines of {len(pairs)}")
+    for line, (at, pair), source in zip(lines, pairs, expected):
+        found = json_rows.read(line)
+        check([name for name, _ in found] == ["op", "source", "before", "after"], line)
+        check(same_source(found[1][1], source), line)
+        check(json_rows.is_same([found[0]] + found[2:], pair), f"{line} is not {pair}")
+    piped = run(program, "-", data=data)
+    check([line.replace('"file":"-"', f'"file":"{path.name}"', 1) for line in piped] == lines, "standard input differs")
+    return lines
+
+
+def check_text(program, path, rows):
+    lines = [f"{path.name}:{e['pos']} {e['db']}.{e['table']} {line}" for e in rows for line in e["lines"]]
+    check(run(program, "--text", str(path)) == lines, "text differs")
+
+
+def check_filters(program, path, rows, lines):
+    by_line = [event for event in rows for _ in event["lines"]]
+
+    def check_words(words, keep):
+        found = run(program, *words, str(path))
+        check(found == [line for line, event in zip(lines, by_line) if keep(event)], f"{words} differs")
+
+    for table in {(event["db"], event["table"]) for event in rows}:
+        check_words(["--table", f"{table[0]}.{table[1]}"], lambda e, t=table: (e["db"], e["table"]) == t)
+    for database in {event["db"] for event in rows}:
+        check_words(["--database", database, "--op", "c,d"], lambda e, d=database: e["db"] == d and e["op"] != "u")
+    check_words(["--table", "no.table"], lambda e: False)
+    for event in rows[:: max(1, len(rows) // 20)]:
+        check_words(["--start-position", str(event["pos"])], lambda e, p=event["pos"]: e["pos"] >= p)
+        check_words(["--stop-position", str(event["pos"])], lambda e, p=event["pos"]: e["pos"] < p)
+    check_count(program, path, by_line)
+
+
+def check_count(program, path, by_line):
+    numbers = Counter((e["db"], e["table"], e["op"]) for e in by_line)
+    tables = sorted({(e["db"], e["table"]) for e in by_line}, key=lambda t: (t[0].encode(), t[1].encode()))
+    expected = [[str(numbers[t + (op,)]) for op in "cud"] + [f"{t[0]}.{t[1]}"] for t in tables]
+    expected.append([str(sum(e["op"] == op for e in by_line)) for op in "cud"] + ["(all)"])
+    check([line.split(None, 3) for line in run(program, "--count", str(path))[1:]] == expected, "counts differ")
+
+
+def check_damage(program, path, rows, lines, data, folder):
+    places = [at for at, *_ in events_of(data)]
+    before = {at: sum(len(e["lines"]) for e in rows if e["pos"] < at) for at in places}
+    damaged = folder / path.name
+    sums = data[places[1] - 5] == 1
+    for at, end in list(zip(places, places[1:] + [len(data)]))[-4:]:
+        for cut in {at + 1, at + 19, (at + end) // 2, end - 1} - {at}:
+            damaged.write_bytes(data[:cut])
+            check(run(program, str(damaged), status=1) == lines[: before[at]], f"cut at {cut} differs")
+        if sums:
+            damaged.write_bytes(data[: end - 5] + bytes([data[end - 5] ^ 1]) + data[end - 4:])
+            check(run(program, str(damaged), status=1) == lines[: before[at]], f"damage at {end - 5} differs")
+
+
+def check_file(program, name, folder):
+    data = gzip.open(name).read()
+    path = folder / Path(name).name.removesuffix(".gz")
+    path.write_bytes(data)
+    beside = name.replace(".bin.gz", ".jsonl.gz")
+    rows = [json.loads(line) for line in gzip.open(beside, "rt", encoding="utf-8")]
+    lines = check_json(program, path, rows, data)
+    check_filters(program, path, rows, lines)
+    if path.stat().st_size < 120000:
+        inner = folder / "damaged"
+        inner.mkdir(exist_ok=True)
+        check_damage(program, path, rows, lines, data, inner)
+    check_text(program, path, rows)
+    return len(lines)
+
+
+def main():
+    if len(sys.argv) < 3:
+        sys.exit(__doc__)
+    status = 0
+    for name in sys.argv[2:]:
+        with tempfile.TemporaryDirectory() as folder:
+            try:
+                print(f"{name}: {check_file(sys.argv[1], name, Path(folder))} lines agree")
+            except Failed as failed:
+                print(f"{name}: {failed}")
+                status = 1
+    sys.exit(status)
+
+
+if __name__ == "__main__":
+    main()

@@ -1,0 +1,213 @@
+#!/usr/bin/env python3
+"""Compares what `changes` prints with what a MariaDB server shows, as a user would.
+
+usage: scripts/server.py PROGRAM
+
+PROGRAM is the built program (crates/changes/out/changes). Debian's mariadb-server has to be installed. A server is started on a socket in a
+temporary folder, once for each row image (FULL and MINIMAL) and each metadata (FULL and MINIMAL). It gets a table with a column of each type;
+rows are inserted, updated and deleted, a transaction is rolled back, and the binary log goes on in a new file in between. The lines that
+`changes` prints of the server's files are replayed, and each cell is compared with what SELECT shows of it: texts and bytes by HEX.
+
+Prints a line for each of the four servers, and ends with status 1 if a cell differs or a row is missing.
+"""
+import base64
+import json
+import shutil
+import struct
+import subprocess
+import sys
+import tempfile
+import time
+from pathlib import Path
+
+# Of each column: its name, its definition, how it is compared, and its values in the rows.
+COLUMNS = [
+    ("id", "INT PRIMARY KEY", "number", ["1", "2", "3", "4", "5"]),
+    ("tiny", "TINYINT", "number", ["-128", "127", "NULL", "0", "5"]),
+    ("tiny_u", "TINYINT UNSIGNED", "number", ["255", "0", "NULL", "1", "128"]),
+    ("small", "SMALLINT", "number", ["-32768", "32767", "NULL", "1", "2"]),
+    ("medium_u", "MEDIUMINT UNSIGNED", "number", ["16777215", "0", "NULL", "1", "2"]),
+    ("big", "BIGINT", "number", ["-9223372036854775808", "1", "NULL", "0", "7"]),
+    ("big_u", "BIGINT UNSIGNED", "number", ["18446744073709551615", "1", "NULL", "0", "7"]),
+    ("bits", "BIT(12)", "number", ["b'101010101010'", "0", "NULL", "1", "4095"]),
+    ("years", "YEAR", "number", ["1901", "2155", "NULL", "0", "2026"]),
+    ("single", "FLOAT", "float", ["0.1", "-3.4e38", "NULL", "0", "1.5"]),
+    ("twice", "DOUBLE", "double", ["0.1", "-1.7e308", "NULL", "0", "1.5"]),
+    ("price", "DECIMAL(20,5)", "plain", ["123456789012345.00001", "-0.5", "NULL", "0", "1.5"]),
+    ("day", "DATE", "plain", ["'2026-11-27'", "'1000-01-01'", "NULL", "'9999-12-31'", "'0000-00-00'"]),
+    ("moment", "DATETIME(3)", "plain", ["'2026-11-27 12:30:00.123'", "'1000-01-01'", "NULL", "'9999-12-31 23:59:59.999'", "'2026-01-02'"]),
+    ("instant", "TIMESTAMP(2) NULL", "instant", ["'2026-11-27 12:30:00.25'", "'1970-01-01 00:00:01'", "NULL", "'2038-01-19 03:14:07'", "0"]),
+    ("span", "TIME(6)", "plain", ["'-838:59:59'", "'00:00:00.000001'", "NULL", "'838:59:59'", "'-00:00:01.5'"]),
+    ("kind", "ENUM('a','b,c','\u00fc')", "enum", ["'a'", "'b,c'", "NULL", "'\u00fc'", "''"]),
+    ("kinds", "SET('x','y','\u00e4')", "enum", ["'x,\u00e4'", "''", "NULL", "'x,y,\u00e4'", "'y'"]),
+    ("fixed", "CHAR(10) CHARACTER SET utf8mb4", "text", ["'ab'", "'\U0001f600'", "NULL", "''", "'a\"\\\\b'"]),
+    ("three", "VARCHAR(50) CHARACTER SET utf8mb3", "text", ["'\u0416\u0443\u043a'", "'tab\\tline\\n'", "NULL", "''", "'x'"]),
+    ("latin", "VARCHAR(300) CHARACTER SET latin1", "text", ["'\u20ac\u00fc'", "'x'", "NULL", "''", "REPEAT('\u00e9', 299)"]),
+    ("plain", "VARCHAR(20) CHARACTER SET ascii", "text", ["'ab'", "'x'", "NULL", "''", "'~'"]),
+    ("other", "VARCHAR(20) CHARACTER SET cp1251", "bytes", ["'\u0416'", "'x'", "NULL", "''", "'y'"]),
+    ("raw", "VARBINARY(20)", "bytes", ["x'00ff'", "'x'", "NULL", "''", "x'80'"]),
+    ("raw_5", "BINARY(5)", "padded", ["x'00ff'", "'x'", "NULL", "''", "x'8000000001'"]),
+    ("words", "TEXT CHARACTER SET utf8mb4", "text", ["REPEAT('\u0436', 1000)", "'x'", "NULL", "''", "'z'"]),
+    ("blob_1", "BLOB", "bytes", ["x'00ff'", "REPEAT('x', 70000)", "NULL", "''", "'z'"]),
+    ("doc", "JSON", "text", ["'{\"a\": [1, null, \"\u00fc\"]}'", "'1'", "NULL", "'[]'", "'{}'"]),
+    ("place", "POINT", "bytes", ["POINT(1, 2)", "POINT(-1, 0.5)", "NULL", "POINT(0, 0)", "POINT(3, 3)"]),
+    ("doubled", "INT AS (id * 2) STORED", "number", None),
+]
+NAMES = [name for name, _, _, _ in COLUMNS]
+
+
+def expression(name, kind, has_names):
+    """What SELECT shows of a column, in the form in which `shown` writes its JSON."""
+    if kind == "enum":
+        kind = "text" if has_names else "number"
+    forms = {"number": "{} + 0", "float": "CAST({} AS DOUBLE)", "double": "{}", "plain": "CAST({} AS CHAR)", "instant": "CAST({} AS CHAR)"}
+    forms |= {"text": "HEX(CONVERT({} USING utf8mb4))", "bytes": "HEX({})", "padded": "HEX({})"}
+    return forms[kind].format(f"`{name}`")
+
+
+def shown(kind, value, has_names):
+    """The JSON of a cell in the form of `expression`."""
+    if value is None:
+        return "NULL"
+    if kind == "enum":
+        # Without names a value is its number, but for 0, which has no name: it is an empty text in either case.
+        kind, value = ("text", value) if has_names else ("number", value or 0)
+    if kind in ("bytes", "padded"):
+        data = base64.b64decode(value["base64"]) if isinstance(value, dict) else value.encode("utf-8")
+        return data.hex().upper()
+    if kind == "text":
+        return value.encode("utf-8").hex().upper()
+    if kind == "instant":
+        return value.replace("T", " ").removesuffix("Z")
+    return str(value)
+
+
+def same(kind, expected, found):
+    """Whether a cell is what SELECT shows."""
+    if "NULL" in (expected, found):
+        return expected == found
+    if kind == "float":
+        return struct.pack("<f", float(expected)) == struct.pack("<f", float(found))
+    if kind == "double":
+        return float(expected) == float(found)
+    # The server leaves the zeros out with which BINARY is filled up.
+    if kind == "padded":
+        return expected.rstrip("0") == found.rstrip("0")
+    return expected == found
+
+
+def statements():
+    """The statements, each a transaction of its own unless it says otherwise."""
+    definitions = ", ".join(f"`{name}` {definition}" for name, definition, _, _ in COLUMNS)
+    yield f"CREATE TABLE t ({definitions}) ENGINE=InnoDB"
+    filled = [(name, values) for name, _, _, values in COLUMNS if values]
+    names = ", ".join(f"`{name}`" for name, _ in filled)
+    for row in range(5):
+        yield f"INSERT INTO t ({names}) VALUES ({', '.join(values[row] for _, values in filled)})"
+    yield "UPDATE t SET tiny = 9, words = 'new', blob_1 = NULL WHERE id = 1"
+    yield "FLUSH BINARY LOGS"
+    yield "UPDATE t SET id = 20, kind = 'a', instant = NULL WHERE id = 2"
+    yield "UPDATE t SET latin = '\u00fc', big_u = 18446744073709551614 WHERE id > 2"
+    yield "DELETE FROM t WHERE id = 4"
+    yield "START TRANSACTION; INSERT INTO t (id) VALUES (90); DELETE FROM t WHERE id = 1; ROLLBACK"
+    yield f"INSERT INTO t ({names}) SELECT {names.replace('`id`', 'id + 100', 1)} FROM t"
+    yield "DELETE FROM t WHERE id = 103"
+
+
+class Server:
+    """A server in a folder of its own."""
+
+    def __init__(self, folder, image, metadata):
+        self.data = folder / "data"
+        self.socket = folder / "socket"
+        quiet = {"stdout": subprocess.DEVNULL, "stderr": subprocess.DEVNULL}
+        install = ["mariadb-install-db", "--no-defaults", f"--datadir={self.data}", "--user=root", "--auth-root-authentication-method=normal"]
+        subprocess.run(install, check=True, **quiet)
+        server = shutil.which("mariadbd") or "/usr/sbin/mariadbd"
+        self.process = subprocess.Popen([server, "--no-defaults", f"--datadir={self.data}", f"--socket={self.socket}", "--user=root", "--skip-networking",
+                                         "--log-bin=mysql-bin", "--binlog-format=ROW", f"--binlog-row-image={image}",
+                                         f"--binlog-row-metadata={metadata}", "--server-id=7", "--character-set-server=utf8mb4", "--sql-mode="], **quiet)
+        for _ in range(300):
+            if self.socket.exists():
+                return
+            time.sleep(0.1)
+        raise SystemExit("the server doesn't start")
+
+    def run(self, text):
+        """Runs statements, and returns the rows that are shown."""
+        words = ["mariadb", "--no-defaults", f"--socket={self.socket}", "--user=root", "--batch", "--raw", "--skip-column-names",
+                 "--default-character-set=utf8mb4"]
+        done = subprocess.run(words, input=f"SET time_zone = '+00:00'; {text}", capture_output=True, text=True, encoding="utf-8")
+        if done.returncode:
+            raise SystemExit(f"{text[:200]}: {done.stderr}")
+        return [line.split("\t") for line in done.stdout.splitlines()]
+
+    def stop(self):
+        """Ends the server."""
+        self.process.terminate()
+        self.process.wait()
+
+
+def replayed(lines):
+    """The rows, by their keys, after the changes of the lines."""
+    rows = {}
+    for line in lines:
+        change = json.loads(line)
+        before, after = ({NAMES[int(name[1:])] if name[0] == "@" else name: value for name, value in (change[image] or {}).items()}
+                         for image in ("before", "after"))
+        if change["source"]["table"] != "t":
+            continue
+        row = rows.pop(before["id"]) if change["op"] != "c" else {}
+        if change["op"] != "d":
+            row = {**row, **after}
+            rows[row["id"]] = row
+    return rows
+
+
+def compare(program, folder, image, metadata):
+    """Compares the rows of one server. Returns how many cells differ."""
+    server = Server(folder, image, metadata)
+    try:
+        server.run("CREATE DATABASE d")
+        for statement in statements():
+            server.run(f"USE d; {statement}")
+        has_names = metadata == "FULL"
+        columns = [(name, kind) for name, _, kind, _ in COLUMNS]
+        select = ", ".join(expression(name, kind, has_names) for name, kind in columns)
+        table = server.run(f"USE d; SELECT {select} FROM t ORDER BY id")
+        files = sorted(server.data.glob("mysql-bin.0*"))
+        done = subprocess.run([program, "--quiet", "--database", "d", *map(str, files)], capture_output=True, text=True, encoding="utf-8")
+    finally:
+        server.stop()
+    if done.returncode:
+        raise SystemExit(done.stderr)
+    rows = replayed(done.stdout.splitlines())
+    differ = 0
+    if [int(row[0]) for row in table] != sorted(rows):
+        print(f"the rows are {sorted(rows)}, and the server has {[row[0] for row in table]}")
+        differ += 1
+    for shown_row in table:
+        row = rows.get(int(shown_row[0]), {})
+        for (name, kind), expected in zip(columns, shown_row):
+            found = shown(kind, row[name], has_names) if name in row else "nothing"
+            if found == "nothing" or not same(kind, expected, found):
+                print(f"row {shown_row[0]}, {name}: {found[:60]} where the server shows {expected[:60]}")
+                differ += 1
+    print(f"image {image}, metadata {metadata}: {len(done.stdout.splitlines())} lines of {len(files)} files, {len(table)} rows of {len(columns)} columns, {differ} differ")
+    return differ
+
+
+def main():
+    """Compares the four servers."""
+    if len(sys.argv) != 2:
+        raise SystemExit(__doc__)
+    differ = 0
+    for image in ("FULL", "MINIMAL"):
+        for metadata in ("FULL", "MINIMAL"):
+            with tempfile.TemporaryDirectory() as folder:
+                differ += compare(sys.argv[1], Path(folder), image, metadata)
+    raise SystemExit(1 if differ else 0)
+
+
+if __name__ == "__main__":
+    main()

@@ -8,13 +8,13 @@ use Rattle.binlog_events.specs.declared.error.EventError.{EventError}
 use Rattle.binlog_events.specs.declared.error.FileError.{FileError}
 use Rattle.binlog_file.specs.declared.lent_changes.LentEvent.{LentEvent}
 use Rattle.binlog_file.specs.declared.lent_changes.LentEvent.TheVariants as lent
-use Rattle.binlog_file.specs.Events.{Event, Glance, origin_of, Place, rows_type}
+use Rattle.binlog_file.specs.Events.{Event, Glance, glance_of, origin_of, Place, rows_type}
 use Rattle.binlog_file.specs.Tables.{Tables, InForce}
 use Rattle.binlog_file.specs.Changes.{Wanted, nothing, Gives, EventGives, Spot, spot, Follows, IsMemory, IsAtEnd}
 use Rattle.binlog_file.specs.Glances.{GlanceSteps}
 use Rattle.binlog_file.specs.Asked.{is_asked}
 use Rattle.binlog_file.specs.LentChanges.{OtherEvent}
-use Rattle.binlog_file.specs.LentEvents.{Shows, NextEvent, ChangesOn, PassesOne, PassesOver, IsAsked, NextAsked}
+use Rattle.binlog_file.specs.LentEvents.{other_of, Shows, NextEvent, ChangesOn, PassesOne, PassesOver, IsAsked, NextAsked}
 use Rattle.binlog_file.specs.AskedGlances.{is_glance_asked, GlanceAsked}
 use Rattle.binlog_file.proofs.Bodies.{no_rows}
 use Rattle.binlog_file.proofs.LentFollowed.{other_on, changes_on, pending_now}
@@ -28,12 +28,15 @@ none_of (Some x) b h = absurd cc
 gives_nothing : (w : Wanted) (ts : Tables) (e : Event) → e.rows ≡ None → EventGives w ts e nothing
 gives_nothing w ts e none = subst (λ (r : Option RowsEventCtx). Gives w ts (origin_of e) r e.body nothing) (sym none) refl
 
-passes_one : (w : Wanted) (types : List ℕ) (old new : Spot) → PassesOne types old new → Follows w old [] new
-passes_one w types old new h =
+-- an event that is passed over would be shown as it is
+pub passed_shows : (w : Wanted) (types : List ℕ) (old new : Spot) (h : PassesOne types old new) → Shows w new.in_force.tables (glance_of h.0) (lent.Other (other_of (glance_of h.0)))
+passed_shows w types old new h =
     let e = h.0 in
     let type : rows_type e.header.event_type ≡ None = none_of (rows_type e.header.event_type) (list_any (λ t. nat_eq t e.header.event_type) types) h.2 in
-    let none = no_rows old.place.at old.place.in_force h.1.gives.0 e type h.1.gives.2 in
-    other_on w old new e h.1 (gives_nothing w new.in_force.tables e none)
+    (gives_nothing w new.in_force.tables e (no_rows old.place.at old.place.in_force h.1.gives.0 e type h.1.gives.2), refl)
+
+passes_one : (w : Wanted) (types : List ℕ) (old new : Spot) → PassesOne types old new → Follows w old [] new
+passes_one w types old new h = other_on w old new h.0 h.1 (passed_shows w types old new h).0
 
 passes_follow : (w : Wanted) (types : List ℕ) (n : ℕ) (old new : Spot) → PassesOver types n old new → Follows w old [] new
 passes_follow w types zero old new same = λ cs out left. subst (λ (s : Spot). Follows w s [] new) same (λ cs out left. left) cs out left

@@ -17,5 +17,3 @@ pub mod SourceAsked
 pub mod Headers
 pub mod Moved
 pub mod Checkpointed
-pub mod Bytes
-pub mod Places

@@ -10,10 +10,10 @@ ghost use Rattle.binlog_file.specs.TableMaps.{held_by, most_kept};
 use crate::error::{EventError, FileError};
 use crate::file::{MAGIC, no_binlog};
 use crate::seen::{Seen, see};
-use crate::tables::TableMaps;
 use binlog_base::below::ParseBuf;
 use binlog_events::description::FormatDescriptionEvent;
 use binlog_events::event::{Event, Glance, read_raw};
+use binlog_kept::tables::TableMaps;
 use std::alloc::{AllocError, Global};
 use std::marker::Model;
 

@@ -1,5 +1,5 @@
 //! Binlog files of MySQL and MariaDB: their events, and the changes of rows in them. An event by
-//! itself is of `binlog_events`.
+//! itself is of `binlog_events`, and what is kept between events of `binlog_kept`.
 #![tactic(auto)]
 
 mod asked;
@@ -8,20 +8,16 @@ pub mod changes;
 pub mod choice;
 pub mod events;
 pub mod file;
-mod generations;
 pub mod laws;
 pub mod lent_changes;
-mod notes;
-mod plans;
 pub mod reader;
 mod seen;
 mod sighting;
 pub mod source_changes;
 mod stored;
-pub mod tables;
-mod unread;
 
 pub use binlog_events::{crc, error, header, origin};
+pub use binlog_kept::tables;
 
 /// The format description event.
 pub mod description {

@@ -6,10 +6,10 @@ ghost use Rattle.binlog_file.specs.Glances.{SeesRaw};
 ghost use Rattle.binlog_file.specs.TableMaps.{held_by, most_kept};
 
 use crate::error::EventError;
-use crate::tables::TableMaps;
-use crate::unread::UnreadTable;
 use binlog_events::description::FormatDescriptionEvent;
 use binlog_events::event::{Event, Glance, PlainEvent, Raw};
+use binlog_kept::tables::TableMaps;
+use binlog_kept::unread::UnreadTable;
 use std::alloc::Global;
 use std::marker::Model;
 

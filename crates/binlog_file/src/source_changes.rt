@@ -19,12 +19,12 @@ use crate::choice::Choice;
 use crate::error::{EventError, FileError};
 use crate::file::BinlogFile;
 use crate::lent_changes::{LentChange, LentEvent, show};
-use crate::plans::{KeptPlans, MOST_BYTES};
 use crate::reader::{EventBuffer, EventStreamReader};
 use crate::sighting::Sighting;
 use binlog_base::below::Source;
 use binlog_base::fault::Fault;
 use binlog_events::event::Glance;
+use binlog_kept::plans::{KeptPlans, MOST_BYTES};
 use mysql_binlog_rows::rows_event::LentPair;
 use std::alloc::Global;
 

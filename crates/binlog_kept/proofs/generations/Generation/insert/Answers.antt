@@ -1,6 +1,6 @@
 use Rattle.std.proofs.Common.{arith, sym}
-use Rattle.binlog_file.proofs.Bytes.{bytes_replaced, bytes_more}
-use Rattle.binlog_file.proofs.generations.Generation.insert.Goals as goal
+use Rattle.binlog_kept.proofs.Bytes.{bytes_replaced, bytes_more}
+use Rattle.binlog_kept.proofs.generations.Generation.insert.Goals as goal
 
 pub overflow_sub-self : goal.overflow_sub-self
 overflow_sub-self g c =

@@ -1,7 +1,7 @@
 //! Notes of keys that came.
 
 ghost use Rattle.std.specs.Prelude.{◌≡◌, ◌≢◌, ◌≤◌, ◌%◌, ◌↔◌, ℕ, [], length, OnOk, OnErr, IfOk, IsTrue};
-ghost use Rattle.binlog_file.specs.Kept.{IsNoted};
+ghost use Rattle.binlog_kept.specs.Kept.{IsNoted};
 
 use std::alloc::{AllocError, Global};
 use std::marker::Model;

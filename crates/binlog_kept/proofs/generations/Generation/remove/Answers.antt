@@ -1,6 +1,6 @@
 use Rattle.std.proofs.Common.{arith, sym}
-use Rattle.binlog_file.proofs.Bytes.{bytes_fewer}
-use Rattle.binlog_file.proofs.generations.Generation.remove.Goals as goal
+use Rattle.binlog_kept.proofs.Bytes.{bytes_fewer}
+use Rattle.binlog_kept.proofs.generations.Generation.remove.Goals as goal
 
 pub overflow_sub-self : goal.overflow_sub-self
 overflow_sub-self g c =

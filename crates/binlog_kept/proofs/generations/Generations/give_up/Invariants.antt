@@ -1,7 +1,7 @@
 use Rattle.std.proofs.Common.{◌≡◌}
-use Rattle.binlog_file.specs.Kept.{HasRoom}
-use Rattle.binlog_file.specs.Kept as Spec
-use Rattle.binlog_file.proofs.generations.Generations.give_up.Given as goal
+use Rattle.binlog_kept.specs.Kept.{HasRoom}
+use Rattle.binlog_kept.specs.Kept as Spec
+use Rattle.binlog_kept.proofs.generations.Generations.give_up.Given as goal
 
 abbrev pub invariant-loop : goal.invariant-loop
 invariant-loop g l =

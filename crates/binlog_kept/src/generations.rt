@@ -4,8 +4,8 @@ ghost use Rattle.std.specs.Prelude.{◌≡◌, ◌≢◌, ◌≤◌, ◌+◌, �
 ghost use Rattle.std.specs.Ordering.{nat_cmp};
 ghost use Rattle.std.specs.BTreeMap.{is_at};
 ghost use Rattle.std.specs.Option.{option_map};
-ghost use Rattle.binlog_file.specs.Kept.{bytes_held, all_bytes, value_at, kept_at, Changes, HasRoom, IsNoted};
-ghost use Rattle.binlog_file.specs.Kept as Spec;
+ghost use Rattle.binlog_kept.specs.Kept.{bytes_held, all_bytes, value_at, kept_at, Changes, HasRoom, IsNoted};
+ghost use Rattle.binlog_kept.specs.Kept as Spec;
 
 use crate::notes::Notes;
 use std::alloc::{AllocError, Global};
@@ -14,7 +14,7 @@ use std::marker::Model;
 use std::mem;
 
 /// What takes memory.
-pub(crate) trait Weighed {
+pub trait Weighed {
     ghost use Rattle.std.specs.Prelude.{◌≡◌, ℕ};
 
     /// How many bytes it takes.
@@ -34,7 +34,7 @@ struct Generation<T: Weighed + Drop> {
 
 impl<T: Weighed + Drop> Model for Generation<T> {
     ghost use Rattle.std.specs.Prelude.{◌≡◌, ℕ};
-    ghost use Rattle.binlog_file.specs.Kept.{Entries, bytes_held};
+    ghost use Rattle.binlog_kept.specs.Kept.{Entries, bytes_held};
 
     ghost Value = { Entries T };
 
@@ -124,9 +124,12 @@ impl<T: Weighed + Drop> Generation<T> {
 }
 
 /// A value that is kept, and whether it is in the older generation.
-pub(crate) struct Found<'a, T> {
-    pub(crate) value: &'a T,
-    pub(crate) is_old: bool,
+#[derive(Drop)]
+pub struct Found<'a, T> {
+    /// The value.
+    pub value: &'a T,
+    /// Whether it wasn't used lately.
+    pub is_old: bool,
 }
 
 /// Values that are kept to be used again, up to a bound in bytes. They are in two generations: those
@@ -134,7 +137,7 @@ pub(crate) struct Found<'a, T> {
 /// only noted. Where it comes again, older values are given up for it; if there are none, all values
 /// are older ones from then on.
 #[derive(Drop)]
-pub(crate) struct Generations<T: Weighed + Drop> {
+pub struct Generations<T: Weighed + Drop> {
     alloc: Global,
     younger: Generation<T>,
     older: Generation<T>,
@@ -144,7 +147,7 @@ pub(crate) struct Generations<T: Weighed + Drop> {
 
 impl<T: Weighed + Drop> Model for Generations<T> {
     ghost use Rattle.std.specs.Prelude.{◌≤◌, ◌<◌, ◌+◌, ◌^◌};
-    ghost use Rattle.binlog_file.specs.Kept as Spec;
+    ghost use Rattle.binlog_kept.specs.Kept as Spec;
 
     ghost Value = { Spec.Generations T };
 
@@ -156,7 +159,7 @@ impl<T: Weighed + Drop> Model for Generations<T> {
 
 impl<T: Weighed + Drop> Generations<T> {
     /// Keeps nothing yet, and at most so many bytes later.
-    pub(crate) fn new(alloc: Global, most: usize) -> Generations<T>
+    pub fn new(alloc: Global, most: usize) -> Generations<T>
         ensures nothing { (k : ℕ) → kept_at result k ≡ None }
         ensures most { result.most ≡ most }
     {
@@ -170,7 +173,7 @@ impl<T: Weighed + Drop> Generations<T> {
     }
 
     /// Returns how many bytes all that is kept takes.
-    pub(crate) fn bytes(&self) -> usize
+    pub fn bytes(&self) -> usize
         ensures bytes { result ≡ all_bytes T.weight self.now }
         ensures bounded { result ≤ self.now.most }
     {
@@ -179,7 +182,7 @@ impl<T: Weighed + Drop> Generations<T> {
 
     /// Returns the value that is kept under a key.
     #[inline]
-    pub(crate) fn get(&self, key: u64) -> Option<Found<'_, T>>
+    pub fn get(&self, key: u64) -> Option<Found<'_, T>>
         ensures value { option_map (λ k. k.value.now) result ≡ kept_at self.now key }
         ensures old { IfSome result (λ k. IsTrue k.is_old → Spec.IsOld self.now key) }
     {
@@ -255,7 +258,7 @@ impl<T: Weighed + Drop> Generations<T> {
     /// Returns whether a value of this weight is to be kept under a key, and makes room for it. It
     /// is kept if there is room. Else it is only noted when it comes first, and room is made when it
     /// comes again. What takes more than half of all bytes is not kept.
-    pub(crate) fn make_room(&mut self, key: u64, weight: usize) -> Result<bool, AllocError>
+    pub fn make_room(&mut self, key: u64, weight: usize) -> Result<bool, AllocError>
         ensures room { IfOk result (λ b. IsTrue b → HasRoom T.weight self.new weight) }
         ensures stays { HasRoom T.weight self.old weight → Spec.Stays self.old self.new }
         ensures first { ¬ (IsNoted self.old.notes key) → Spec.Stays self.old self.new }
@@ -279,7 +282,7 @@ impl<T: Weighed + Drop> Generations<T> {
     }
 
     /// Keeps a value in place of one with the same key, if there is room.
-    pub(crate) fn insert(&mut self, key: u64, value: T) -> Result<(), AllocError>
+    pub fn insert(&mut self, key: u64, value: T) -> Result<(), AllocError>
         ensures kept { OnOk result (HasRoom T.weight self.old (T.weight value)
             → (k : ℕ) → kept_at self.new k ≡ cond (is_at (nat_cmp key) k) (Some value) (kept_at self.old k)) }
         ensures full { ¬ (HasRoom T.weight self.old (T.weight value)) → Spec.Stays self.old self.new }
@@ -294,7 +297,7 @@ impl<T: Weighed + Drop> Generations<T> {
     }
 
     /// Gives up what is kept under a key.
-    pub(crate) fn remove(&mut self, key: u64)
+    pub fn remove(&mut self, key: u64)
         ensures kept { (k : ℕ) → kept_at self.new k ≡ cond (is_at (nat_cmp key) k) None (kept_at self.old k) }
         ensures most { self.new.most ≡ self.old.most }
         ensures notes { self.new.notes ≡ self.old.notes }
@@ -304,7 +307,7 @@ impl<T: Weighed + Drop> Generations<T> {
     }
 
     /// Moves a value that was used into the younger generation.
-    pub(crate) fn renew(&mut self, key: u64) -> Result<(), AllocError>
+    pub fn renew(&mut self, key: u64) -> Result<(), AllocError>
         ensures kept { OnOk result ((k : ℕ) → kept_at self.new k ≡ kept_at self.old k) }
         ensures moved { Spec.IsOld self.old key
             → OnOk result (value_at self.new.younger key ≡ value_at self.old.older key) }

@@ -6,7 +6,7 @@ ghost use Rattle.binlog_base.specs.declared.fault.Fault.TheVariants as Fault;
 ghost use Rattle.mysql_binlog_rows.specs.Images.{pair};
 ghost use Rattle.mysql_binlog_rows.specs.Cover.{Covers};
 ghost use Rattle.mysql_binlog_rows.specs.Rows.{Reads};
-ghost use Rattle.binlog_file.specs.StoredPlans as Spec;
+ghost use Rattle.binlog_kept.specs.StoredPlans as Spec;
 
 use crate::generations::{Found, Generations, Weighed};
 use binlog_base::fault::Fault;
@@ -21,7 +21,7 @@ use std::sync::Arc;
 
 /// How many bytes the table map events and stored plans of a reading take at most, where a caller
 /// gives no other bound.
-pub(crate) const MOST_BYTES: usize = 0x200_0000;
+pub const MOST_BYTES: usize = 0x200_0000;
 
 /// How many of the last plans are kept, whatever they take.
 const MOST_RECENT: usize = 64;
@@ -68,7 +68,7 @@ struct StoredPlan {
 impl Model for StoredPlan {
     ghost use Rattle.std.specs.Prelude.{◌≡◌, Option};
     ghost use Rattle.mysql_binlog_rows.specs.Kept.{Planned};
-    ghost use Rattle.binlog_file.specs.StoredPlans.{plan_weight};
+    ghost use Rattle.binlog_kept.specs.StoredPlans.{plan_weight};
 
     ghost Value = { Option Planned };
 
@@ -87,7 +87,7 @@ impl StoredPlan {
 }
 
 impl Weighed for StoredPlan {
-    ghost use Rattle.binlog_file.specs.StoredPlans.{plan_weight};
+    ghost use Rattle.binlog_kept.specs.StoredPlans.{plan_weight};
 
     ghost weight = { plan_weight };
 
@@ -201,7 +201,7 @@ impl RecentPlans {
 /// The last 64 plans are kept whatever they take. Those before them are stored as long as there is
 /// room.
 #[derive(Drop)]
-pub(crate) struct KeptPlans {
+pub struct KeptPlans {
     recent: RecentPlans,
     stored: Generations<StoredPlan>,
 }
@@ -222,8 +222,8 @@ fn key_of(rows: &RowsEvent<'_>) -> u64 {
 }
 
 impl KeptPlans {
-    // Keeps no plan yet, and stores plans of at most so many bytes later.
-    pub(crate) fn new(alloc: Global, most: usize) -> KeptPlans
+    /// Keeps no plan yet, and stores plans of at most so many bytes later.
+    pub fn new(alloc: Global, most: usize) -> KeptPlans
         ensures { result.stored.most ≡ most }
     {
         KeptPlans {
@@ -316,7 +316,7 @@ impl KeptPlans {
 
     /// Returns an iterator over the pairs of rows of an event, whose rows data this is, by the plan
     /// that is kept for the table. `Memory` if memory can't be allocated.
-    pub(crate) fn rows<'d>(
+    pub fn rows<'d>(
         &mut self,
         alloc: Global,
         table: &Arc<TableMapEvent<'static>>,
@@ -339,7 +339,7 @@ impl KeptPlans {
 
     /// Returns the pairs of rows of an event, up to its first fault, by the plan that is kept for the
     /// table. `Memory` if memory can't be allocated.
-    pub(crate) fn pairs(
+    pub fn pairs(
         &mut self,
         alloc: Global,
         table: &Arc<TableMapEvent<'static>>,

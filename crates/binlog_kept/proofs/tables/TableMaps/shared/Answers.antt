@@ -1,6 +1,6 @@
 use Rattle.std.specs.Arc.{arc_value}
-use Rattle.binlog_file.proofs.TablesLeft.{same_table}
-use Rattle.binlog_file.proofs.tables.TableMaps.shared.Goals as goal
+use Rattle.binlog_kept.proofs.SameTable.{same_table}
+use Rattle.binlog_kept.proofs.tables.TableMaps.shared.Goals as goal
 
 pub returns-in-Some-clause-same : goal.returns-in-Some-clause-same
 returns-in-Some-clause-same c =

@@ -1,6 +1,6 @@
 use Rattle.std.proofs.Common.{arith, ◌≡◌, ◌%◌, length}
-use Rattle.binlog_file.proofs.Places.{none_at_first, none_in_nothing}
-use Rattle.binlog_file.proofs.notes.Notes.make_places.Goals as goal
+use Rattle.binlog_kept.proofs.Places.{none_at_first, none_in_nothing}
+use Rattle.binlog_kept.proofs.notes.Notes.make_places.Goals as goal
 
 pub returns-in_ok-places-clause-noted : goal.returns-in_ok-places-clause-noted
 returns-in_ok-places-clause-noted c =

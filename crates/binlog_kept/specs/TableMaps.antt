@@ -6,8 +6,8 @@ use Rattle.std.specs.Ordering.{nat_cmp}
 use Rattle.std.specs.Arc.{arc_value}
 use Rattle.std.specs.BTreeMap as tree
 use Rattle.binlog_table.specs.TableMap.{TableMap}
-use Rattle.binlog_file.specs.Tables.{Tables, InForce}
-use Rattle.binlog_file.specs.declared.tables.TableMaps.{TableMaps}
+use Rattle.binlog_events.specs.Tables.{Tables, InForce}
+use Rattle.binlog_kept.specs.declared.tables.TableMaps.{TableMaps}
 
 -- the first table map event if it has the table id, else another
 abbrev pub first_or : Option TableMap → ℕ → Option TableMap → Option TableMap

@@ -8,7 +8,7 @@ use Rattle.std.specs.List.Sorted.{IsStrictlySortedBy}
 use Rattle.std.specs.Map.{keys_of, remove_entry}
 use Rattle.std.specs.BTreeMap.{is_at, insert_entry}
 use Rattle.std.proofs.lemmas.Map.Entries.{sum_by-insert_entry, sum_by-remove_entry}
-use Rattle.binlog_file.specs.Kept.{Entries, bytes_held, value_at, either}
+use Rattle.binlog_kept.specs.Kept.{Entries, bytes_held, value_at, either}
 
 -- what one value takes, 0 if there is none
 abbrev pub maybe_bytes : {X : Type 0} → (X → ℕ) → Option X → ℕ

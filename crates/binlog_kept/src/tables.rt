@@ -3,15 +3,15 @@
 ghost use Rattle.std.specs.Prelude.{◌≡◌, ◌≤◌, ◌*◌, ◌⊎◌, ℕ, false, Ok, Err, None, length, OnOk, OnErr, IfOk, IfErr, IfSome, IsSome};
 ghost use Rattle.std.specs.Option.{option_map};
 ghost use Rattle.std.specs.Arc.{arc_value};
-ghost use Rattle.binlog_file.specs.Changes.{IsMemory};
-ghost use Rattle.binlog_file.specs.Tables.{no_tables, with_table, with_map, found, given_up, ends_statement, in_force_after};
-ghost use Rattle.binlog_file.specs.TableBodies.{ReadsTable, table_weight};
-ghost use Rattle.binlog_file.specs.TableMaps.{in_maps, held_by, most_kept};
-ghost use Rattle.binlog_file.specs.Kept.{all_bytes};
+ghost use Rattle.binlog_events.specs.declared.error.EventError.TheVariants as error;
+ghost use Rattle.binlog_events.specs.Tables.{no_tables, with_table, with_map, found, given_up, ends_statement, in_force_after};
+ghost use Rattle.binlog_events.specs.TableBodies.{ReadsTable, table_weight};
+ghost use Rattle.binlog_kept.specs.TableMaps.{in_maps, held_by, most_kept};
+ghost use Rattle.binlog_kept.specs.Kept.{all_bytes};
 
-use crate::error::EventError;
 use crate::generations::{Found, Generations, Weighed};
 use binlog_base::below::{Server, same_bytes};
+use binlog_events::error::EventError;
 use binlog_events::event::{Event, PlainEvent, read_table};
 use binlog_table::table_map::TableMapEvent;
 use byteorder::{ByteOrder, LittleEndian};
@@ -43,7 +43,7 @@ struct KeptTable {
 impl Model for KeptTable {
     ghost use Rattle.std.specs.Prelude.{◌≤◌, Ok, length};
     ghost use Rattle.std.specs.Arc.{arc_value};
-    ghost use Rattle.binlog_file.specs.TableBodies as Spec;
+    ghost use Rattle.binlog_events.specs.TableBodies as Spec;
 
     ghost Value = { Spec.KeptTable };
 
@@ -59,7 +59,7 @@ impl Model for KeptTable {
 }
 
 impl Weighed for KeptTable {
-    ghost use Rattle.binlog_file.specs.TableBodies.{table_weight};
+    ghost use Rattle.binlog_events.specs.TableBodies.{table_weight};
 
     ghost weight = { λ k. table_weight (length k.body) };
 
@@ -157,17 +157,17 @@ impl TableMaps {
         self.kept.bytes()
     }
 
-    // Keeps at most this many bytes past the end of statements from now on. What was kept is given
-    // up.
-    pub(crate) fn keep_at_most(&mut self, alloc: Global, most: usize)
+    /// Keeps at most this many bytes past the end of statements from now on. What was kept is given
+    /// up.
+    pub fn keep_at_most(&mut self, alloc: Global, most: usize)
         ensures held { held_by self.new ≡ held_by self.old }
         ensures most { most_kept self.new ≤ most }
     {
         self.kept = Generations::new(alloc, most);
     }
 
-    // Returns the table map event that is in force for a table id, to be shared.
-    pub(crate) fn shared_tme(&self, table_id: u64) -> Option<&Arc<TableMapEvent<'static>>>
+    /// Returns the table map event that is in force for a table id, to be shared.
+    pub fn shared_tme(&self, table_id: u64) -> Option<&Arc<TableMapEvent<'static>>>
         ensures { option_map (λ t. arc_value t.now) result ≡ in_maps self.now table_id }
     {
         if let Some(first) = &self.first {
@@ -188,8 +188,8 @@ impl TableMaps {
         }
     }
 
-    // Returns whether a statement ended with the last event.
-    pub(crate) fn ended(&self) -> bool
+    /// Returns whether a statement ended with the last event.
+    pub fn ended(&self) -> bool
         ensures { result ≡ self.now.ended }
     {
         self.ended
@@ -233,8 +233,8 @@ impl TableMaps {
         }
     }
 
-    // Takes what a plain event says of tables.
-    pub(crate) fn take_plain(&mut self, event: &PlainEvent<'_>)
+    /// Takes what a plain event says of tables.
+    pub fn take_plain(&mut self, event: &PlainEvent<'_>)
         requires plain { event.now.description ≡ None }
         requires no_table { event.now.table ≡ None }
         ensures tables { (id : ℕ) → in_maps self.new id
@@ -335,8 +335,8 @@ impl TableMaps {
         Ok(copy)
     }
 
-    // Returns the table map event of a body, a kept one where there is one.
-    pub(crate) fn table_of(
+    /// Returns the table map event of a body, a kept one where there is one.
+    pub fn table_of(
         &mut self,
         alloc: Global,
         server: Server,
@@ -345,7 +345,7 @@ impl TableMaps {
     ) -> Result<Arc<TableMapEvent<'static>>, EventError>
         ensures ok { IfOk result (λ t. ReadsTable server post_header_len body.now (Ok (arc_value t))) }
         ensures err { IfErr result
-            (λ e. IsMemory e ⊎ ReadsTable server post_header_len body.now (Err e)) }
+            (λ e. (e ≡ error.Memory) ⊎ ReadsTable server post_header_len body.now (Err e)) }
         ensures held { held_by self.new ≡ held_by self.old }
         ensures most { most_kept self.new ≡ most_kept self.old }
     {
@@ -412,12 +412,9 @@ impl TableMaps {
         }
     }
 
-    // Takes a table map event. All tables before it are given up if a statement ended with the event
-    // before it. Where memory is refused, all is as before.
-    pub(crate) fn take_table(
-        &mut self,
-        table: Arc<TableMapEvent<'static>>,
-    ) -> Result<(), AllocError>
+    /// Takes a table map event. All tables before it are given up if a statement ended with the event
+    /// before it. Where memory is refused, all is as before.
+    pub fn take_table(&mut self, table: Arc<TableMapEvent<'static>>) -> Result<(), AllocError>
         ensures tables { OnOk result ((id : ℕ) → in_maps self.new id
             ≡ with_table (found (in_maps self.old) self.old.ended) (arc_value table.entry) id) }
         ensures ended { OnOk result (self.new.ended ≡ false) }

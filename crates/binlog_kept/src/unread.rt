@@ -3,17 +3,17 @@
 ghost use Rattle.std.specs.Prelude.{◌≡◌, ◌⊎◌, Ok, Err, IfOk, IfErr};
 ghost use Rattle.std.specs.Arc.{arc_value};
 ghost use Rattle.binlog_table.specs.TableMap.{TableMap};
-ghost use Rattle.binlog_file.specs.Events.{event_of_raw, glance_of};
-ghost use Rattle.binlog_file.specs.Changes.{IsMemory};
-ghost use Rattle.binlog_file.specs.TableBodies.{ReadsTable, event_with, LeavesTable};
-ghost use Rattle.binlog_file.specs.TableMaps.{held_by, most_kept};
+ghost use Rattle.binlog_events.specs.Events.{event_of_raw, glance_of};
+ghost use Rattle.binlog_events.specs.declared.error.EventError.TheVariants as error;
+ghost use Rattle.binlog_events.specs.TableBodies.{ReadsTable, event_with, LeavesTable};
+ghost use Rattle.binlog_kept.specs.TableMaps.{held_by, most_kept};
 
-use crate::error::EventError;
-use crate::header::BinlogEventHeader;
 use crate::tables::TableMaps;
 use binlog_base::below::Server;
 use binlog_events::description::FormatDescriptionEvent;
+use binlog_events::error::EventError;
 use binlog_events::event::{Glance, Parts, Raw, has_checksum, parts_of};
+use binlog_events::header::BinlogEventHeader;
 use binlog_table::table_map::TableMapEvent;
 use std::alloc::Global;
 use std::marker::Model;
@@ -22,7 +22,7 @@ use std::sync::Arc;
 /// A table map event whose checksum is right, and whose body isn't read yet, with what that is read
 /// by.
 #[derive(Drop)]
-pub(crate) struct UnreadTable<'a> {
+pub struct UnreadTable<'a> {
     position: u64,
     header: BinlogEventHeader,
     parts: Parts<'a>,
@@ -31,7 +31,7 @@ pub(crate) struct UnreadTable<'a> {
 }
 
 impl<'a> Model for UnreadTable<'a> {
-    ghost use Rattle.binlog_file.specs.TableBodies as Spec;
+    ghost use Rattle.binlog_events.specs.TableBodies as Spec;
 
     ghost Value = { Spec.UnreadTable };
 
@@ -45,8 +45,8 @@ impl<'a> Model for UnreadTable<'a> {
 }
 
 impl<'a> UnreadTable<'a> {
-    // Takes the table map event of these bytes, after the description that is in force.
-    pub(crate) fn of_raw(
+    /// Takes the table map event of these bytes, after the description that is in force.
+    pub fn of_raw(
         position: u64,
         in_force: &Option<FormatDescriptionEvent<'_>>,
         raw: &Raw<'a>,
@@ -68,15 +68,15 @@ impl<'a> UnreadTable<'a> {
         }
     }
 
-    // Returns what the body says.
-    pub(crate) fn table(
+    /// Returns what the body says.
+    pub fn table(
         &self,
         alloc: Global,
         tables: &mut TableMaps,
     ) -> Result<Arc<TableMapEvent<'static>>, EventError>
         ensures ok { IfOk result (λ t. ReadsTable self.now.server self.now.post_header_len
             self.now.parts.body (Ok (arc_value t))) }
-        ensures err { IfErr result (λ e. IsMemory e ⊎ ReadsTable self.now.server
+        ensures err { IfErr result (λ e. (e ≡ error.Memory) ⊎ ReadsTable self.now.server
             self.now.post_header_len self.now.parts.body (Err e)) }
         ensures held { held_by tables.new ≡ held_by tables.old }
         ensures most { most_kept tables.new ≡ most_kept tables.old }
@@ -84,15 +84,15 @@ impl<'a> UnreadTable<'a> {
         tables.table_of(alloc, self.server, self.post_header_len, self.parts.body())
     }
 
-    // Returns how many bytes the whole event has.
-    pub(crate) fn event_size(&self) -> u32
+    /// Returns how many bytes the whole event has.
+    pub fn event_size(&self) -> u32
         ensures { result ≡ self.now.header.event_size }
     {
         self.header.event_size()
     }
 
-    // Returns what the changes need of the event.
-    pub(crate) fn glance(&self) -> Glance<'a>
+    /// Returns what the changes need of the event.
+    pub fn glance(&self) -> Glance<'a>
         ensures { (t : TableMap) → result ≡ glance_of (event_with self.now t) }
     {
         Glance {

@@ -1,0 +1,3 @@
+pub mod SameTable
+pub mod Bytes
+pub mod Places

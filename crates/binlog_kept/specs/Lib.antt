@@ -1,0 +1,4 @@
+-- The definitions that the contracts of this crate rest on.
+pub mod Kept
+pub mod StoredPlans
+pub mod TableMaps

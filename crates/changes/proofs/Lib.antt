@@ -4,7 +4,9 @@ pub mod Members
 pub mod Outputs
 pub mod Rows
 pub mod Alike
+pub mod Kept
 pub mod Pairs
 pub mod Written
 pub mod Events
+pub mod Passed
 pub mod Whole

@@ -7,6 +7,7 @@ pub mod Sources
 pub mod Fits
 pub mod Outputs
 pub mod Rows
+pub mod Weights
 pub mod Tables
 pub mod Readings
 pub mod Lines

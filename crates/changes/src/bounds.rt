@@ -1,6 +1,6 @@
 //! The positions at which the reading of a file begins and stops.
 
-ghost use Rattle.std.specs.Prelude.{◌≡◌, ◌⊎◌, Some, None, OnOk};
+ghost use Rattle.std.specs.Prelude.{◌≡◌, ◌⊎◌, Some, None, OnOk, IsFalse};
 ghost use Rattle.changes.specs.Names.{is_before};
 
 use crate::error::Failure;
@@ -24,6 +24,13 @@ impl Bounds {
             start: positions.start,
             stop: positions.stop,
         }
+    }
+
+    /// Returns whether it has to be seen at which positions events begin.
+    pub fn are_given(&self) -> bool
+        ensures { IsFalse result → self.now.stop ≡ None }
+    {
+        self.start.is_some() || self.stop.is_some()
     }
 
     /// Returns whether the event at a position, if there is one, is before the stop position.

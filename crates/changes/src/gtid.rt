@@ -1,6 +1,6 @@
 //! The global transaction id of the events of a transaction.
 
-ghost use Rattle.std.specs.Prelude.{◌≡◌, ◌++◌, length, IfOk, OnOk, None};
+ghost use Rattle.std.specs.Prelude.{◌≡◌, ◌++◌, length, codes, decimal, IfOk, OnOk, None};
 ghost use Rattle.std.specs.Option.{option_map};
 ghost use Rattle.std.specs.String.{string_bytes};
 ghost use Rattle.changes.specs.Gtids.{part_text, uuid_text, mysql_gtid, mariadb_gtid, gtid_after};
@@ -8,6 +8,7 @@ ghost use Rattle.changes.specs.Gtids.{part_text, uuid_text, mysql_gtid, mariadb_
 use binlog_file::lent_changes::OtherEvent;
 use byteorder::{ByteOrder, LittleEndian};
 use hex::encode;
+use itoa::Buffer;
 use std::alloc::{AllocError, Global};
 use std::marker::Model;
 
@@ -29,17 +30,35 @@ const MARIADB_GTID: u8 = 0xA2;
 /// without a GTID or with a tag, and after an event that is too short for one.
 #[derive(Drop)]
 pub struct Gtid {
-    text: Option<String>,
+    // It is made anew in the same memory. Where there is no GTID, it is of no meaning.
+    text: String,
+    is_there: bool,
 }
 
 impl Model for Gtid {
-    ghost use Rattle.std.specs.Prelude.{ℕ, List, Option};
-    ghost use Rattle.std.specs.Option.{option_map};
+    ghost use Rattle.std.specs.Prelude.{ℕ, List, Option, Some, None, if◌then◌else◌};
     ghost use Rattle.std.specs.String.{string_bytes};
 
     ghost Value = { Option (List ℕ) };
 
-    ghost view = { λ g. option_map string_bytes g.text };
+    ghost view = { λ g. if g.is_there then Some (string_bytes g.text) else None };
+}
+
+// Adds a number in decimal.
+fn push_number(text: &mut String, number: u64) -> Result<(), AllocError>
+    ensures { OnOk result (string_bytes text.new ≡ string_bytes text.old ++ decimal number) }
+{
+    let mut room = Buffer::new();
+    text.push_str(room.format(number))
+}
+
+// Adds a dash and a number in decimal.
+fn push_next(text: &mut String, number: u64) -> Result<(), AllocError>
+    ensures { OnOk result (string_bytes text.new
+        ≡ string_bytes text.old ++ (codes "-" ++ decimal number)) }
+{
+    text.push_str("-")?;
+    push_number(text, number)
 }
 
 // Adds bytes in hexadecimal, after a dash.
@@ -76,34 +95,70 @@ fn mysql_gtid(alloc: Global, body: &[u8]) -> Result<Option<String>, AllocError>
     Ok(Some(format!(in alloc; "{uuid}:{number}")?))
 }
 
-// Returns the GTID in the body of an event of MariaDB: a sequence number (8 bytes), a domain (4).
-fn mariadb_gtid(alloc: Global, server: u32, body: &[u8]) -> Result<Option<String>, AllocError>
-    ensures { IfOk result (λ g. option_map string_bytes g ≡ mariadb_gtid server body.now) }
+// Makes the text that of a domain, a server and a sequence number.
+fn write_mariadb(
+    text: &mut String,
+    domain: u32,
+    server: u32,
+    sequence: u64,
+) -> Result<(), AllocError>
+    ensures { OnOk result (string_bytes text.new
+        ≡ decimal domain ++ (codes "-" ++ (decimal server ++ (codes "-" ++ decimal sequence)))) }
 {
-    if body.len() < 12 {
-        return Ok(None);
-    }
-    let sequence = LittleEndian::read_u64(&body[0..8]);
-    let domain = LittleEndian::read_u32(&body[8..12]);
-    Ok(Some(format!(in alloc; "{domain}-{server}-{sequence}")?))
+    text.clear();
+    push_number(text, u64::from(domain))?;
+    push_next(text, u64::from(server))?;
+    push_next(text, sequence)
 }
 
 impl Gtid {
     /// Returns the GTID at the start of a file: none.
-    pub fn new() -> Gtid
+    pub fn new(alloc: Global) -> Gtid
         ensures { result ≡ None }
     {
-        Gtid { text: None }
+        Gtid {
+            text: String::new(alloc),
+            is_there: false,
+        }
     }
 
     /// Returns the GTID as text, if there is one.
     pub fn text(&self) -> Option<&str>
         ensures { option_map (λ t. t.now) result ≡ self.now }
     {
-        match &self.text {
-            Some(text) => Some(text.as_str()),
-            None => None,
+        if self.is_there {
+            Some(self.text.as_str())
+        } else {
+            None
         }
+    }
+
+    // Takes a GTID as text, if there is one.
+    fn take(&mut self, text: Option<String>)
+        ensures { self.new ≡ option_map string_bytes text }
+    {
+        match text {
+            None => self.is_there = false,
+            Some(text) => {
+                self.text = text;
+                self.is_there = true;
+            }
+        }
+    }
+
+    // Takes the GTID in the body of an event of MariaDB: a sequence number (8 bytes), a domain (4).
+    fn take_mariadb(&mut self, server: u32, body: &[u8]) -> Result<(), AllocError>
+        ensures { OnOk result (self.new ≡ mariadb_gtid server body.now) }
+    {
+        if body.len() < 12 {
+            self.is_there = false;
+            return Ok(());
+        }
+        let sequence = LittleEndian::read_u64(&body[0..8]);
+        let domain = LittleEndian::read_u32(&body[8..12]);
+        write_mariadb(&mut self.text, domain, server, sequence)?;
+        self.is_there = true;
+        Ok(())
     }
 
     /// Takes in an event, after which another GTID may be in force.
@@ -111,11 +166,11 @@ impl Gtid {
         ensures { OnOk result (self.new ≡ gtid_after self.old event.now) }
     {
         match event.header().event_type() {
-            GTID => self.text = mysql_gtid(alloc, event.body())?,
+            GTID => self.take(mysql_gtid(alloc, event.body())?),
             MARIADB_GTID => {
-                self.text = mariadb_gtid(alloc, event.header().server_id(), event.body())?;
+                self.take_mariadb(event.header().server_id(), event.body())?;
             }
-            FORMAT_DESCRIPTION | ANONYMOUS_GTID | TAGGED_GTID => self.text = None,
+            FORMAT_DESCRIPTION | ANONYMOUS_GTID | TAGGED_GTID => self.is_there = false,
             _ => {}
         }
         Ok(())

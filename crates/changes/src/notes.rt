@@ -15,6 +15,8 @@ use std::time::Clock;
 
 /// How many tables without signs are told at most.
 const MOST_TABLES: usize = 1024;
+/// How many table ids are remembered whose tables were looked at.
+const MOST_IDS: usize = 4096;
 
 /// What is said on standard error, and what was said. That it can't be written there is no error.
 #[derive(Drop)]
@@ -23,6 +25,8 @@ pub struct Notes<'c, E, K> {
     err: E,
     is_quiet: bool,
     told: BTreeSet<TableName>,
+    // A file has one table for each id.
+    seen: BTreeSet<u64>,
     meter: Option<Meter<'c, K>>,
 }
 
@@ -34,12 +38,14 @@ impl<'c, E: Write + Drop, K: Clock> Notes<'c, E, K> {
             err,
             is_quiet,
             told: BTreeSet::new(alloc),
+            seen: BTreeSet::new(alloc),
             meter: None,
         }
     }
 
     /// Begins the notes of a file, with a meter if progress is to be told.
     pub fn begin(&mut self, meter: Option<Meter<'c, K>>) {
+        self.seen.clear();
         self.meter = meter;
     }
 
@@ -87,7 +93,18 @@ impl<'c, E: Write + Drop, K: Clock> Notes<'c, E, K> {
 
     // Tells once for each table that its event has no signs although it has columns of numbers.
     fn see_table(&mut self, table: &TableMapEvent<'_>) -> Result<(), AllocError> {
-        if self.is_quiet || self.told.len() >= MOST_TABLES || !lacks_signs(table) {
+        if self.is_quiet || self.seen.contains(&table.table_id()) {
+            return Ok(());
+        }
+        if self.seen.len() < MOST_IDS {
+            self.seen.insert(table.table_id())?;
+        }
+        self.tell_signs(table)
+    }
+
+    // Tells that a table's event has no signs, if that is so and wasn't told.
+    fn tell_signs(&mut self, table: &TableMapEvent<'_>) -> Result<(), AllocError> {
+        if self.told.len() >= MOST_TABLES || !lacks_signs(table) {
             return Ok(());
         }
         let name = TableName::of(self.alloc, table)?;

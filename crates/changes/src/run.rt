@@ -5,11 +5,11 @@ ghost use Rattle.std.specs.String.{string_bytes};
 ghost use Rattle.std.specs.Io.KnownBytes.{Appends};
 ghost use Rattle.row_json.specs.Rows.{IsLine};
 ghost use Rattle.row_lines.specs.Lines.{line_text};
-ghost use Rattle.std.specs.Prelude.{◌^◌, ◌<◌, length, Some, None};
+ghost use Rattle.std.specs.Prelude.{◌^◌, ◌<◌, length, Some, None, IsSome};
 ghost use Rattle.mysql_binlog_rows.specs.Images.{Pair, pair};
 ghost use Rattle.mysql_binlog_rows.specs.Cover.{Covers};
 ghost use Rattle.binlog_file.specs.declared.lent_changes.LentEvent.TheVariants as lent;
-ghost use Rattle.binlog_file.specs.SourceChanges.{Finds, spot_at};
+ghost use Rattle.binlog_file.specs.SourceChanges.{Finds, spot_at, items_left};
 ghost use Rattle.binlog_file.specs.SourceWalks.{reading_in, kept_in};
 ghost use Rattle.changes.specs.declared.run.Form.TheVariants as Form;
 ghost use Rattle.changes.specs.declared.run.Ended.TheVariants.{Whole};
@@ -18,7 +18,7 @@ ghost use Rattle.changes.specs.Gtids.{gtid_after};
 ghost use Rattle.changes.specs.Sources.{members_in};
 ghost use Rattle.changes.specs.Outputs.{Outputs};
 ghost use Rattle.changes.specs.Rows.{IsJsonLine, WritesRows};
-ghost use Rattle.changes.specs.Readings.{Stays};
+ghost use Rattle.changes.specs.Readings.{Stays, SourceNext};
 ghost use Rattle.changes.specs.Lines.{place_text, IsRowLine, gtid_past, WritesEvent, Writes};
 ghost use Rattle.changes.specs.Printers.{IsSame};
 ghost use Rattle.changes.specs.Runs.{AreAllLines};
@@ -257,6 +257,30 @@ fn count_rows<'f, S: Bytes + Drop>(
     (count, None)
 }
 
+// The types of the events that are looked at beside rows events: those after which another GTID may be
+// in force, and those with statements.
+const SEEN: [u8; 8] = [0x02, 0x0F, 0x12, 0x21, 0x22, 0x2A, 0xA2, 0xA5];
+
+// Reads the next event into a buffer: each one, or only those that are looked at.
+fn next_event<'f, 'b, S: Bytes + Drop>(
+    changes: &mut SourceChanges<S, Filter<'f>>,
+    buffer: &'b mut EventBuffer,
+    is_each: bool,
+) -> Option<Result<LentEvent<'b>, FileError>>
+    ensures event { SourceNext (wanted_by changes.old.choice) is_each
+        (S.remaining changes.old.source) (reading_in changes.old.walk) changes.old.walk.pending result
+        (S.remaining changes.new.source) (reading_in changes.new.walk) changes.new.walk.pending }
+    ensures fewer { IsSome result → items_left (reading_in changes.new.walk) changes.new.walk.pending
+        < items_left (reading_in changes.old.walk) changes.old.walk.pending }
+    ensures choice { changes.new.choice ≡ changes.old.choice }
+{
+    if is_each {
+        changes.next_event(buffer)
+    } else {
+        changes.next_event_of(buffer, &SEEN)
+    }
+}
+
 // What is kept while a file is printed.
 #[derive(Drop)]
 struct Printer<'a> {
@@ -444,7 +468,7 @@ impl<'a> Printer<'a> {
             if !bounds.goes_on(position) {
                 return bounds.end(position);
             }
-            let event = match changes.next_event(&mut buffer) {
+            let event = match next_event(changes, &mut buffer, bounds.are_given()) {
                 None => return bounds.end(position),
                 Some(event) => event?,
             };
@@ -502,7 +526,7 @@ pub fn run<R: Read + Drop, O: Write, E: Write + Drop, K: Clock>(
         settings,
         path,
         file,
-        gtid: Gtid::new(),
+        gtid: Gtid::new(alloc),
         statements: Statements::new(),
         tables: KeptTables::new(alloc),
         lines: Lines::new(alloc),

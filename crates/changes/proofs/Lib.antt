@@ -2,6 +2,9 @@
 pub mod Names
 pub mod Members
 pub mod Outputs
+pub mod Beginnings
+pub mod Errors
+pub mod Failures
 pub mod Rows
 pub mod Alike
 pub mod Kept
@@ -10,3 +13,4 @@ pub mod Written
 pub mod Events
 pub mod Passed
 pub mod Whole
+pub mod First

@@ -32,6 +32,9 @@ same_table old new p u gives = ap (λ (c : LentChange). c.table) gives.3
 pub same_rows : (old new : LentChange) (p : Pair) (u : Unit {0}) → PairGives old p (Some (Ok u)) new → new.rows ≡ old.rows
 same_rows old new p u gives = ap (λ (c : LentChange). c.rows) gives.3
 
+pub same_origin : (old new : LentChange) (p : Pair) (u : Unit {0}) → PairGives old p (Some (Ok u)) new → new.origin ≡ old.origin
+same_origin old new p u gives = ap (λ (c : LentChange). c.origin) gives.3
+
 -- a pair that was read is one that the event gives
 pub ok_gives : (old new : LentChange) (p : Pair) (r : Result (Unit {0}) FileError) (u : Unit {0}) → r ≡ Ok u → PairGives old p (Some r) new → PairGives old p (Some (Ok u)) new
 ok_gives old new p r u is h = subst (λ (x : Result (Unit {0}) FileError). PairGives old p (Some x) new) is h

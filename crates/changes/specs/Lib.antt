@@ -11,5 +11,6 @@ pub mod Weights
 pub mod Tables
 pub mod Readings
 pub mod Lines
+pub mod Failures
 pub mod Runs
 pub mod Printers

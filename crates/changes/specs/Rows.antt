@@ -1,14 +1,20 @@
 -- The lines of the rows of an event.
 use Rattle.std.specs.Prelude.{◌≡◌, ◌-◌, ◌^◌, min, ℕ, suc, List, [], ◌∷◌, ◌++◌, Option, None}
+use Rattle.std.specs.List.{concat}
+use Rattle.binlog_base.specs.Format.{Format}
 use Rattle.mysql_binlog_rows.specs.RowsEvent.{RowsEvent}
 use Rattle.mysql_binlog_rows.specs.Images.{Pair, pair}
-use Rattle.mysql_binlog_rows.specs.Cover.{Covers}
+use Rattle.mysql_binlog_rows.specs.Cover.{ArePairs, Covers}
 use Rattle.binlog_file.specs.LentChanges.{LentChange}
 use Rattle.row_json.specs.Columns.{Column}
 use Rattle.row_json.specs.Rows.{IsLine}
 use Rattle.changes.specs.declared.source.Source.{Source}
 use Rattle.changes.specs.Sources.{members_in, source_at}
 use Rattle.changes.specs.Outputs.{Outputs}
+
+-- the rows data begins with these pairs of rows, without gaps, and goes on with this rest, whatever it is
+abbrev pub BeginsWith : Format Pair → List ℕ → List Pair → List ℕ → Type 0
+BeginsWith pair rows_data ps rest = (parts : List (List ℕ)) × (rows_data ≡ concat parts ++ rest) × ArePairs pair parts ps
 
 -- Lines of rows, one after the other. Of the first, which has this number, and of each one after it, the
 -- line is what it has to be.

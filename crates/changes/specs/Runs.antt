@@ -1,10 +1,12 @@
 -- What a run prints. It is a module of its own because Settings is a type of the code.
-use Rattle.std.specs.Prelude.{◌≡◌, ℕ, true, List, Option, None}
+use Rattle.std.specs.Prelude.{◌≡◌, ◌⊎◌, ℕ, true, List, [], Option, None}
 use Rattle.binlog_file.specs.Events.{Event, is_binlog}
 use Rattle.binlog_file.specs.Changes.{Spot, first_spot}
+use Rattle.changes.specs.declared.error.Failure.{Failure}
 use Rattle.changes.specs.declared.run.Settings.{Settings}
 use Rattle.changes.specs.Filters.{wanted_by}
 use Rattle.changes.specs.Lines.{AreLines, IsEnd}
+use Rattle.changes.specs.Failures.{EndsAtHeader, AreFirst}
 
 -- These are all lines of a file of this name and these bytes: those of the events from its beginning up to
 -- its end or the stop position, each of which is read without an error.
@@ -15,3 +17,11 @@ pub record AreAllLines (settings : Settings) (file : List ℕ) (x : List ℕ) (t
   pub gtid : Option (List ℕ)
   pub lines : AreLines settings.form (wanted_by settings.filter) file (first_spot x) None events text end gtid
   pub is_end : IsEnd settings.filter.positions.stop end
+
+-- These are first lines of a file of this name and these bytes, up to a failure: none, where it is no binlog
+-- file; or those of some first events, each of which is read without an error, and then those of some first
+-- rows of the next one. Rows of events past the stop position aren't wanted, so that no line is theirs.
+abbrev pub AreFirstLines : Failure → Settings → List ℕ → List ℕ → List ℕ → Type 0
+AreFirstLines why settings file x text =
+    ((text ≡ []) × EndsAtHeader why x)
+    ⊎ ((is_binlog x ≡ true) × AreFirst why settings.form (wanted_by settings.filter) file (first_spot x) None text)

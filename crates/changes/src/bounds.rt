@@ -1,7 +1,8 @@
 //! The positions at which the reading of a file begins and stops.
 
-ghost use Rattle.std.specs.Prelude.{◌≡◌, ◌⊎◌, Some, None, OnOk, IsFalse};
+ghost use Rattle.std.specs.Prelude.{◌≡◌, ◌⊎◌, Some, None, OnOk, IfErr, IsFalse};
 ghost use Rattle.changes.specs.Names.{is_before};
+ghost use Rattle.changes.specs.Failures.{IsNotOfFile};
 
 use crate::error::Failure;
 use crate::filter::Positions;
@@ -47,6 +48,7 @@ impl Bounds {
     /// start position, where none begins.
     pub fn begin(&mut self, position: u64) -> Result<(), Failure>
         ensures stop { self.new.stop ≡ self.old.stop }
+        ensures failed { IfErr result IsNotOfFile }
     {
         match self.start {
             Some(start) if start < position => Err(Failure::NoEvent(start)),
@@ -63,6 +65,7 @@ impl Bounds {
     pub fn end(&self, position: u64) -> Result<(), Failure>
         ensures start { OnOk result (self.now.start ≡ None) }
         ensures stop { OnOk result ((self.now.stop ≡ None) ⊎ (self.now.stop ≡ Some position)) }
+        ensures failed { IfErr result IsNotOfFile }
     {
         if let Some(start) = self.start {
             return Err(Failure::NoEvent(start));

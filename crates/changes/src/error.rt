@@ -1,5 +1,8 @@
 //! Why a run ends early, as sentences.
 
+ghost use Rattle.std.specs.Prelude.{◌≡◌};
+ghost use Rattle.changes.specs.declared.error.Failure.TheVariants.{File, Output, Memory};
+
 use binlog_file::error::{EventError, FileError};
 use std::alloc::{AllocError, AllocFailed};
 use std::{fmt, io};
@@ -18,24 +21,32 @@ pub enum Failure {
 }
 
 impl From<FileError> for Failure {
+    ghost from_gives = { λ x e. e ≡ File x };
+
     fn from(error: FileError) -> Failure {
         Failure::File(error)
     }
 }
 
 impl From<io::Error> for Failure {
+    ghost from_gives = { λ x e. e ≡ Output x };
+
     fn from(error: io::Error) -> Failure {
         Failure::Output(error)
     }
 }
 
 impl From<AllocError> for Failure {
+    ghost from_gives = { λ _ e. e ≡ Memory };
+
     fn from(_: AllocError) -> Failure {
         Failure::Memory
     }
 }
 
 impl<T: Drop> From<AllocFailed<T>> for Failure {
+    ghost from_gives = { λ _ e. e ≡ Memory };
+
     fn from(_: AllocFailed<T>) -> Failure {
         Failure::Memory
     }

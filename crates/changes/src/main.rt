@@ -8,6 +8,7 @@ pub mod error;
 pub mod filter;
 pub mod gtid;
 pub mod notes;
+pub mod output;
 pub mod progress;
 pub mod run;
 pub mod signs;

@@ -1,11 +1,11 @@
 //! Prints the changes of a file.
 
-ghost use Rattle.std.specs.Prelude.{◌≡◌, ℕ, List, [], ◌++◌, OnOk, IfOk};
+ghost use Rattle.std.specs.Prelude.{◌≡◌, ◌≢◌, ◌⊎◌, ℕ, List, [], ◌++◌, OnOk, OnErr, IfOk, IfErr};
 ghost use Rattle.std.specs.String.{string_bytes};
 ghost use Rattle.std.specs.Io.KnownBytes.{Appends};
 ghost use Rattle.row_json.specs.Rows.{IsLine};
 ghost use Rattle.row_lines.specs.Lines.{line_text};
-ghost use Rattle.std.specs.Prelude.{◌^◌, ◌<◌, length, Some, None, IsSome};
+ghost use Rattle.std.specs.Prelude.{◌^◌, ◌<◌, length, Some, None, Err, IfSome, IsSome, IsOk};
 ghost use Rattle.mysql_binlog_rows.specs.Images.{Pair, pair};
 ghost use Rattle.mysql_binlog_rows.specs.Cover.{Covers};
 ghost use Rattle.binlog_file.specs.declared.lent_changes.LentEvent.TheVariants as lent;
@@ -16,12 +16,16 @@ ghost use Rattle.changes.specs.declared.run.Ended.TheVariants.{Whole};
 ghost use Rattle.changes.specs.Filters.{wanted_by};
 ghost use Rattle.changes.specs.Gtids.{gtid_after};
 ghost use Rattle.changes.specs.Sources.{members_in};
-ghost use Rattle.changes.specs.Outputs.{Outputs};
-ghost use Rattle.changes.specs.Rows.{IsJsonLine, WritesRows};
+ghost use Rattle.changes.specs.Outputs.{Outputs, AppendsFirst};
+ghost use Rattle.changes.specs.Rows.{BeginsWith, IsJsonLine, WritesRows};
 ghost use Rattle.changes.specs.Readings.{Stays, SourceNext};
 ghost use Rattle.changes.specs.Lines.{place_text, IsRowLine, gtid_past, WritesEvent, Writes};
+ghost use Rattle.changes.specs.declared.error.Failure.{Failure};
+ghost use Rattle.changes.specs.Failures.{IsOutput, IsErrorOfRow, EndsAtRow, IsRowFailure, IsLineFailure};
+ghost use Rattle.changes.specs.Failures.{IsLostBy, OutputsUpTo, AppendsUpTo};
+ghost use Rattle.changes.specs.Failures.{WritesFirstRows, WritesFirstOfEvent, WritesFirst};
 ghost use Rattle.changes.specs.Printers.{IsSame};
-ghost use Rattle.changes.specs.Runs.{AreAllLines};
+ghost use Rattle.changes.specs.Runs.{AreAllLines, AreFirstLines};
 
 use crate::bounds::Bounds;
 use crate::count::{Counts, TableName};
@@ -29,6 +33,7 @@ use crate::error::Failure;
 use crate::filter::{Filter, Operation};
 use crate::gtid::Gtid;
 use crate::notes::Notes;
+use crate::output::write_whole;
 use crate::source::Source;
 use crate::statements::Statements;
 use crate::tables::KeptTables;
@@ -92,7 +97,9 @@ impl Ended {
 }
 
 // Returns why a row of an event can't be written.
-fn row_failure(position: u64, row: u64, fault: Fault) -> Failure {
+fn row_failure(position: u64, row: u64, fault: Fault) -> Failure
+    ensures { IsRowFailure position row fault result }
+{
     match fault {
         Fault::Memory => Failure::Memory,
         _ => Failure::File(FileError {
@@ -124,9 +131,11 @@ impl Lines {
     fn write_out<O: Write>(&mut self, out: &mut O) -> Result<(), Failure>
         ensures written { OnOk result
             (Appends (O.contents out.old) (O.contents out.new) self.old.bytes.items) }
+        ensures first { AppendsFirst (O.contents out.old) (O.contents out.new) self.old.bytes.items }
+        ensures failed { IfErr result IsOutput }
         ensures left { self.new.bytes.items ≡ [] }
     {
-        let written = out.write_all(&self.bytes);
+        let written = write_whole(out, &self.bytes);
         self.bytes.clear();
         match written {
             Ok(()) => Ok(()),
@@ -136,13 +145,31 @@ impl Lines {
 
     // Writes the lines out if there are many.
     fn write_if_full<O: Write>(&mut self, out: &mut O) -> Result<(), Failure>
-        ensures { OnOk result (Outputs (O.contents out.old) self.old.bytes.items []
+        ensures all { OnOk result (Outputs (O.contents out.old) self.old.bytes.items []
             (O.contents out.new) self.new.bytes.items) }
+        ensures first { IfErr result (λ why. OutputsUpTo why (O.contents out.old) self.old.bytes.items []
+            (O.contents out.new) self.new.bytes.items) }
+        ensures failed { IfErr result IsOutput }
     {
         if self.bytes.len() < FULL {
             return Ok(());
         }
         self.write_out(out)
+    }
+
+    // Writes the lines out once a reading ended, and returns how it ended, or that the output failed.
+    fn finish<O: Write>(&mut self, read: Result<(), Failure>, out: &mut O) -> Result<(), Failure>
+        ensures all { OnOk result (IsOk read
+            × Appends (O.contents out.old) (O.contents out.new) self.old.bytes.items) }
+        ensures failed { IfErr result (λ why. IsOutput why ⊎ (read ≡ Err why)) }
+        ensures first { IfErr result (λ why. (lost : List ℕ) → IsLostBy read lost → AppendsUpTo why
+            (O.contents out.old) (O.contents out.new) (self.old.bytes.items ++ lost)) }
+    {
+        self.write_out(out)?;
+        match out.flush() {
+            Ok(()) => read,
+            Err(error) => Err(Failure::Output(error)),
+        }
     }
 
     // Adds a row of an event as a line of JSON.
@@ -154,9 +181,11 @@ impl Lines {
         pair: &LentPair<'_>,
         source: &Source<'_>,
     ) -> Result<(), Failure>
-        ensures { OnOk result ((line : List ℕ)
+        ensures line { OnOk result ((line : List ℕ)
             × IsLine table.now event.now (members_in source.now) pair.now line
             × (self.new.bytes.items ≡ self.old.bytes.items ++ line)) }
+        ensures kept { OnErr result (self.new.bytes.items ≡ self.old.bytes.items) }
+        ensures failed { IfErr result (IsLineFailure source.now.origin.position pair.now) }
     {
         let bytes = &mut self.bytes;
         match write_line_with(alloc, &mut self.room, bytes, table, event, pair, source) {
@@ -172,11 +201,17 @@ impl Lines {
         place: &str,
         pair: &LentPair<'_>,
     ) -> Result<(), AllocError>
-        ensures { OnOk result (self.new.bytes.items
+        ensures line { OnOk result (self.new.bytes.items
             ≡ self.old.bytes.items ++ (place.now ++ line_text pair.now)) }
+        ensures kept { OnErr result (self.new.bytes.items ≡ self.old.bytes.items) }
     {
+        let len = self.bytes.len();
         self.bytes.extend_from_slice(place.as_bytes())?;
-        push_line(alloc, &mut self.bytes, pair)
+        let pushed = push_line(alloc, &mut self.bytes, pair);
+        if pushed.is_err() {
+            self.bytes.truncate(len);
+        }
+        pushed
     }
 }
 
@@ -194,6 +229,9 @@ fn write_json_rows<'f, S: Bytes + Drop, O: Write>(
     ensures lines { OnOk result (WritesRows (IsJsonLine table.now change.entry.rows source.now)
         change.entry (O.contents out.old) lines.old.bytes.items (O.contents out.new)
         lines.new.bytes.items) }
+    ensures first { source.now.origin ≡ change.entry.origin → IfErr result (λ why. WritesFirstRows why
+        (IsJsonLine table.now change.entry.rows source.now) change.entry (O.contents out.old)
+        lines.old.bytes.items (O.contents out.new) lines.new.bytes.items) }
     ensures stays { OnOk result (Stays changes.old changes.new) }
 {
     let mut change = change;
@@ -221,6 +259,9 @@ fn write_text_rows<'f, S: Bytes + Drop, O: Write>(
     ensures lines { OnOk result (WritesRows (λ row p line. line ≡ place.now ++ line_text p)
         change.entry (O.contents out.old) lines.old.bytes.items (O.contents out.new)
         lines.new.bytes.items) }
+    ensures first { IfErr result (λ why. WritesFirstRows why (λ row p line. line ≡ place.now ++ line_text p)
+        change.entry (O.contents out.old) lines.old.bytes.items (O.contents out.new)
+        lines.new.bytes.items) }
     ensures stays { OnOk result (Stays changes.old changes.new) }
 {
     let mut change = change;
@@ -243,6 +284,9 @@ fn count_rows<'f, S: Bytes + Drop>(
 ) -> (u64, Option<FileError>)
     ensures covers { result.1 ≡ None → (ps : List Pair)
         × Covers (pair change.entry.table change.entry.rows) change.entry.left ps None }
+    ensures first { IfSome result.1 (λ error. (ps : List Pair) × (rest : List ℕ)
+        × BeginsWith (pair change.entry.table change.entry.rows) change.entry.left ps rest
+        × IsErrorOfRow change.entry rest error) }
     ensures stays { result.1 ≡ None → Stays changes.old changes.new }
 {
     let mut change = change;
@@ -317,6 +361,10 @@ impl<'a> Printer<'a> {
             (IsRowLine Form.Json self.old.file.now self.old.gtid change.entry) change.entry
             (O.contents out.old) self.old.lines.bytes.items (O.contents out.new)
             self.new.lines.bytes.items) }
+        ensures first { IfErr result (λ why. WritesFirstRows why
+            (IsRowLine Form.Json self.old.file.now self.old.gtid change.entry) change.entry
+            (O.contents out.old) self.old.lines.bytes.items (O.contents out.new)
+            self.new.lines.bytes.items) }
         ensures stays { OnOk result (Stays changes.old changes.new) }
         ensures same { IsSame self.old self.new }
         ensures gtid { self.new.gtid ≡ self.old.gtid }
@@ -348,6 +396,10 @@ impl<'a> Printer<'a> {
             (IsRowLine Form.Text self.old.file.now self.old.gtid change.entry) change.entry
             (O.contents out.old) self.old.lines.bytes.items (O.contents out.new)
             self.new.lines.bytes.items) }
+        ensures first { IfErr result (λ why. WritesFirstRows why
+            (IsRowLine Form.Text self.old.file.now self.old.gtid change.entry) change.entry
+            (O.contents out.old) self.old.lines.bytes.items (O.contents out.new)
+            self.new.lines.bytes.items) }
         ensures stays { OnOk result (Stays changes.old changes.new) }
         ensures same { IsSame self.old self.new }
         ensures gtid { self.new.gtid ≡ self.old.gtid }
@@ -372,6 +424,9 @@ impl<'a> Printer<'a> {
     ) -> Result<u64, Failure>
         ensures covers { OnOk result ((ps : List Pair)
             × Covers (pair change.entry.table change.entry.rows) change.entry.left ps None) }
+        ensures first { IfErr result (λ why. (ps : List Pair) × (rest : List ℕ)
+            × BeginsWith (pair change.entry.table change.entry.rows) change.entry.left ps rest
+            × EndsAtRow why change.entry rest) }
         ensures stays { OnOk result (Stays changes.old changes.new) }
     {
         let name = TableName::of(self.alloc, change.table())?;
@@ -397,6 +452,9 @@ impl<'a> Printer<'a> {
         ensures lines { OnOk result (WritesEvent self.old.settings.now.form self.old.file.now
             self.old.gtid (lent.Rows change.entry) (O.contents out.old) self.old.lines.bytes.items
             (O.contents out.new) self.new.lines.bytes.items) }
+        ensures first { IfErr result (λ why. WritesFirstOfEvent why self.old.settings.now.form
+            self.old.file.now self.old.gtid (lent.Rows change.entry) (O.contents out.old)
+            self.old.lines.bytes.items (O.contents out.new) self.new.lines.bytes.items) }
         ensures stays { OnOk result (Stays changes.old changes.new) }
         ensures same { IsSame self.old self.new }
         ensures gtid { self.new.gtid ≡ self.old.gtid }
@@ -432,6 +490,9 @@ impl<'a> Printer<'a> {
         ensures lines { OnOk result (WritesEvent self.old.settings.now.form self.old.file.now
             self.old.gtid event.entry (O.contents out.old) self.old.lines.bytes.items
             (O.contents out.new) self.new.lines.bytes.items) }
+        ensures first { IfErr result (λ why. WritesFirstOfEvent why self.old.settings.now.form
+            self.old.file.now self.old.gtid event.entry (O.contents out.old)
+            self.old.lines.bytes.items (O.contents out.new) self.new.lines.bytes.items) }
         ensures stays { OnOk result (Stays changes.old changes.new) }
         ensures same { IsSame self.old self.new }
         ensures gtid { OnOk result (self.new.gtid ≡ gtid_past self.old.gtid event.entry) }
@@ -453,11 +514,17 @@ impl<'a> Printer<'a> {
         out: &mut O,
         notes: &mut Notes<'_, E, K>,
     ) -> Result<(), Failure>
-        ensures { OnOk result (changes.old.walk.pending ≡ None
+        ensures all { OnOk result (changes.old.walk.pending ≡ None
             → (x : List ℕ) → Finds (reading_in changes.old.walk) (S.remaining changes.old.source) x
             → Writes self.old.settings.now.form (wanted_by changes.old.choice) self.old.file.now
             self.old.settings.now.filter.positions.stop
             (spot_at (kept_in changes.old.walk) None x) self.old.gtid
+            (O.contents out.old) self.old.lines.bytes.items
+            (O.contents out.new) self.new.lines.bytes.items) }
+        ensures first { IfErr result (λ why. changes.old.walk.pending ≡ None
+            → (x : List ℕ) → Finds (reading_in changes.old.walk) (S.remaining changes.old.source) x
+            → WritesFirst why self.old.settings.now.form (wanted_by changes.old.choice)
+            self.old.file.now (spot_at (kept_in changes.old.walk) None x) self.old.gtid
             (O.contents out.old) self.old.lines.bytes.items
             (O.contents out.new) self.new.lines.bytes.items) }
     {
@@ -487,19 +554,19 @@ impl<'a> Printer<'a> {
         out: &mut O,
         notes: &mut Notes<'_, E, K>,
     ) -> Result<(), Failure>
-        ensures { OnOk result (self.old.lines.bytes.items ≡ [] → self.old.gtid ≡ None
+        ensures all { OnOk result (self.old.lines.bytes.items ≡ [] → self.old.gtid ≡ None
             → (x : List ℕ) → R.remaining reader ≡ Some x → length x < 2 ^ 64
             → (text : List ℕ) × AreAllLines self.old.settings.now self.old.file.now x text
             × Appends (O.contents out.old) (O.contents out.new) text) }
+        ensures first { IfErr result (λ why. self.old.lines.bytes.items ≡ [] → self.old.gtid ≡ None
+            → (x : List ℕ) → R.remaining reader ≡ Some x → length x < 2 ^ 64
+            → (text : List ℕ) × AreFirstLines why self.old.settings.now self.old.file.now x text
+            × AppendsUpTo why (O.contents out.old) (O.contents out.new) text) }
     {
         let file = BinlogFile::new(self.alloc, Counted::new(reader))?;
         let mut changes = SourceChanges::new(self.alloc, file, self.settings.filter);
         let read = self.print_events(&mut changes, counts, out, notes);
-        self.lines.write_out(out)?;
-        match out.flush() {
-            Ok(()) => read,
-            Err(error) => Err(Failure::Output(error)),
-        }
+        self.lines.finish(read, out)
     }
 }
 
@@ -517,9 +584,12 @@ pub fn run<R: Read + Drop, O: Write, E: Write + Drop, K: Clock>(
     out: &mut O,
     notes: &mut Notes<'_, E, K>,
 ) -> Ended
-    ensures { result ≡ Whole → (x : List ℕ) → R.remaining reader ≡ Some x → length x < 2 ^ 64
+    ensures all { result ≡ Whole → (x : List ℕ) → R.remaining reader ≡ Some x → length x < 2 ^ 64
         → (text : List ℕ) × AreAllLines settings.now file.now x text
         × Appends (O.contents out.old) (O.contents out.new) text }
+    ensures first { result ≢ Whole → (x : List ℕ) → R.remaining reader ≡ Some x → length x < 2 ^ 64
+        → (why : Failure) × (text : List ℕ) × AreFirstLines why settings.now file.now x text
+        × AppendsUpTo why (O.contents out.old) (O.contents out.new) text }
 {
     let mut printer = Printer {
         alloc,

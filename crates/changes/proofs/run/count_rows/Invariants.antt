@@ -9,6 +9,7 @@ invariant-loop-read g l =
     Stays l.fn.changes l.changes
     × (l.change.table ≡ l.fn.change.table) × (l.change.rows ≡ l.fn.change.rows)
     × (ps : List Pair) × SoFar (pair l.fn.change.table l.fn.change.rows) l.fn.change.left ps l.change.left
+    × (l.change.origin ≡ l.fn.change.origin)
 
 abbrev pub decreases-loop-read : goal.decreases-loop-read
 decreases-loop-read g l = length l.change.left

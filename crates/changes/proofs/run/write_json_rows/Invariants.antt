@@ -15,6 +15,7 @@ invariant-loop-read g l =
     × AreLinesBy (IsJsonLine l.table l.fn.change.rows l.source) 0 ps text
     × (l.row ≡ row_number (length ps))
     × Outputs (g.O.Write.contents l.fn.out) l.fn.lines.bytes.items text (g.O.Write.contents l.out) l.lines.bytes.items
+    × (l.change.origin ≡ l.fn.change.origin)
 
 abbrev pub decreases-loop-read : goal.decreases-loop-read
 decreases-loop-read g l = length l.change.left

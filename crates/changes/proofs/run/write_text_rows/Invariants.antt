@@ -15,6 +15,7 @@ invariant-loop-read g l =
     × SoFar (pair l.fn.change.table l.fn.change.rows) l.fn.change.left ps l.change.left
     × AreLinesBy (λ row p line. line ≡ l.place ++ line_text p) 0 ps text
     × Outputs (g.O.Write.contents l.fn.out) l.fn.lines.bytes.items text (g.O.Write.contents l.out) l.lines.bytes.items
+    × (l.change.origin ≡ l.fn.change.origin)
 
 abbrev pub decreases-loop-read : goal.decreases-loop-read
 decreases-loop-read g l = length l.change.left

@@ -1,15 +1,19 @@
-use Rattle.std.proofs.Common.{◌≡◌, ℕ, List, [], Option, Some, None, Result, Ok, refl, sym, ap, subst, ◌∙◌, inl, inr}
+use Rattle.std.proofs.Common.{◌≡◌, ℕ, List, [], Option, Some, None, Result, Ok, Err, refl, sym, ap, subst, ◌∙◌, inl, inr}
 use Rattle.binlog_events.specs.declared.error.FileError.{FileError}
 use Rattle.binlog_file.specs.declared.lent_changes.LentEvent.{LentEvent}
 use Rattle.binlog_file.specs.declared.source_changes.SourceWalk.{SourceWalk}
 use Rattle.binlog_file.specs.declared.reader.EventStreamReader.{EventStreamReader}
 use Rattle.binlog_file.specs.Readers.{kept_by}
 use Rattle.binlog_file.specs.SourceWalks.{reading_in}
+use Rattle.changes.specs.declared.error.Failure.TheVariants as failure
 use Rattle.changes.specs.declared.run.Form.{Form}
 use Rattle.changes.specs.declared.filter.Filter.{Filter}
 use Rattle.changes.specs.Filters.{wanted_by}
 use Rattle.changes.specs.Readings.{SourceNext}
 use Rattle.changes.specs.Lines.{WritesEvent}
+use Rattle.changes.specs.Failures.{WritesFirstOfEvent}
+use Rattle.changes.proofs.Errors.{passed_on, on_error}
+use Rattle.changes.proofs.First.{events_so_far, error_so_far, event_so_far}
 use Rattle.changes.proofs.Outputs.{outputs_nothing}
 use Rattle.changes.proofs.Written.{on_ok}
 use Rattle.changes.proofs.Whole.{step, ended}
@@ -53,8 +57,11 @@ loop-bounds-preserved g c =
       λ none y finds. step _ _ _ _ _ _ _ _ _ _ _ _ _ (h.3 none y finds) _ x _ _ _ _ _ _ gives writes c.in_ok-rows.ensures.gtid,
     )
 
-pub returns-in-None : goal.returns-in-None
-returns-in-None g c =
+pub returns-then-not-goes_on-clause-first : goal.returns-then-not-goes_on-clause-first
+returns-then-not-goes_on-clause-first g c = on_error c.end.result _ _ (λ why not none x finds. events_so_far _ _ _ _ _ _ _ _ _ _ _ _ _ (c.loop-bounds.invariant.3 none x finds) why not) c.end.ensures.failed
+
+pub returns-in-None-clause-all : goal.returns-in-None-clause-all
+returns-in-None-clause-all g c =
     let h = c.loop-bounds.invariant in
     let w = c.loop-bounds.changes in
     let mid = c.next_event.new.changes in
@@ -62,7 +69,43 @@ returns-in-None g c =
     let gives = subst (λ (f : Filter). SourceNext (wanted_by f) is_each (g.S.Source.remaining w.source) (reading_in w.walk) w.walk.pending None (g.S.Source.remaining mid.source) (reading_in mid.walk) mid.walk.pending) h.1 c.in-None.ensures.event in
     let place = c.position-position.ensures ∙ ap (λ (r : EventStreamReader). (kept_by r.kept).at) c.reader.ensures in
     on_ok c.end-in-None.result _ _
-    (λ stops none x finds. ended _ _ _ c.args.self.now.settings.now.filter.positions.stop _ _ _ _ _ (reading_in w.walk) _ _ _ _ (h.3 none x finds) is_each _ (reading_in mid.walk) _ gives
+    (λ stops none x finds. ended _ _ _ c.args.self.now.settings.now.filter.positions.stop _ _ _ _ _ _ _ _ _ _ (h.3 none x finds) is_each (g.S.Source.remaining mid.source) (reading_in mid.walk) mid.walk.pending gives
     (λ free. sym h.2 ∙ c.are_given.ensures free)
     (elim stops [ inl without ↦ inl (sym h.2 ∙ without) | inr at ↦ inr (sym h.2 ∙ at ∙ ap (λ (n : ℕ). Some n) place) ]))
     c.end-in-None.ensures.stop
+
+pub returns-in-None-clause-first : goal.returns-in-None-clause-first
+returns-in-None-clause-first g c = on_error c.end-in-None.result _ _ (λ why not none x finds. events_so_far _ _ _ _ _ _ _ _ _ _ _ _ _ (c.loop-bounds.invariant.3 none x finds) why not) c.end-in-None.ensures.failed
+
+pub returns-in_err-begin-clause-first : goal.returns-in_err-begin-clause-first
+returns-in_err-begin-clause-first g c =
+    let why = c.in_err-begin.field-0.0 in
+    passed_on _ why _ c.from_residual-in_err-begin.ensures.1 (λ none x finds. events_so_far _ _ _ _ _ _ _ _ _ _ _ _ _ (c.loop-bounds.invariant.3 none x finds) why c.in_err-begin.ensures.failed)
+
+pub returns-in_err-see-clause-first : goal.returns-in_err-see-clause-first
+returns-in_err-see-clause-first g c =
+    passed_on _ failure.Memory _ c.from_residual-in_err-see.ensures.1 (λ none x finds. events_so_far _ _ _ _ _ _ _ _ _ _ _ _ _ (c.loop-bounds.invariant.3 none x finds) failure.Memory tt)
+
+pub returns-in_err-event-in-Some-clause-first : goal.returns-in_err-event-in-Some-clause-first
+returns-in_err-event-in-Some-clause-first g c =
+    let h = c.loop-bounds.invariant in
+    let w = c.loop-bounds.changes in
+    let mid = c.next_event.new.changes in
+    let error = c.in_err-event-in-Some.field-0.0 in
+    let gives1 = subst (λ (e : Result LentEvent FileError). SourceNext (wanted_by w.choice) c.are_given.result (g.S.Source.remaining w.source) (reading_in w.walk) w.walk.pending (Some e) (g.S.Source.remaining mid.source) (reading_in mid.walk) mid.walk.pending) c.in_err-event-in-Some.was c.in-Some.ensures.event in
+    let gives = subst (λ (f : Filter). SourceNext (wanted_by f) c.are_given.result (g.S.Source.remaining w.source) (reading_in w.walk) w.walk.pending (Some (Err error)) (g.S.Source.remaining mid.source) (reading_in mid.walk) mid.walk.pending) h.1 gives1 in
+    passed_on _ (failure.File error) _ c.from_residual.ensures.1 (λ none x finds. error_so_far _ _ _ _ _ _ _ _ _ _ _ _ _ (h.3 none x finds) _ error (g.S.Source.remaining mid.source) (reading_in mid.walk) mid.walk.pending gives)
+
+pub returns-in_err-rows-clause-first : goal.returns-in_err-rows-clause-first
+returns-in_err-rows-clause-first g c =
+    let h = c.loop-bounds.invariant in
+    let s = c.loop-bounds.self in
+    let w = c.loop-bounds.changes in
+    let mid = c.next_event.new.changes in
+    let x = c.in_ok-event-in-Some.event in
+    let gives1 = subst (λ (e : Result LentEvent FileError). SourceNext (wanted_by w.choice) c.are_given.result (g.S.Source.remaining w.source) (reading_in w.walk) w.walk.pending (Some e) (g.S.Source.remaining mid.source) (reading_in mid.walk) mid.walk.pending) c.in_ok-event-in-Some.was c.in-Some.ensures.event in
+    let gives = subst (λ (f : Filter). SourceNext (wanted_by f) c.are_given.result (g.S.Source.remaining w.source) (reading_in w.walk) w.walk.pending (Some (Ok x)) (g.S.Source.remaining mid.source) (reading_in mid.walk) mid.walk.pending) h.1 gives1 in
+    let why = c.in_err-rows.field-0.0 in
+    let writes1 = subst (λ (f : Form). WritesFirstOfEvent why f s.file.now s.gtid x (g.O.Write.contents c.loop-bounds.out) s.lines.bytes.items (g.O.Write.contents c.print_event.new.out) c.print_event.new.self.lines.bytes.items) h.0.form c.in_err-rows.ensures.first in
+    let writes = subst (λ (n : List ℕ). WritesFirstOfEvent why c.args.self.now.settings.now.form n s.gtid x (g.O.Write.contents c.loop-bounds.out) s.lines.bytes.items (g.O.Write.contents c.print_event.new.out) c.print_event.new.self.lines.bytes.items) h.0.file writes1 in
+    passed_on _ why _ c.from_residual-in_err-rows.ensures.1 (λ none y finds. event_so_far _ _ _ _ _ _ _ _ _ _ _ _ _ (h.3 none y finds) _ x (g.S.Source.remaining mid.source) (reading_in mid.walk) mid.walk.pending _ _ gives why writes)

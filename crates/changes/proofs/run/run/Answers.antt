@@ -1,0 +1,8 @@
+use Rattle.changes.proofs.Errors.{of_error}
+use Rattle.changes.proofs.run.run.Goals as goal
+
+pub returns-in-Err-Output-clause-first : goal.returns-in-Err-Output-clause-first
+returns-in-Err-Output-clause-first g c = λ not x known small.
+    let why = c.in-Err-Output.field-0 in
+    let h = of_error c.print.result why _ c.in-Err-Output.is c.print.ensures.first c.new-4.ensures c.new.ensures x known small in
+    (why, h.0, h.1, h.2)

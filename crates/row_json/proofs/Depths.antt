@@ -244,7 +244,7 @@ columns_fit p (c ∷ cs) (false ∷ present) place values ms h = columns_fit p c
 columns_fit p (c ∷ cs) (true ∷ present) place values ms h =
     rw h.4 (joined h.0 h.1 102 (part_fits p c (value_at values place) h.0 h.2) (columns_fit p cs present (suc place) values h.1 h.3))
 
-object_fits : (p : Part) (cs : List Column) (present : List Bool) (row : BinlogRow) (j : Json) → IsObjectOf p cs present row j → depth j ≤ 103
+pub object_fits : (p : Part) (cs : List Column) (present : List Bool) (row : BinlogRow) (j : Json) → IsObjectOf p cs present row j → depth j ≤ 103
 object_fits p cs present row j h = let b = columns_fit p cs present 0 row.values h.0 h.1 in rw h.2 (omega (arith, b))
 
 image_fits : (cs : List Column) (present : List Bool) (image : Option BinlogRow) (j : Json) → IsImageJson cs present image j → depth j ≤ 103

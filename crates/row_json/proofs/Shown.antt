@@ -14,3 +14,5 @@ pub mod ToJson
 pub mod Values
 pub mod Cells
 pub mod Texts
+pub mod Rows
+pub mod Pairs

@@ -1,5 +1,5 @@
 -- What is found out once of the columns of a table.
-use Rattle.std.specs.Prelude.{ℕ, suc, List, [], ◌∷◌, map, Result, Ok, Err, Option, Some, None, unwrap_or}
+use Rattle.std.specs.Prelude.{ℕ, suc, Bool, true, false, List, [], ◌∷◌, map, Result, Ok, Err, Option, Some, None, unwrap_or}
 use Rattle.std.specs.Str.Lossy.{utf8_lossy}
 use Rattle.binlog_base.specs.declared.fault.Fault.{Fault}
 use Rattle.binlog_base.specs.declared.below.columns.column_type.ColumnType.{ColumnType}
@@ -88,3 +88,12 @@ names_in fs = record { enums = list_or (last_of enums_in fs); sets = list_or (la
 -- the columns of a table, up to the first with a fault
 abbrev pub columns_of : TableMap → List Column
 columns_of t = columns_from 0 (names_in (before_fault (fields (fields_of t)))) (before_fault (table_columns t))
+
+-- ---- the columns of an image
+
+-- the columns whose bits are set, in order
+abbrev pub columns_in : List Column → List Bool → List Column
+columns_in [] present = []
+columns_in (c ∷ cs) [] = []
+columns_in (c ∷ cs) (false ∷ present) = columns_in cs present
+columns_in (c ∷ cs) (true ∷ present) = c ∷ columns_in cs present

@@ -10,3 +10,4 @@ pub mod Documents
 pub mod Faults
 pub mod Rows
 pub mod Shown
+pub mod ShownRows

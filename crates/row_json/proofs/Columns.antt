@@ -8,7 +8,8 @@ use Rattle.row_json.specs.declared.kind.Kind.TheVariants.{Plain}
 use Rattle.binlog_base.specs.Values.{value_at}
 use Rattle.binlog_cells.specs.Cells.{Cell}
 use Rattle.row_json.specs.declared.row.Part.{Part}
-use Rattle.row_json.specs.Columns.{Column}
+use Rattle.row_json.specs.Columns.{Column, columns_in}
+use Rattle.row_json.specs.Faults.{HasNone, IsFaultOfCell}
 use Rattle.row_json.specs.declared.row.Part.TheVariants as part
 use Rattle.binlog_values.specs.JsonDiffs.{Diff}
 use Rattle.binlog_cells.specs.declared.value.lent.LentCell.{LentCell}
@@ -63,6 +64,29 @@ absent_step p cs bits i place values more b e are =
 pub last_step : (p : Part) (cs : List Column) (bits : List Bool) (i place : ℕ) (values : List (Option Cell)) → length cs ≤ i → AreMembers p (drop i cs) (drop i bits) place values []
 last_step p cs bits i place values b = rw (drop_all i cs b) refl
 
+-- ---- how many columns are left
+
+none_in : (cs : List Column) → columns_in cs [] ≡ []
+none_in [] = refl
+none_in (c ∷ cs) = refl
+
+pub count_present : (cs : List Column) (bits : List Bool) (i : ℕ) → i < length cs → get_or bits i false ≡ true →
+    length (columns_in (drop i cs) (drop i bits)) ≡ suc (length (columns_in (drop (i + 1) cs) (drop (i + 1) bits)))
+count_present cs bits i b e =
+    let at : drop i cs ≡ get_or cs i no_column ∷ drop (suc i) cs = drop_more cs i no_column b ∙ ap (λ (n : ℕ). get_or cs i no_column ∷ drop n cs) (add-one i) in
+    rw (at, true_at bits i e, add-one i) refl
+
+pub count_absent : (cs : List Column) (bits : List Bool) (i : ℕ) → i < length cs → get_or bits i false ≡ false →
+    length (columns_in (drop i cs) (drop i bits)) ≡ length (columns_in (drop (i + 1) cs) (drop (i + 1) bits))
+count_absent cs bits i b e =
+    let at : drop i cs ≡ get_or cs i no_column ∷ drop (suc i) cs = drop_more cs i no_column b ∙ ap (λ (n : ℕ). get_or cs i no_column ∷ drop n cs) (add-one i) in
+    elim (false_at bits i e) [ inl q ↦ rw (at, q, add-one i) refl | inr q ↦ rw (at, q.0, add-one i, q.1, none_in (drop (suc i) cs)) refl ]
+
+pub count_last : (cs : List Column) (bits : List Bool) (i : ℕ) → length cs ≤ i → length (columns_in (drop i cs) (drop i bits)) ≡ 0
+count_last cs bits i b = rw (drop_all i cs b) refl
+
+-- ---- members
+
 -- a name and then a value
 pub one_member : (a b d : Written) (s name : List ℕ) (j : Json) → s ≡ name → Adds a b (token.key s ∷ []) → Adds b d (json_tokens j) → Adds a d (flat_map named_tokens ((name, j) ∷ []))
 one_member a b d s name j e key value =
@@ -108,3 +132,19 @@ no_diffs_member c (lent.Timestamp t) other = refl
 no_diffs_member c (lent.Decimal d) other = refl
 no_diffs_member c (lent.Json value) other = refl
 no_diffs_member c (lent.Diffs diffs) other = absurd (other diffs refl)
+
+-- whose document can't be faulty
+pub no_diffs_fault : (cell : LentCell) → ((d : List Diff) → cell ≡ lent.Diffs d → ⊥) → HasNone (IsFaultOfCell part.Diffs (Some (lent_cell cell)))
+no_diffs_fault lent.Null other = λ e w. w
+no_diffs_fault (lent.Bytes bytes) other = λ e w. w
+no_diffs_fault (lent.Int number) other = λ e w. w
+no_diffs_fault (lent.UInt number) other = λ e w. w
+no_diffs_fault (lent.Float bits) other = λ e w. w
+no_diffs_fault (lent.Double bits) other = λ e w. w
+no_diffs_fault (lent.Date y m d h i s u) other = λ e w. w
+no_diffs_fault (lent.Time n d h i s u) other = λ e w. w
+no_diffs_fault (lent.Year year) other = λ e w. w
+no_diffs_fault (lent.Timestamp t) other = λ e w. w
+no_diffs_fault (lent.Decimal d) other = λ e w. w
+no_diffs_fault (lent.Json value) other = λ e w. w
+no_diffs_fault (lent.Diffs diffs) other = absurd (other diffs refl)

@@ -10,6 +10,7 @@ pub mod Columns
 pub mod Sets
 pub mod Diffs
 pub mod Faults
+pub mod Years
 pub mod Depths
 pub mod Pairs
 pub mod Lines

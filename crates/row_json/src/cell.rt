@@ -9,7 +9,8 @@ ghost use Rattle.binlog_base.specs.declared.fault.Fault.TheVariants as Fault;
 ghost use Rattle.binlog_decimal.specs.DecimalText.{decimal_text};
 ghost use Rattle.binlog_cells.specs.Cells.{timestamp_text};
 ghost use Rattle.binlog_cells.specs.LentCells.{lent_cell};
-ghost use Rattle.row_json.specs.Faults.{IsFaultOfCell};
+ghost use Rattle.row_json.specs.Faults.{HasNone, IsFaultOfCell};
+ghost use Rattle.row_json.specs.declared.row.Part.TheVariants as part;
 ghost use Rattle.row_json.specs.Rows.{IsCellJson};
 ghost use Rattle.row_json.specs.Values.{IsTimestampJson, IsTimestampOrText, IsBytesJson, IsIntJson, date_by, time_by, IsPlainJson, IsValueJson};
 ghost use Rattle.row_json.specs.Times.{timestamp_in};
@@ -304,7 +305,9 @@ pub(crate) fn write_cell(
 ) -> Result<(), Fault>
     ensures written { OnOk result (Wrote
         (IsCellJson column.now (lent_cell cell.now)) out.old out.new) }
-    ensures err { IfErr result (λ e. e ≢ Fault.Memory → IsFaultOfCell (Some (lent_cell cell.now)) e) }
+    ensures err { IfErr result (λ e. e ≢ Fault.Memory
+        → IsFaultOfCell part.Row (Some (lent_cell cell.now)) e) }
+    ensures sound { OnOk result (HasNone (IsFaultOfCell part.Row (Some (lent_cell cell.now)))) }
 {
     match cell {
         LentCell::Null => Ok(write_value(text, out, column, &Value::NULL)?),

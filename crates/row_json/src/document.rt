@@ -8,7 +8,7 @@ ghost use Rattle.json.specs.Token.{end_array, end_object};
 ghost use Rattle.binlog_base.specs.declared.fault.Fault.TheVariants as Fault;
 ghost use Rattle.binlog_values.specs.JsonbDoms.{number_view, scalar_view, dom_view, items_view, members_view};
 ghost use Rattle.binlog_values.specs.JsonbViews.{view_of};
-ghost use Rattle.row_json.specs.Faults.{IsFaultOf, IsFaultOfValue, IsFaultOfDiffs};
+ghost use Rattle.row_json.specs.Faults.{HasNone, IsFaultOf, IsFaultOfValue, IsFaultOfDiffs};
 ghost use Rattle.row_json.specs.Wrote.{Wrote, Adds, Named, named_tokens, array_end, object_end};
 ghost use Rattle.row_json.specs.Documents.{time_text, IsScalarJson, IsDataJson, AreItems, AreMembers, IsDocumentJson, operation_name, place_tokens, IsDiffValue, IsDiffJson, IsDiffsJson};
 
@@ -140,6 +140,7 @@ pub(crate) fn write_document(
 ) -> Result<(), Fault>
     ensures written { OnOk result (Wrote (IsDocumentJson (view_of document.entry)) out.old out.new) }
     ensures err { IfErr result (λ e. e ≢ Fault.Memory → IsFaultOf (view_of document.entry) e) }
+    ensures sound { OnOk result (HasNone (IsFaultOf (view_of document.entry))) }
 {
     let tree = document.parse(alloc)?;
     Ok(write_tree(text, out, &tree)?)
@@ -154,6 +155,7 @@ fn write_kept_document(
 ) -> Result<(), Fault>
     ensures written { OnOk result (Wrote (IsDocumentJson (view_of document.now)) out.old out.new) }
     ensures err { IfErr result (λ e. e ≢ Fault.Memory → IsFaultOf (view_of document.now) e) }
+    ensures sound { OnOk result (HasNone (IsFaultOf (view_of document.now))) }
 {
     write_document(alloc, text, out, document.clone(alloc)?)
 }
@@ -190,6 +192,7 @@ fn write_diff_value(
     ensures written { OnOk result ((ms : List Named) × IsDiffValue diff.now.value ms
         × Adds out.old out.new (flat_map named_tokens ms)) }
     ensures err { IfErr result (λ e. e ≢ Fault.Memory → IsFaultOfValue diff.now.value e) }
+    ensures sound { OnOk result (HasNone (IsFaultOfValue diff.now.value)) }
 {
     match diff.value() {
         None => Ok(()),
@@ -209,6 +212,7 @@ fn write_diff(
 ) -> Result<(), Fault>
     ensures written { OnOk result (Wrote (IsDiffJson diff.now) out.old out.new) }
     ensures err { IfErr result (λ e. e ≢ Fault.Memory → IsFaultOfValue diff.now.value e) }
+    ensures sound { OnOk result (HasNone (IsFaultOfValue diff.now.value)) }
 {
     out.begin_object()?;
     write_place(alloc, out, diff)?;
@@ -226,6 +230,7 @@ fn write_diffs(
 ) -> Result<(), Fault>
     ensures written { OnOk result (Wrote (IsDiffsJson diffs.now) out.old out.new) }
     ensures err { IfErr result (λ e. e ≢ Fault.Memory → IsFaultOfDiffs diffs.now e) }
+    ensures sound { OnOk result (HasNone (IsFaultOfDiffs diffs.now)) }
 {
     out.begin_array()?;
     for diff in diffs {
@@ -244,6 +249,7 @@ pub(crate) fn write_lent_diffs(
 ) -> Result<(), Fault>
     ensures written { OnOk result (Wrote (IsDiffsJson diffs.now) out.old out.new) }
     ensures err { IfErr result (λ e. e ≢ Fault.Memory → IsFaultOfDiffs diffs.now e) }
+    ensures sound { OnOk result (HasNone (IsFaultOfDiffs diffs.now)) }
 {
     let diffs = diffs.list(alloc)?;
     write_diffs(alloc, text, out, &diffs)

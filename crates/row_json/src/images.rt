@@ -5,7 +5,7 @@ ghost use Rattle.std.specs.Option.{option_map};
 ghost use Rattle.binlog_base.specs.declared.fault.Fault.TheVariants as Fault;
 ghost use Rattle.binlog_base.specs.Values.{value_at};
 ghost use Rattle.mysql_binlog_rows.specs.Images as images;
-ghost use Rattle.row_json.specs.Faults.{IsFaultOfCell};
+ghost use Rattle.row_json.specs.Faults.{HasNone, IsFaultOfCell};
 ghost use Rattle.row_json.specs.Rows.{IsMemberOf, is_diffs};
 ghost use Rattle.row_json.specs.Wrote.{WroteMembers};
 
@@ -44,7 +44,9 @@ pub(crate) trait Row {
         ensures written { OnOk result (WroteMembers
             (IsMemberOf part column.now (value_at (image self.now).values index)) out.old out.new) }
         ensures err { IfErr result (λ e. e ≢ Fault.Memory
-            → IsFaultOfCell (value_at (image self.now).values index) e) };
+            → IsFaultOfCell part (value_at (image self.now).values index) e) }
+        ensures sound { OnOk result
+            (HasNone (IsFaultOfCell part (value_at (image self.now).values index))) };
 }
 
 /// The images of a pair of rows.

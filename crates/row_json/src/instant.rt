@@ -19,12 +19,12 @@ fn push_instant(
     ensures { OnOk result ((time : List ℕ) × IsInstantText decimals seconds microseconds time
         × (string_bytes text.new ≡ string_bytes text.old ++ time)) }
 {
-    // It is there: the last day is in 2106.
+    // They are there: the last day is in 2106, and the first in 1970.
     let Ok(date) = Date::from_unix_epoch_day(i64::from(seconds / 86400)) else {
         unreachable!()
     };
     let Ok(year) = u16::try_from(date.year) else {
-        return Err(AllocError);
+        unreachable!()
     };
     let day = Day {
         year,

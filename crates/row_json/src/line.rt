@@ -3,7 +3,7 @@
 ghost use Rattle.std.specs.Prelude.{◌≡◌, ◌≢◌, ◌++◌, ℕ, List, [], IfErr, OnOk, OnErr, codes};
 ghost use Rattle.binlog_base.specs.declared.fault.Fault.TheVariants as Fault;
 ghost use Rattle.row_json.specs.Rows.{IsLine};
-ghost use Rattle.row_json.specs.Faults.{IsFaultOfPair};
+ghost use Rattle.row_json.specs.Faults.{HasNone, IsFaultOfPair};
 
 use crate::images::Images;
 use crate::members::{Members, NoMembers};
@@ -70,7 +70,9 @@ fn add_line<P: Images, M: Members>(
         × IsLine table.now event.now (M.members members.now) (P.pair pair.now) line
         × (lines.new.items ≡ lines.old.items ++ line)) }
     ensures kept { OnErr result (lines.new.items ≡ lines.old.items) }
-    ensures err { IfErr result (λ e. e ≢ Fault.Memory → IsFaultOfPair (P.pair pair.now) e) }
+    ensures err { IfErr result (λ e. e ≢ Fault.Memory
+        → IsFaultOfPair table.now event.now (P.pair pair.now) e) }
+    ensures sound { OnOk result (HasNone (IsFaultOfPair table.now event.now (P.pair pair.now))) }
 {
     let mut out = room.begin(alloc);
     let written = write_images(alloc, &mut room.text, &mut out, table, event, pair, members);
@@ -86,7 +88,8 @@ fn add_line<P: Images, M: Members>(
 /// `room` is kept from call to call: once it and `lines` have grown, a line takes memory only for
 /// documents of JSON and for diffs.
 ///
-/// The error is the fault of a document of JSON, or `Memory`. Then `lines` holds what it held.
+/// The error is the fault of the first document of JSON that has one, in the order of `write_pair`, or
+/// `Memory`. Then `lines` holds what it held.
 pub fn write_line(
     alloc: Global,
     room: &mut LineRoom,
@@ -99,7 +102,8 @@ pub fn write_line(
         × IsLine table.now event.now [] pair.now line
         × (lines.new.items ≡ lines.old.items ++ line)) }
     ensures kept { OnErr result (lines.new.items ≡ lines.old.items) }
-    ensures err { IfErr result (λ e. e ≢ Fault.Memory → IsFaultOfPair pair.now e) }
+    ensures err { IfErr result (λ e. e ≢ Fault.Memory → IsFaultOfPair table.now event.now pair.now e) }
+    ensures sound { OnOk result (HasNone (IsFaultOfPair table.now event.now pair.now)) }
 {
     write_line_with(alloc, room, lines, table, event, pair, &NoMembers)
 }
@@ -119,7 +123,8 @@ pub fn write_line_with<M: Members>(
         × IsLine table.now event.now (M.members members.now) pair.now line
         × (lines.new.items ≡ lines.old.items ++ line)) }
     ensures kept { OnErr result (lines.new.items ≡ lines.old.items) }
-    ensures err { IfErr result (λ e. e ≢ Fault.Memory → IsFaultOfPair pair.now e) }
+    ensures err { IfErr result (λ e. e ≢ Fault.Memory → IsFaultOfPair table.now event.now pair.now e) }
+    ensures sound { OnOk result (HasNone (IsFaultOfPair table.now event.now pair.now)) }
 {
     add_line(alloc, room, lines, table, event, pair, members)
 }
@@ -127,7 +132,8 @@ pub fn write_line_with<M: Members>(
 /// Adds a pair of rows that own their values to the end of `lines`, as `write_line` adds one whose
 /// cells are lent.
 ///
-/// The error is the fault of a document of JSON, or `Memory`. Then `lines` holds what it held.
+/// The error is the fault of the first document of JSON that has one, in the order of `write_pair`, or
+/// `Memory`. Then `lines` holds what it held.
 pub fn write_owned_line(
     alloc: Global,
     room: &mut LineRoom,
@@ -140,7 +146,8 @@ pub fn write_owned_line(
         × IsLine table.now event.now [] pair.now line
         × (lines.new.items ≡ lines.old.items ++ line)) }
     ensures kept { OnErr result (lines.new.items ≡ lines.old.items) }
-    ensures err { IfErr result (λ e. e ≢ Fault.Memory → IsFaultOfPair pair.now e) }
+    ensures err { IfErr result (λ e. e ≢ Fault.Memory → IsFaultOfPair table.now event.now pair.now e) }
+    ensures sound { OnOk result (HasNone (IsFaultOfPair table.now event.now pair.now)) }
 {
     add_line(alloc, room, lines, table, event, pair, &NoMembers)
 }

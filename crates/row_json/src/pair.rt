@@ -5,7 +5,8 @@ ghost use Rattle.std.specs.List.{list_any};
 ghost use Rattle.std.specs.Option.{option_map};
 ghost use Rattle.binlog_base.specs.declared.fault.Fault.TheVariants as Fault;
 ghost use Rattle.row_json.specs.Rows.{IsImageJson, is_diffs, AreDiffs, present_in, operation_of, IsPairJson};
-ghost use Rattle.row_json.specs.Faults.{IsFaultOfImage, IsFaultOfPair};
+ghost use Rattle.row_json.specs.declared.row.Part.TheVariants as parts;
+ghost use Rattle.row_json.specs.Faults.{HasNone, IsFaultOfImage, IsFaultOfPair};
 ghost use Rattle.row_json.specs.Wrote.{Wrote, WroteMembers};
 
 use crate::images::{Images, Row};
@@ -39,8 +40,10 @@ fn write_image<R: Row>(
 ) -> Result<(), Fault>
     ensures written { OnOk result (Wrote (IsImageJson table.now present.now
         (option_map (λ r. R.image r.now) image.entry)) out.old out.new) }
-    ensures err { IfErr result (λ e. e ≢ Fault.Memory
-        → IsFaultOfImage (option_map (λ r. R.image r.now) image.entry) e) }
+    ensures err { IfErr result (λ e. e ≢ Fault.Memory → IsFaultOfImage parts.Row table.now present.now
+        (option_map (λ r. R.image r.now) image.entry) e) }
+    ensures sound { OnOk result (HasNone (IsFaultOfImage parts.Row table.now present.now
+        (option_map (λ r. R.image r.now) image.entry))) }
 {
     match image {
         None => Ok(out.null()?),
@@ -71,8 +74,10 @@ fn write_diffs_of<R: Row>(
 ) -> Result<(), Fault>
     ensures written { OnOk result (WroteMembers (AreDiffs table.now present.now
         (option_map (λ r. R.image r.now) image.entry)) out.old out.new) }
-    ensures err { IfErr result (λ e. e ≢ Fault.Memory
-        → IsFaultOfImage (option_map (λ r. R.image r.now) image.entry) e) }
+    ensures err { IfErr result (λ e. e ≢ Fault.Memory → IsFaultOfImage parts.Diffs table.now present.now
+        (option_map (λ r. R.image r.now) image.entry) e) }
+    ensures sound { OnOk result (HasNone (IsFaultOfImage parts.Diffs table.now present.now
+        (option_map (λ r. R.image r.now) image.entry))) }
 {
     match image {
         Some(row) if has_diffs_in(row) => {
@@ -106,7 +111,9 @@ pub(crate) fn write_images<P: Images, M: Members>(
 ) -> Result<(), Fault>
     ensures written { OnOk result (Wrote
         (IsPairJson table.now event.now (M.members members.now) (P.pair pair.now)) out.old out.new) }
-    ensures err { IfErr result (λ e. e ≢ Fault.Memory → IsFaultOfPair (P.pair pair.now) e) }
+    ensures err { IfErr result (λ e. e ≢ Fault.Memory
+        → IsFaultOfPair table.now event.now (P.pair pair.now) e) }
+    ensures sound { OnOk result (HasNone (IsFaultOfPair table.now event.now (P.pair pair.now))) }
 {
     let before = present_in(event.columns_before_image());
     let after = present_in(event.columns_after_image());
@@ -133,8 +140,8 @@ pub(crate) fn write_images<P: Images, M: Members>(
 /// `table` is of the table map event that is in force for the event. `text` is room for making texts.
 /// It takes no memory where it is kept from call to call.
 ///
-/// The error is the fault of a document of JSON, or `Memory`. A part of the object may then have been
-/// written.
+/// The error is the fault of the first document of JSON that has one, or `Memory`: in the row before the
+/// change, then in the row after it, then in the diffs. A part of the object may then have been written.
 pub fn write_pair(
     alloc: Global,
     text: &mut String,
@@ -145,15 +152,16 @@ pub fn write_pair(
 ) -> Result<(), Fault>
     ensures written { OnOk result (Wrote
         (IsPairJson table.now event.now [] pair.now) out.old out.new) }
-    ensures err { IfErr result (λ e. e ≢ Fault.Memory → IsFaultOfPair pair.now e) }
+    ensures err { IfErr result (λ e. e ≢ Fault.Memory → IsFaultOfPair table.now event.now pair.now e) }
+    ensures sound { OnOk result (HasNone (IsFaultOfPair table.now event.now pair.now)) }
 {
     write_pair_with(alloc, text, out, table, event, pair, &NoMembers)
 }
 
 /// Writes a pair of rows as `write_pair` does, with members of the caller's between `op` and `before`.
 ///
-/// The error is the fault of a document of JSON, or `Memory`. A part of the object may then have been
-/// written.
+/// The error is the fault of the first document of JSON that has one, or `Memory`: in the row before the
+/// change, then in the row after it, then in the diffs. A part of the object may then have been written.
 pub fn write_pair_with<M: Members>(
     alloc: Global,
     text: &mut String,
@@ -165,7 +173,8 @@ pub fn write_pair_with<M: Members>(
 ) -> Result<(), Fault>
     ensures written { OnOk result (Wrote
         (IsPairJson table.now event.now (M.members members.now) pair.now) out.old out.new) }
-    ensures err { IfErr result (λ e. e ≢ Fault.Memory → IsFaultOfPair pair.now e) }
+    ensures err { IfErr result (λ e. e ≢ Fault.Memory → IsFaultOfPair table.now event.now pair.now e) }
+    ensures sound { OnOk result (HasNone (IsFaultOfPair table.now event.now pair.now)) }
 {
     write_images(alloc, text, out, table, event, pair, members)
 }
@@ -173,8 +182,8 @@ pub fn write_pair_with<M: Members>(
 /// Writes a pair of rows that own their values, as `write_pair` writes one whose cells are lent: the
 /// same pair has the same JSON.
 ///
-/// The error is the fault of a document of JSON, or `Memory`. A part of the object may then have been
-/// written.
+/// The error is the fault of the first document of JSON that has one, or `Memory`: in the row before the
+/// change, then in the row after it, then in the diffs. A part of the object may then have been written.
 pub fn write_owned_pair(
     alloc: Global,
     text: &mut String,
@@ -185,7 +194,8 @@ pub fn write_owned_pair(
 ) -> Result<(), Fault>
     ensures written { OnOk result (Wrote
         (IsPairJson table.now event.now [] pair.now) out.old out.new) }
-    ensures err { IfErr result (λ e. e ≢ Fault.Memory → IsFaultOfPair pair.now e) }
+    ensures err { IfErr result (λ e. e ≢ Fault.Memory → IsFaultOfPair table.now event.now pair.now e) }
+    ensures sound { OnOk result (HasNone (IsFaultOfPair table.now event.now pair.now)) }
 {
     write_images(alloc, text, out, table, event, pair, &NoMembers)
 }

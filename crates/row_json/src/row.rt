@@ -5,7 +5,8 @@ ghost use Rattle.std.specs.Option.{option_map};
 ghost use Rattle.binlog_base.specs.declared.fault.Fault.TheVariants as Fault;
 ghost use Rattle.binlog_cells.specs.LentCells.{lent_cell};
 ghost use Rattle.row_json.specs.Rows.{IsMember, IsDiffsMember, IsMemberOf, AreMembers, IsObjectOf, IsRowJson};
-ghost use Rattle.row_json.specs.Faults.{IsFaultOfCell, IsFaultOfRow};
+ghost use Rattle.row_json.specs.declared.row.Part.TheVariants as parts;
+ghost use Rattle.row_json.specs.Faults.{HasNone, IsFaultOfCell, IsFaultOfPart, IsFaultOfRow};
 ghost use Rattle.row_json.specs.Wrote.{Wrote, WroteMembers};
 
 use crate::cell::write_cell;
@@ -38,7 +39,9 @@ fn write_member_of_value(
 ) -> Result<(), Fault>
     ensures written { OnOk result (WroteMembers
         (IsMember column.now (Some (lent_cell value.now))) out.old out.new) }
-    ensures err { IfErr result (λ e. e ≢ Fault.Memory → IsFaultOfCell (Some (lent_cell value.now)) e) }
+    ensures err { IfErr result (λ e. e ≢ Fault.Memory
+        → IsFaultOfCell parts.Row (Some (lent_cell value.now)) e) }
+    ensures sound { OnOk result (HasNone (IsFaultOfCell parts.Row (Some (lent_cell value.now)))) }
 {
     match value {
         LentCell::Diffs(_) => Ok(()),
@@ -61,7 +64,9 @@ fn write_member(
     ensures written { OnOk result (WroteMembers
         (IsMember column.now (option_map (λ v. lent_cell v.now) cell.entry)) out.old out.new) }
     ensures err { IfErr result (λ e. e ≢ Fault.Memory
-        → IsFaultOfCell (option_map (λ v. lent_cell v.now) cell.entry) e) }
+        → IsFaultOfCell parts.Row (option_map (λ v. lent_cell v.now) cell.entry) e) }
+    ensures sound { OnOk result
+        (HasNone (IsFaultOfCell parts.Row (option_map (λ v. lent_cell v.now) cell.entry))) }
 {
     match cell {
         None => {
@@ -83,7 +88,9 @@ fn write_diffs_of_value(
 ) -> Result<(), Fault>
     ensures written { OnOk result (WroteMembers
         (IsDiffsMember column.now (Some (lent_cell value.now))) out.old out.new) }
-    ensures err { IfErr result (λ e. e ≢ Fault.Memory → IsFaultOfCell (Some (lent_cell value.now)) e) }
+    ensures err { IfErr result (λ e. e ≢ Fault.Memory
+        → IsFaultOfCell parts.Diffs (Some (lent_cell value.now)) e) }
+    ensures sound { OnOk result (HasNone (IsFaultOfCell parts.Diffs (Some (lent_cell value.now)))) }
 {
     match value {
         LentCell::Diffs(diffs) => {
@@ -106,7 +113,9 @@ fn write_diffs_member(
     ensures written { OnOk result (WroteMembers
         (IsDiffsMember column.now (option_map (λ v. lent_cell v.now) cell.entry)) out.old out.new) }
     ensures err { IfErr result (λ e. e ≢ Fault.Memory
-        → IsFaultOfCell (option_map (λ v. lent_cell v.now) cell.entry) e) }
+        → IsFaultOfCell parts.Diffs (option_map (λ v. lent_cell v.now) cell.entry) e) }
+    ensures sound { OnOk result
+        (HasNone (IsFaultOfCell parts.Diffs (option_map (λ v. lent_cell v.now) cell.entry))) }
 {
     match cell {
         None => Ok(()),
@@ -133,7 +142,9 @@ pub(crate) fn write_member_of(
     ensures written { OnOk result (WroteMembers
         (IsMemberOf part column.now (option_map (λ v. lent_cell v.now) cell.entry)) out.old out.new) }
     ensures err { IfErr result (λ e. e ≢ Fault.Memory
-        → IsFaultOfCell (option_map (λ v. lent_cell v.now) cell.entry) e) }
+        → IsFaultOfCell part (option_map (λ v. lent_cell v.now) cell.entry) e) }
+    ensures sound { OnOk result
+        (HasNone (IsFaultOfCell part (option_map (λ v. lent_cell v.now) cell.entry))) }
 {
     match part {
         Part::Row => write_member(alloc, text, out, column, cell),
@@ -153,7 +164,10 @@ fn write_members<R: Row>(
 ) -> Result<(), Fault>
     ensures written { OnOk result (WroteMembers
         (AreMembers part columns.now present.now 0 (R.image row.now).values) out.old out.new) }
-    ensures err { IfErr result (λ e. e ≢ Fault.Memory → IsFaultOfRow (R.image row.now) e) }
+    ensures err { IfErr result (λ e. e ≢ Fault.Memory
+        → IsFaultOfPart part columns.now present.now (R.image row.now) e) }
+    ensures sound { OnOk result
+        (HasNone (IsFaultOfPart part columns.now present.now (R.image row.now))) }
 {
     let mut place = 0;
     for index in 0..columns.len() {
@@ -169,8 +183,8 @@ fn write_members<R: Row>(
 /// Writes a row as an object. `present` has a bit for each column of the rows event, which is set if
 /// the column is in the row's image. `text` is room for making texts.
 ///
-/// The error is the fault of a document of JSON, or `Memory`. A part of the object may then have been
-/// written.
+/// The error is the fault of the first document of JSON that has one, in the order of the columns, or
+/// `Memory`. A part of the object may then have been written.
 pub fn write_row(
     alloc: Global,
     text: &mut String,
@@ -180,7 +194,8 @@ pub fn write_row(
     row: &LentRow<'_>,
 ) -> Result<(), Fault>
     ensures written { OnOk result (Wrote (IsRowJson table.now present.now row.now) out.old out.new) }
-    ensures err { IfErr result (λ e. e ≢ Fault.Memory → IsFaultOfRow row.now e) }
+    ensures err { IfErr result (λ e. e ≢ Fault.Memory → IsFaultOfRow table.now present.now row.now e) }
+    ensures sound { OnOk result (HasNone (IsFaultOfRow table.now present.now row.now)) }
 {
     write_object(alloc, text, out, Part::Row, table, present, row)
 }
@@ -188,8 +203,8 @@ pub fn write_row(
 /// Writes a row that owns its values as an object, as `write_row` writes one whose cells are lent: the
 /// same row has the same JSON. A value that was taken from the row is null.
 ///
-/// The error is the fault of a document of JSON, or `Memory`. A part of the object may then have been
-/// written.
+/// The error is the fault of the first document of JSON that has one, in the order of the columns, or
+/// `Memory`. A part of the object may then have been written.
 pub fn write_owned_row(
     alloc: Global,
     text: &mut String,
@@ -199,7 +214,8 @@ pub fn write_owned_row(
     row: &BinlogRow,
 ) -> Result<(), Fault>
     ensures written { OnOk result (Wrote (IsRowJson table.now present.now row.now) out.old out.new) }
-    ensures err { IfErr result (λ e. e ≢ Fault.Memory → IsFaultOfRow row.now e) }
+    ensures err { IfErr result (λ e. e ≢ Fault.Memory → IsFaultOfRow table.now present.now row.now e) }
+    ensures sound { OnOk result (HasNone (IsFaultOfRow table.now present.now row.now)) }
 {
     write_object(alloc, text, out, Part::Row, table, present, row)
 }
@@ -216,7 +232,10 @@ pub(crate) fn write_object<R: Row>(
 ) -> Result<(), Fault>
     ensures written { OnOk result (Wrote
         (IsObjectOf part table.now present.now (R.image row.now)) out.old out.new) }
-    ensures err { IfErr result (λ e. e ≢ Fault.Memory → IsFaultOfRow (R.image row.now) e) }
+    ensures err { IfErr result (λ e. e ≢ Fault.Memory
+        → IsFaultOfPart part table.now present.now (R.image row.now) e) }
+    ensures sound { OnOk result
+        (HasNone (IsFaultOfPart part table.now present.now (R.image row.now))) }
 {
     out.begin_object()?;
     write_members(alloc, text, out, part, table.columns(), present, row)?;

@@ -1,19 +1,19 @@
 -- Pairs with the same JSON, and lines with the same text, show the same.
-use Rattle.std.proofs.Common.{◌≡◌, ℕ, ◌+◌, Bool, true, false, List, [], ◌∷◌, ◌++◌, length, refl, sym, ap, ◌∙◌, subst, arith, append_assoc, length-append}
-use Rattle.std.specs.Prelude.{Option, Some, None, codes, get_or, slice_get}
+use Rattle.std.proofs.Common.{◌≡◌, ℕ, Bool, true, false, List, [], ◌∷◌, ◌++◌, length, refl, sym, ap, ◌∙◌, subst, arith, append_assoc, length-append}
+use Rattle.std.specs.Prelude.{Option, Some, None, codes, get_or}
 use Rattle.std.specs.Bool.{MatchBool}
 use Rattle.std.specs.List.{list_any}
 use Rattle.std.proofs.lemmas.Bool.{false≢true}
 use Rattle.std.proofs.lemmas.List.{append_cancel_right}
 use Rattle.binlog_base.specs.Values.{value_at}
-use Rattle.binlog_cells.specs.Cells.{Cell, PlainCell, JsonCell, DiffsCell}
+use Rattle.binlog_cells.specs.Cells.{Cell, DiffsCell}
 use Rattle.mysql_binlog_rows.specs.Images.{BinlogRow, Pair}
 use Rattle.mysql_binlog_rows.specs.RowsEvent.{RowsEvent}
 use Rattle.json.specs.Json.{Json, null, string, object, document}
 use Rattle.json.specs.Print.{print}
 use Rattle.json.specs.Tree.{json_tokens}
 use Rattle.row_json.specs.declared.row.Part.TheVariants as part
-use Rattle.row_json.specs.Columns.{Column, columns_in}
+use Rattle.row_json.specs.Columns.{Column}
 use Rattle.row_json.specs.Rows.{IsImageJson, is_diffs, has_diffs, IsDiffsOf, AreDiffs, operation_of, before_in, after_in, IsPairJson, IsLine}
 use Rattle.row_json.specs.Wrote.{Named, members_of}
 use Rattle.row_json.specs.ShownRows.{ShowTheSame, ShowTheSameDiffs, EachCell, EachCellOfImages, AreRowsOfOneTable, AreImagesOfOneTable, ArePairsOfOneTable, PairsShowTheSame}
@@ -38,7 +38,7 @@ not_last a b x y z u d e =
     let left : (a ++ (codes "before", x) ∷ []) ++ (codes "after", y) ∷ [] ≡ a ++ (codes "before", x) ∷ (codes "after", y) ∷ [] = append_assoc a _ _ in
     let right : (b ++ (codes "before", z) ∷ (codes "after", u) ∷ []) ++ (codes "diffs", d) ∷ [] ≡ b ++ (codes "before", z) ∷ (codes "after", u) ∷ (codes "diffs", d) ∷ [] = append_assoc b _ _ in
     let last : (codes "after", y) ∷ [] ≡ (codes "diffs", d) ∷ [] =
-        (same_fronts (a ++ (codes "before", x) ∷ []) (b ++ (codes "before", z) ∷ (codes "after", u) ∷ []) ((codes "after", y) ∷ []) ((codes "diffs", d) ∷ []) refl (left ∙ (e ∙ sym right))).1 in
+    (same_fronts (a ++ (codes "before", x) ∷ []) (b ++ (codes "before", z) ∷ (codes "after", u) ∷ []) ((codes "after", y) ∷ []) ((codes "diffs", d) ∷ []) refl (left ∙ (e ∙ sym right))).1 in
     let name : codes "after" ≡ codes "diffs" = ap (λ (l : List Named). name_of l) last in
     omega (arith, ap length name, ap (λ (l : List ℕ). get_or l 0 0) name)
   where
@@ -86,7 +86,7 @@ record SameObjects (a b : List Named) (o q : List ℕ) (x y z u : Json) (c d : L
 pairs_same : (bs cs : List Column) (d e : RowsEvent) (a b : List Named) (x y : Pair) (j : Json) (p : IsPairJson bs d a x j) (q : IsPairJson cs e b y j) → SameObjects a b (operation_of x) (operation_of y) p.before p.after q.before q.after p.diffs q.diffs
 pairs_same bs cs d e a b x y j p q =
     let all : (codes "op", string (operation_of x)) ∷ (a ++ (codes "before", p.before) ∷ (codes "after", p.after) ∷ p.diffs) ≡ (codes "op", string (operation_of y)) ∷ (b ++ (codes "before", q.before) ∷ (codes "after", q.after) ∷ q.diffs) =
-        objects_same ((codes "op", string (operation_of x)) ∷ (a ++ (codes "before", p.before) ∷ (codes "after", p.after) ∷ p.diffs)) ((codes "op", string (operation_of y)) ∷ (b ++ (codes "before", q.before) ∷ (codes "after", q.after) ∷ q.diffs)) (sym p.is ∙ q.is) in
+    objects_same ((codes "op", string (operation_of x)) ∷ (a ++ (codes "before", p.before) ∷ (codes "after", p.after) ∷ p.diffs)) ((codes "op", string (operation_of y)) ∷ (b ++ (codes "before", q.before) ∷ (codes "after", q.after) ∷ q.diffs)) (sym p.is ∙ q.is) in
     let first : (codes "op", string (operation_of x)) ≡ (codes "op", string (operation_of y)) = cc (all) in
     let op : string (operation_of x) ≡ string (operation_of y) = ap (λ (m : Named). m.1) first in
     let rest : a ++ (codes "before", p.before) ∷ (codes "after", p.after) ∷ p.diffs ≡ b ++ (codes "before", q.before) ∷ (codes "after", q.after) ∷ q.diffs = cc (all) in record {

@@ -1,12 +1,12 @@
 -- Rows with the same JSON show the same of each cell.
 use Rattle.std.proofs.Common.{◌≡◌, ℕ, zero, suc, ◌+◌, Bool, true, false, List, [], ◌∷◌, ◌++◌, refl, sym, ap, ◌∙◌, subst, arith}
-use Rattle.std.specs.Prelude.{Option, Some, None, slice_get}
-use Rattle.binlog_base.specs.Values.{value_at, Null, PlainValue}
+use Rattle.std.specs.Prelude.{Option, Some, slice_get}
+use Rattle.binlog_base.specs.Values.{value_at}
 use Rattle.binlog_cells.specs.Cells.{Cell, PlainCell, JsonCell, DiffsCell}
 use Rattle.mysql_binlog_rows.specs.Images.{BinlogRow}
-use Rattle.json.specs.Json.{Json, object, Members, document}
+use Rattle.json.specs.Json.{Json, object, document}
 use Rattle.json.specs.Print.{print}
-use Rattle.json.specs.Tree.{json_tokens, depth, HasNumbers}
+use Rattle.json.specs.Tree.{json_tokens, HasNumbers}
 use Rattle.json.proofs.Printed.Trees.{document-print}
 use Rattle.row_json.specs.declared.row.Part.{Part}
 use Rattle.row_json.specs.declared.row.Part.TheVariants as part
@@ -15,7 +15,7 @@ use Rattle.row_json.specs.Documents.{IsDocumentJson, IsDiffsJson}
 use Rattle.row_json.specs.Rows.{IsMemberOf, AreMembers, IsObjectOf, IsRowJson}
 use Rattle.row_json.specs.Values.{IsValueJson}
 use Rattle.row_json.specs.Wrote.{Named, members_of}
-use Rattle.row_json.specs.Shown.{shown, AreOfOneColumn}
+use Rattle.row_json.specs.Shown.{shown}
 use Rattle.row_json.specs.ShownRows.{AreCellsOfOneColumn, ShowTheSame, ShowTheSameDiffs, EachCell, AreRowsOfOneTable}
 use Rattle.row_json.proofs.Depths.{object_fits}
 use Rattle.row_json.proofs.Shown.Values.{json_shows}

@@ -17,3 +17,8 @@ returns-in_ok-write_kept_document-in-Some-clause-written c =
       adds_same _ _ (ap (λ (l : List Token). token.key (codes "value") ∷ l) (sym (append-nil (json_tokens w.value))))
           (adds_both (token.key (codes "value") ∷ []) (json_tokens w.value) (record { before = c.key.ensures.room.0; tokens = c.in_ok-key-in-Some.ensures.ok }) w.adds),
     )
+
+pub returns-in_ok-write_kept_document-in-Some-clause-sound : goal.returns-in_ok-write_kept_document-in-Some-clause-sound
+returns-in_ok-write_kept_document-in-Some-clause-sound c =
+    let e : c.args.diff.now.value ≡ Some (view_of c.in-Some.value.now) = search rules in
+    rw e c.in_ok-write_kept_document-in-Some.ensures.sound

@@ -5,6 +5,7 @@ use Rattle.std.specs.String.{string_bytes}
 use Rattle.std.proofs.lemmas.Int.{ints, to_z-of_z}
 use Rattle.std.proofs.lemmas.Grind.{common_steps}
 use Rattle.row_json.proofs.Texts.{with_zone}
+use Rattle.row_json.proofs.Years.{year_of_day, year_fits}
 use Rattle.row_json.proofs.instant.push_instant.Goals as goal
 
 pub returns : goal.returns
@@ -25,3 +26,11 @@ returns c =
       days = subst (λ (z : ℤ). days_from_civil z d.month d.day ≡ pos (a.seconds / 86400)) y day;
       is = refl;
     })
+
+pub unreachable-requires-in_default-try_from : goal.unreachable-requires-in_default-try_from
+unreachable-requires-in_default-try_from c =
+    let d = c.in-Ok.date in
+    let days = c.args.seconds / 86400 in
+    let day : days_from_civil d.year d.month d.day ≡ pos days = c.in-Ok.ensures.value ∙ search rules in
+    let y = year_of_day d.year d.month d.day days (d.year_in, d.month_in, d.day_in) day in
+    c.in_default-try_from.ensures (year_fits d.year y.0 y.1 y.2)

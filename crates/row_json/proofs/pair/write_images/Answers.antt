@@ -1,4 +1,4 @@
-use Rattle.std.proofs.Common.{◌≡◌, ℕ, Bool, List, [], ◌∷◌, ◌++◌, refl, ap, subst, ◌∙◌}
+use Rattle.std.proofs.Common.{◌≡◌, ℕ, Bool, List, [], ◌∷◌, ◌++◌, refl, ap, subst, ◌∙◌, inl, inr}
 use Rattle.std.specs.Prelude.{codes, Option}
 use Rattle.mysql_binlog_rows.specs.Images.{BinlogRow}
 use Rattle.json.specs.Json as json
@@ -8,6 +8,10 @@ use Rattle.row_json.specs.Wrote.{Adds, Named, named_tokens, members_of}
 use Rattle.row_json.specs.Rows.{operation_of, present_in, before_in, after_in, IsImageJson, AreDiffs}
 use Rattle.row_json.proofs.Steps.{adds_members, adds_object}
 use Rattle.row_json.proofs.Columns.{one_member}
+use Rattle.row_json.specs.declared.row.Part.TheVariants as part
+use Rattle.row_json.specs.Faults.{IsFaultOfBoth, IsFaultOfImage}
+use Rattle.row_json.proofs.Faults.{image_fault, image_sound, both_sound}
+use Rattle.std.proofs.lemmas.Result.{err_from_is_err_and}
 use Rattle.row_json.proofs.pair.write_images.Goals as goal
 
 pub returns-clause-written : goal.returns-clause-written
@@ -44,3 +48,49 @@ returns-clause-written g c =
       };
       adds = adds_object ms begun (adds_members ((codes "op", json.string op) ∷ []) _ first (adds_members added _ own both)) ended;
     }
+
+pub returns-clause-sound : goal.returns-clause-sound
+returns-clause-sound g c =
+    let cs = c.args.table.now in
+    let e = c.args.event.now in
+    let pair = g.P.Images.pair c.args.pair.now in
+    let before : c.present_in-before.result ≡ before_in e = c.present_in-before.ensures ∙ ap present_in c.columns_before_image.ensures in
+    let after : c.present_in-after.result ≡ after_in e = c.present_in-after.ensures ∙ ap present_in c.columns_after_image.ensures in
+    let first = image_sound part.Row cs c.present_in-before.result (before_in e) _ pair.0 before c.before-2.ensures c.in_ok-write_image.ensures.sound in
+    let second = image_sound part.Row cs c.present_in-after.result (after_in e) _ pair.1 after c.after.ensures c.in_ok-write_image-2.ensures.sound in
+    let third = image_sound part.Diffs cs c.present_in-after.result (after_in e) _ pair.1 after c.after-2.ensures c.in_ok-write_diffs_of.ensures.sound in
+    both_sound (IsFaultOfImage part.Row cs (before_in e) pair.0) (IsFaultOfBoth (IsFaultOfImage part.Row cs (after_in e) pair.1) (IsFaultOfImage part.Diffs cs (after_in e) pair.1)) first
+    (both_sound (IsFaultOfImage part.Row cs (after_in e) pair.1) (IsFaultOfImage part.Diffs cs (after_in e) pair.1) second third)
+
+pub returns-in_err-write_image-clause-err : goal.returns-in_err-write_image-clause-err
+returns-in_err-write_image-clause-err g c =
+    let pair = g.P.Images.pair c.args.pair.now in
+    let f = c.in_err-write_image.field-0.0 in
+    let before : c.present_in-before.result ≡ before_in c.args.event.now = c.present_in-before.ensures ∙ ap present_in c.columns_before_image.ensures in
+    let p = err_from_is_err_and c.from_residual-in_err-write_image.result c.from_residual-in_err-write_image.ensures.1 in
+    rw (p.1, p.2) (λ other. inl (image_fault part.Row c.args.table.now c.present_in-before.result (before_in c.args.event.now) _ pair.0 f before c.before-2.ensures (c.in_err-write_image.ensures.err other)))
+
+pub returns-in_err-write_image-2-clause-err : goal.returns-in_err-write_image-2-clause-err
+returns-in_err-write_image-2-clause-err g c =
+    let cs = c.args.table.now in
+    let e = c.args.event.now in
+    let pair = g.P.Images.pair c.args.pair.now in
+    let f = c.in_err-write_image-2.field-0.0 in
+    let before : c.present_in-before.result ≡ before_in e = c.present_in-before.ensures ∙ ap present_in c.columns_before_image.ensures in
+    let after : c.present_in-after.result ≡ after_in e = c.present_in-after.ensures ∙ ap present_in c.columns_after_image.ensures in
+    let first = image_sound part.Row cs c.present_in-before.result (before_in e) _ pair.0 before c.before-2.ensures c.in_ok-write_image.ensures.sound in
+    let p = err_from_is_err_and c.from_residual-in_err-write_image-2.result c.from_residual-in_err-write_image-2.ensures.1 in
+    rw (p.1, p.2) (λ other. inr (first, inl (image_fault part.Row cs c.present_in-after.result (after_in e) _ pair.1 f after c.after.ensures (c.in_err-write_image-2.ensures.err other))))
+
+pub returns-in_err-write_diffs_of-clause-err : goal.returns-in_err-write_diffs_of-clause-err
+returns-in_err-write_diffs_of-clause-err g c =
+    let cs = c.args.table.now in
+    let e = c.args.event.now in
+    let pair = g.P.Images.pair c.args.pair.now in
+    let f = c.in_err-write_diffs_of.field-0.0 in
+    let before : c.present_in-before.result ≡ before_in e = c.present_in-before.ensures ∙ ap present_in c.columns_before_image.ensures in
+    let after : c.present_in-after.result ≡ after_in e = c.present_in-after.ensures ∙ ap present_in c.columns_after_image.ensures in
+    let first = image_sound part.Row cs c.present_in-before.result (before_in e) _ pair.0 before c.before-2.ensures c.in_ok-write_image.ensures.sound in
+    let second = image_sound part.Row cs c.present_in-after.result (after_in e) _ pair.1 after c.after.ensures c.in_ok-write_image-2.ensures.sound in
+    let p = err_from_is_err_and c.from_residual-in_err-write_diffs_of.result c.from_residual-in_err-write_diffs_of.ensures.1 in
+    rw (p.1, p.2) (λ other. inr (first, inr (second, image_fault part.Diffs cs c.present_in-after.result (after_in e) _ pair.1 f after c.after-2.ensures (c.in_err-write_diffs_of.ensures.err other))))

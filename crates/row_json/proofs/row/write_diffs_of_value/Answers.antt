@@ -2,7 +2,7 @@ use Rattle.std.proofs.Common.{[], ◌∷◌, refl}
 use Rattle.json.specs.Token as token
 use Rattle.row_json.specs.Wrote.{Adds}
 use Rattle.row_json.proofs.Steps.{adds_nothing}
-use Rattle.row_json.proofs.Columns.{one_member, no_diffs_member}
+use Rattle.row_json.proofs.Columns.{one_member, no_diffs_member, no_diffs_fault}
 use Rattle.row_json.proofs.row.write_diffs_of_value.Goals as goal
 
 pub returns-in_ok-write_lent_diffs-in-Diffs-clause-written : goal.returns-in_ok-write_lent_diffs-in-Diffs-clause-written
@@ -14,3 +14,6 @@ returns-in_ok-write_lent_diffs-in-Diffs-clause-written c =
 
 pub returns-in_default-clause-written : goal.returns-in_default-clause-written
 returns-in_default-clause-written c = ([], no_diffs_member c.args.column.now c.args.value.now c.in_default.not-Diffs, adds_nothing c.args.out.now)
+
+pub returns-in_default-clause-sound : goal.returns-in_default-clause-sound
+returns-in_default-clause-sound c = no_diffs_fault c.args.value.now c.in_default.not-Diffs

@@ -8,7 +8,7 @@ use Rattle.json.specs.Token as token
 use Rattle.json.specs.Json.{Json, array, object}
 use Rattle.json.specs.Tree.{json_tokens, items_tokens, members_tokens}
 use Rattle.json.specs.Written.{Written, Writes}
-use Rattle.row_json.specs.Wrote.{Adds, Wrote, Named, named_tokens, items_of, members_of, array_end, object_end}
+use Rattle.row_json.specs.Wrote.{Adds, AddsSome, Wrote, Named, named_tokens, items_of, members_of, array_end, object_end}
 
 -- two writes, one after the other
 pub adds_both : {a b c : Written} (ts us : List Token) → Adds a b ts → Adds b c us → Adds a c (ts ++ us)
@@ -83,3 +83,25 @@ wrote_object (Ok _) a b d Is P begun is w = record {
   adds = adds_same _ _ (ap (λ l. token.begin_object ∷ l) (sym (members_end w.0))) (adds_both _ _ begun w.2);
 }
 wrote_object (Err _) a b d Is P begun is w = tt
+
+-- ---- what stays
+
+pub some_none : (a : Written) → AddsSome a a
+some_none a = record { added = []; adds = adds_nothing a }
+
+pub some_more : {a b c : Written} → AddsSome b c → AddsSome a b → AddsSome a c
+some_more x y = record { added = y.added ++ x.added; adds = adds_both y.added x.added y.adds x.adds }
+
+-- a call that writes one token
+pub some_token : {E : Type 0} {a b c : Written} (r : Result (Unit {0}) E) (t : Token) → Writes r b c t → AddsSome a b → AddsSome a c
+some_token (Ok _) t w x = some_more (record { added = t ∷ []; adds = record { before = w.room.0; tokens = w.ok } }) x
+some_token {b = b} (Err _) t w x = some_more (record { added = []; adds = record { before = w.room.0; tokens = w.err ∙ sym (append-nil b.tokens) } }) x
+
+-- what is known to have been written
+pub some_adds : {a b : Written} (ts : List Token) → Adds a b ts → AddsSome a b
+some_adds ts x = record { added = ts; adds = x }
+
+pub some_wrote : {a b : Written} (Is : Json → Type 0) → Wrote Is a b → AddsSome a b
+some_wrote Is w = record { added = json_tokens w.value; adds = w.adds }
+
+pub ruleset stays = (some_none, some_more, some_token, some_adds)

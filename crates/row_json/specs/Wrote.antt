@@ -12,6 +12,11 @@ pub record Adds (old new : Written) (ts : List Token) : Type 0 where
   pub before : new.before ≡ old.before
   pub tokens : new.tokens ≡ old.tokens ++ ts
 
+-- what was written before stays, and some tokens may have been written after it
+pub record AddsSome (old new : Written) : Type 0 where
+  pub added : List Token
+  pub adds : Adds old new added
+
 -- one value of JSON was written, and it is so
 pub record Wrote (Is : Json → Type 0) (old new : Written) : Type 0 where
   pub value : Json

@@ -14,7 +14,7 @@ ghost use Rattle.row_json.specs.declared.row.Part.TheVariants as part;
 ghost use Rattle.row_json.specs.Rows.{IsCellJson};
 ghost use Rattle.row_json.specs.Values.{IsTimestampJson, IsTimestampOrText, IsBytesJson, IsIntJson, date_by, time_by, IsPlainJson, IsValueJson};
 ghost use Rattle.row_json.specs.Times.{timestamp_in};
-ghost use Rattle.row_json.specs.Wrote.{Wrote, Adds};
+ghost use Rattle.row_json.specs.Wrote.{Wrote, Adds, AddsSome};
 
 use crate::charset::Charset;
 use crate::document::write_document;
@@ -35,6 +35,7 @@ use mysql_binlog_rows::value::{
 use std::alloc::{AllocError, Global};
 
 // Writes a timestamp.
+#[tactic(auto, using(crate::proofs::Steps::stays))]
 fn write_timestamp(
     text: &mut String,
     out: &mut Writer,
@@ -42,7 +43,8 @@ fn write_timestamp(
     seconds: u32,
     microseconds: u32,
 ) -> Result<(), AllocError>
-    ensures { OnOk result (Wrote (IsTimestampJson decimals seconds microseconds) out.old out.new) }
+    ensures written { OnOk result (Wrote (IsTimestampJson decimals seconds microseconds) out.old out.new) }
+    ensures stays { AddsSome out.old out.new }
 {
     text.clear();
     push_timestamp(text, decimals, seconds, microseconds)?;
@@ -50,14 +52,16 @@ fn write_timestamp(
 }
 
 // Writes a timestamp, given by its text.
+#[tactic(auto, using(crate::proofs::Steps::stays))]
 fn write_timestamp_text(
     text: &mut String,
     out: &mut Writer,
     decimals: u8,
     bytes: &[u8],
 ) -> Result<(), AllocError>
-    ensures { OnOk result (Wrote
+    ensures written { OnOk result (Wrote
         (IsTimestampOrText decimals bytes.now (timestamp_in bytes.now)) out.old out.new) }
+    ensures stays { AddsSome out.old out.new }
 {
     match timestamp_in(bytes) {
         Some((seconds, microseconds)) => write_timestamp(
@@ -72,13 +76,15 @@ fn write_timestamp_text(
 }
 
 // Writes bytes by the kind of their column.
+#[tactic(auto, using(crate::proofs::Steps::stays))]
 fn write_bytes(
     text: &mut String,
     out: &mut Writer,
     column: &ColumnJson,
     bytes: &[u8],
 ) -> Result<(), AllocError>
-    ensures { OnOk result (Wrote (IsBytesJson column.now column.now.kind bytes.now) out.old out.new) }
+    ensures written { OnOk result (Wrote (IsBytesJson column.now column.now.kind bytes.now) out.old out.new) }
+    ensures stays { AddsSome out.old out.new }
 {
     match column.kind() {
         Kind::Text(charset) => write_text(text, out, charset, bytes),
@@ -92,13 +98,15 @@ fn write_bytes(
 
 // Writes a signed number by the kind of its column. The numbers of timestamps and of ENUM values have
 // no sign.
+#[tactic(auto, using(crate::proofs::Steps::stays))]
 fn write_int(
     text: &mut String,
     out: &mut Writer,
     column: &ColumnJson,
     number: i64,
 ) -> Result<(), AllocError>
-    ensures { OnOk result (Wrote (IsIntJson column.now column.now.kind number) out.old out.new) }
+    ensures written { OnOk result (Wrote (IsIntJson column.now column.now.kind number) out.old out.new) }
+    ensures stays { AddsSome out.old out.new }
 {
     match column.kind() {
         Kind::Timestamp(decimals) => {
@@ -124,6 +132,7 @@ fn push_date_of(text: &mut String, kind: Kind, date: Day, clock: Clock) -> Resul
 }
 
 // Writes a date by the kind of its column.
+#[tactic(auto, using(crate::proofs::Steps::stays))]
 fn write_date(
     text: &mut String,
     out: &mut Writer,
@@ -131,8 +140,9 @@ fn write_date(
     date: Day,
     clock: Clock,
 ) -> Result<(), AllocError>
-    ensures { OnOk result (Adds out.old out.new (json_tokens (string (date_by kind date.year
+    ensures written { OnOk result (Adds out.old out.new (json_tokens (string (date_by kind date.year
         date.month date.day clock.hours clock.minutes clock.seconds clock.microseconds)))) }
+    ensures stays { AddsSome out.old out.new }
 {
     let mut room = [0; 19];
     if let Some(short) = short_date(kind, date, clock, &mut room) {
@@ -160,6 +170,7 @@ fn push_time_of(
 }
 
 // Writes a time by the kind of its column.
+#[tactic(auto, using(crate::proofs::Steps::stays))]
 fn write_time(
     text: &mut String,
     out: &mut Writer,
@@ -167,8 +178,9 @@ fn write_time(
     is_negative: bool,
     clock: Clock,
 ) -> Result<(), AllocError>
-    ensures { OnOk result (Adds out.old out.new (json_tokens (string (time_by kind is_negative
+    ensures written { OnOk result (Adds out.old out.new (json_tokens (string (time_by kind is_negative
         clock.hours clock.minutes clock.seconds clock.microseconds)))) }
+    ensures stays { AddsSome out.old out.new }
 {
     text.clear();
     push_time_of(text, kind, is_negative, clock)?;
@@ -177,13 +189,15 @@ fn write_time(
 
 // Writes a value; a TIME of the old format has its sign.
 #[inline(always)]
+#[tactic(auto, using(crate::proofs::Steps::stays))]
 fn write_plain(
     text: &mut String,
     out: &mut Writer,
     column: &ColumnJson,
     value: &Value,
 ) -> Result<(), AllocError>
-    ensures { OnOk result (Wrote (IsPlainJson column.now (plain_of value.now)) out.old out.new) }
+    ensures written { OnOk result (Wrote (IsPlainJson column.now (plain_of value.now)) out.old out.new) }
+    ensures stays { AddsSome out.old out.new }
 {
     match value {
         Value::NULL => out.null(),
@@ -220,13 +234,15 @@ fn write_plain(
 
 // Writes the value of a column.
 #[inline(always)]
+#[tactic(auto, using(crate::proofs::Steps::stays))]
 fn write_value(
     text: &mut String,
     out: &mut Writer,
     column: &ColumnJson,
     value: &Value,
 ) -> Result<(), AllocError>
-    ensures { OnOk result (Wrote (IsValueJson column.now (plain_of value.now)) out.old out.new) }
+    ensures written { OnOk result (Wrote (IsValueJson column.now (plain_of value.now)) out.old out.new) }
+    ensures stays { AddsSome out.old out.new }
 {
     match column.kind() {
         Kind::OldTime => match signed_old_time(ColumnType::MYSQL_TYPE_TIME, value) {
@@ -238,13 +254,15 @@ fn write_value(
 }
 
 // Writes bytes by the kind of their column.
+#[tactic(auto, using(crate::proofs::Steps::stays))]
 fn write_lent_bytes(
     text: &mut String,
     out: &mut Writer,
     column: &ColumnJson,
     bytes: &[u8],
 ) -> Result<(), AllocError>
-    ensures { OnOk result (Wrote (IsValueJson column.now (Bytes bytes.now)) out.old out.new) }
+    ensures written { OnOk result (Wrote (IsValueJson column.now (Bytes bytes.now)) out.old out.new) }
+    ensures stays { AddsSome out.old out.new }
 {
     write_bytes(text, out, column, bytes)
 }
@@ -252,13 +270,15 @@ fn write_lent_bytes(
 // Writes a year by the kind of its column. Not inlined, as those below, so that other cells need no
 // room for its text.
 #[inline(never)]
+#[tactic(auto, using(crate::proofs::Steps::stays))]
 fn write_lent_year(
     text: &mut String,
     out: &mut Writer,
     column: &ColumnJson,
     year: Year,
 ) -> Result<(), AllocError>
-    ensures { OnOk result (Wrote (IsValueJson column.now (Bytes (decimal year.0))) out.old out.new) }
+    ensures written { OnOk result (Wrote (IsValueJson column.now (Bytes (decimal year.0))) out.old out.new) }
+    ensures stays { AddsSome out.old out.new }
 {
     let mut room = [0; MAX_YEAR_TEXT];
     write_lent_bytes(text, out, column, year.text_in(&mut room).as_bytes())
@@ -266,15 +286,17 @@ fn write_lent_year(
 
 // Writes a timestamp by the kind of its column.
 #[inline(never)]
+#[tactic(auto, using(crate::proofs::Steps::stays))]
 fn write_lent_timestamp(
     text: &mut String,
     out: &mut Writer,
     column: &ColumnJson,
     timestamp: Timestamp,
 ) -> Result<(), AllocError>
-    ensures { OnOk result (Wrote
+    ensures written { OnOk result (Wrote
         (IsValueJson column.now (Bytes (timestamp_text (timestamp.seconds, timestamp.microseconds))))
         out.old out.new) }
+    ensures stays { AddsSome out.old out.new }
 {
     let mut room = [0; MAX_TIMESTAMP_TEXT];
     write_lent_bytes(text, out, column, timestamp.text_in(&mut room).as_bytes())
@@ -282,20 +304,23 @@ fn write_lent_timestamp(
 
 // Writes a decimal by the kind of its column.
 #[inline(never)]
+#[tactic(auto, using(crate::proofs::Steps::stays))]
 fn write_decimal(
     text: &mut String,
     out: &mut Writer,
     column: &ColumnJson,
     decimal: &PackedDecimal<'_>,
 ) -> Result<(), AllocError>
-    ensures { OnOk result (Wrote
+    ensures written { OnOk result (Wrote
         (IsValueJson column.now (Bytes (decimal_text decimal.now))) out.old out.new) }
+    ensures stays { AddsSome out.old out.new }
 {
     let mut room = [0; MAX_TEXT];
     write_lent_bytes(text, out, column, decimal.text_in(&mut room).as_bytes())
 }
 
 /// Writes a cell of a column; null for diffs. `text` is room for making texts.
+#[tactic(auto, using(crate::proofs::Steps::stays))]
 pub(crate) fn write_cell(
     alloc: Global,
     text: &mut String,
@@ -308,6 +333,7 @@ pub(crate) fn write_cell(
     ensures err { IfErr result (λ e. e ≢ Fault.Memory
         → IsFaultOfCell part.Row (Some (lent_cell cell.now)) e) }
     ensures sound { OnOk result (HasNone (IsFaultOfCell part.Row (Some (lent_cell cell.now)))) }
+    ensures stays { AddsSome out.old out.new }
 {
     match cell {
         LentCell::Null => Ok(write_value(text, out, column, &Value::NULL)?),

@@ -9,7 +9,7 @@ ghost use Rattle.binlog_base.specs.declared.fault.Fault.TheVariants as Fault;
 ghost use Rattle.binlog_values.specs.JsonbDoms.{number_view, scalar_view, dom_view, items_view, members_view};
 ghost use Rattle.binlog_values.specs.JsonbViews.{view_of};
 ghost use Rattle.row_json.specs.Faults.{HasNone, IsFaultOf, IsFaultOfValue, IsFaultOfDiffs};
-ghost use Rattle.row_json.specs.Wrote.{Wrote, Adds, Named, named_tokens, array_end, object_end};
+ghost use Rattle.row_json.specs.Wrote.{Wrote, Adds, Named, named_tokens, array_end, object_end, AddsSome};
 ghost use Rattle.row_json.specs.Documents.{time_text, IsScalarJson, IsDataJson, AreItems, AreMembers, IsDocumentJson, operation_name, place_tokens, IsDiffValue, IsDiffJson, IsDiffsJson};
 
 use crate::float::write_double;
@@ -24,8 +24,10 @@ use std::alloc::{AllocError, Global};
 use std::collections::BTreeMap;
 use std::fmt::Write;
 
+#[tactic(auto, using(crate::proofs::Steps::stays))]
 fn write_number(text: &mut String, out: &mut Writer, number: &JsonNumber) -> Result<(), AllocError>
-    ensures { OnOk result (Wrote (IsScalarJson (number_view number.now)) out.old out.new) }
+    ensures written { OnOk result (Wrote (IsScalarJson (number_view number.now)) out.old out.new) }
+    ensures stays { AddsSome out.old out.new }
 {
     match number {
         JsonNumber::Decimal(decimal) => {
@@ -52,8 +54,10 @@ fn push_time(text: &mut String, time: &MysqlTime) -> Result<(), AllocError>
     }
 }
 
+#[tactic(auto, using(crate::proofs::Steps::stays))]
 fn write_scalar(text: &mut String, out: &mut Writer, scalar: &JsonScalar) -> Result<(), AllocError>
-    ensures { OnOk result (Wrote (IsScalarJson (scalar_view scalar.now)) out.old out.new) }
+    ensures written { OnOk result (Wrote (IsScalarJson (scalar_view scalar.now)) out.old out.new) }
+    ensures stays { AddsSome out.old out.new }
 {
     match scalar {
         JsonScalar::Null => out.null(),
@@ -74,8 +78,10 @@ fn write_scalar(text: &mut String, out: &mut Writer, scalar: &JsonScalar) -> Res
 }
 
 #[cycle(write_tree)]
+#[tactic(auto, using(crate::proofs::Steps::stays))]
 fn write_tree(text: &mut String, out: &mut Writer, tree: &JsonDom) -> Result<(), AllocError>
-    ensures { OnOk result (Wrote (IsDataJson (dom_view tree.now)) out.old out.new) }
+    ensures written { OnOk result (Wrote (IsDataJson (dom_view tree.now)) out.old out.new) }
+    ensures stays { AddsSome out.old out.new }
 {
     match tree {
         JsonDom::Scalar(scalar) => write_scalar(text, out, scalar),
@@ -84,13 +90,15 @@ fn write_tree(text: &mut String, out: &mut Writer, tree: &JsonDom) -> Result<(),
 }
 
 #[cycle(write_tree)]
+#[tactic(auto, using(crate::proofs::Steps::stays))]
 fn write_container(
     text: &mut String,
     out: &mut Writer,
     container: &JsonContainer,
 ) -> Result<(), AllocError>
-    ensures { OnOk result (Wrote
+    ensures written { OnOk result (Wrote
         (IsDataJson (dom_view (JsonDom.Container container.now))) out.old out.new) }
+    ensures stays { AddsSome out.old out.new }
 {
     match container {
         JsonContainer::Array(items) => {
@@ -105,9 +113,11 @@ fn write_container(
 }
 
 #[cycle(write_tree)]
+#[tactic(auto, using(crate::proofs::Steps::stays))]
 fn write_items(text: &mut String, out: &mut Writer, items: &Vec<JsonDom>) -> Result<(), AllocError>
-    ensures { OnOk result ((js : List Json) × AreItems (items_view items.now.items) js
+    ensures written { OnOk result ((js : List Json) × AreItems (items_view items.now.items) js
         × Adds out.old out.new (array_end js)) }
+    ensures stays { AddsSome out.old out.new }
 {
     for item in items {
         write_tree(text, out, item)?;
@@ -116,13 +126,15 @@ fn write_items(text: &mut String, out: &mut Writer, items: &Vec<JsonDom>) -> Res
 }
 
 #[cycle(write_tree)]
+#[tactic(auto, using(crate::proofs::Steps::stays))]
 fn write_members(
     text: &mut String,
     out: &mut Writer,
     members: &BTreeMap<String, JsonDom>,
 ) -> Result<(), AllocError>
-    ensures { OnOk result ((js : List Named) × AreMembers (members_view members.now.entries) js
+    ensures written { OnOk result ((js : List Named) × AreMembers (members_view members.now.entries) js
         × Adds out.old out.new (object_end js)) }
+    ensures stays { AddsSome out.old out.new }
 {
     for (key, member) in members.iter() {
         out.key(key.as_str())?;
@@ -132,6 +144,7 @@ fn write_members(
 }
 
 /// Writes a document by its tree.
+#[tactic(auto, using(crate::proofs::Steps::stays))]
 pub(crate) fn write_document(
     alloc: Global,
     text: &mut String,
@@ -141,12 +154,14 @@ pub(crate) fn write_document(
     ensures written { OnOk result (Wrote (IsDocumentJson (view_of document.entry)) out.old out.new) }
     ensures err { IfErr result (λ e. e ≢ Fault.Memory → IsFaultOf (view_of document.entry) e) }
     ensures sound { OnOk result (HasNone (IsFaultOf (view_of document.entry))) }
+    ensures stays { AddsSome out.old out.new }
 {
     let tree = document.parse(alloc)?;
     Ok(write_tree(text, out, &tree)?)
 }
 
 // Writes a document that is kept.
+#[tactic(auto, using(crate::proofs::Steps::stays))]
 fn write_kept_document(
     alloc: Global,
     text: &mut String,
@@ -156,6 +171,7 @@ fn write_kept_document(
     ensures written { OnOk result (Wrote (IsDocumentJson (view_of document.now)) out.old out.new) }
     ensures err { IfErr result (λ e. e ≢ Fault.Memory → IsFaultOf (view_of document.now) e) }
     ensures sound { OnOk result (HasNone (IsFaultOf (view_of document.now))) }
+    ensures stays { AddsSome out.old out.new }
 {
     write_document(alloc, text, out, document.clone(alloc)?)
 }
@@ -171,8 +187,10 @@ fn operation_name(operation: JsonDiffOperation) -> &'static str
 }
 
 // Writes the members `op` and `path`.
+#[tactic(auto, using(crate::proofs::Steps::stays))]
 fn write_place(alloc: Global, out: &mut Writer, diff: &JsonDiff<'_>) -> Result<(), AllocError>
-    ensures { OnOk result (Adds out.old out.new (place_tokens diff.now)) }
+    ensures written { OnOk result (Adds out.old out.new (place_tokens diff.now)) }
+    ensures stays { AddsSome out.old out.new }
 {
     out.key("op")?;
     out.string(operation_name(diff.operation()))?;
@@ -183,6 +201,7 @@ fn write_place(alloc: Global, out: &mut Writer, diff: &JsonDiff<'_>) -> Result<(
 }
 
 // Writes the member `value`, if there is a value.
+#[tactic(auto, using(crate::proofs::Steps::stays))]
 fn write_diff_value(
     alloc: Global,
     text: &mut String,
@@ -193,6 +212,7 @@ fn write_diff_value(
         × Adds out.old out.new (flat_map named_tokens ms)) }
     ensures err { IfErr result (λ e. e ≢ Fault.Memory → IsFaultOfValue diff.now.value e) }
     ensures sound { OnOk result (HasNone (IsFaultOfValue diff.now.value)) }
+    ensures stays { AddsSome out.old out.new }
 {
     match diff.value() {
         None => Ok(()),
@@ -204,6 +224,7 @@ fn write_diff_value(
     }
 }
 
+#[tactic(auto, using(crate::proofs::Steps::stays))]
 fn write_diff(
     alloc: Global,
     text: &mut String,
@@ -213,6 +234,7 @@ fn write_diff(
     ensures written { OnOk result (Wrote (IsDiffJson diff.now) out.old out.new) }
     ensures err { IfErr result (λ e. e ≢ Fault.Memory → IsFaultOfValue diff.now.value e) }
     ensures sound { OnOk result (HasNone (IsFaultOfValue diff.now.value)) }
+    ensures stays { AddsSome out.old out.new }
 {
     out.begin_object()?;
     write_place(alloc, out, diff)?;
@@ -222,6 +244,7 @@ fn write_diff(
 }
 
 // Writes the diffs of a document as an array.
+#[tactic(auto, using(crate::proofs::Steps::stays))]
 fn write_diffs(
     alloc: Global,
     text: &mut String,
@@ -231,6 +254,7 @@ fn write_diffs(
     ensures written { OnOk result (Wrote (IsDiffsJson diffs.now) out.old out.new) }
     ensures err { IfErr result (λ e. e ≢ Fault.Memory → IsFaultOfDiffs diffs.now e) }
     ensures sound { OnOk result (HasNone (IsFaultOfDiffs diffs.now)) }
+    ensures stays { AddsSome out.old out.new }
 {
     out.begin_array()?;
     for diff in diffs {
@@ -241,6 +265,7 @@ fn write_diffs(
 }
 
 /// Writes the diffs of a document as an array.
+#[tactic(auto, using(crate::proofs::Steps::stays))]
 pub(crate) fn write_lent_diffs(
     alloc: Global,
     text: &mut String,
@@ -250,6 +275,7 @@ pub(crate) fn write_lent_diffs(
     ensures written { OnOk result (Wrote (IsDiffsJson diffs.now) out.old out.new) }
     ensures err { IfErr result (λ e. e ≢ Fault.Memory → IsFaultOfDiffs diffs.now e) }
     ensures sound { OnOk result (HasNone (IsFaultOfDiffs diffs.now)) }
+    ensures stays { AddsSome out.old out.new }
 {
     let diffs = diffs.list(alloc)?;
     write_diffs(alloc, text, out, &diffs)

@@ -7,7 +7,7 @@ ghost use Rattle.binlog_base.specs.Values.{value_at};
 ghost use Rattle.mysql_binlog_rows.specs.Images as images;
 ghost use Rattle.row_json.specs.Faults.{HasNone, IsFaultOfCell};
 ghost use Rattle.row_json.specs.Rows.{IsMemberOf, is_diffs};
-ghost use Rattle.row_json.specs.Wrote.{WroteMembers};
+ghost use Rattle.row_json.specs.Wrote.{AddsSome, WroteMembers};
 
 use crate::row::{Part, write_member_of};
 use crate::table::ColumnJson;
@@ -46,7 +46,8 @@ pub(crate) trait Row {
         ensures err { IfErr result (λ e. e ≢ Fault.Memory
             → IsFaultOfCell part (value_at (image self.now).values index) e) }
         ensures sound { OnOk result
-            (HasNone (IsFaultOfCell part (value_at (image self.now).values index))) };
+            (HasNone (IsFaultOfCell part (value_at (image self.now).values index))) }
+        ensures stays { AddsSome out.old out.new };
 }
 
 /// The images of a pair of rows.

@@ -6,7 +6,7 @@ ghost use Rattle.std.specs.String.{string_bytes};
 ghost use Rattle.byteorder.specs.Endian.{big_number};
 ghost use Rattle.json.specs.Tree.{json_tokens};
 ghost use Rattle.row_json.specs.Values.{number_json, name_of, enum_json, set_json, set_names, set_of_bits, HasNames};
-ghost use Rattle.row_json.specs.Wrote.{Adds};
+ghost use Rattle.row_json.specs.Wrote.{Adds, AddsSome};
 
 use crate::text::write_base64;
 use byteorder::{BigEndian, ByteOrder, LittleEndian};
@@ -14,13 +14,15 @@ use json::Writer;
 use std::alloc::AllocError;
 
 /// Writes a BIT as a number; in base64 if it has more than 64 bits, which no server's has.
+#[tactic(auto, using(crate::proofs::Steps::stays))]
 pub(crate) fn write_bits(
     text: &mut String,
     out: &mut Writer,
     bytes: &[u8],
 ) -> Result<(), AllocError>
-    ensures { OnOk result (Adds out.old out.new
+    ensures written { OnOk result (Adds out.old out.new
         (json_tokens (number_json (λ b. big_number (length b) b) bytes.now))) }
+    ensures stays { AddsSome out.old out.new }
 {
     match bytes.len() {
         0 => out.u64(0),
@@ -42,13 +44,15 @@ fn name_of(names: &[Option<String>], number: u64) -> Option<&str>
 }
 
 /// Writes a value of an ENUM: its name, `""` for 0, or else its number.
+#[tactic(auto, using(crate::proofs::Steps::stays))]
 pub(crate) fn write_enum(
     out: &mut Writer,
     names: &[Option<String>],
     number: u64,
 ) -> Result<(), AllocError>
-    ensures { OnOk result (Adds out.old out.new
+    ensures written { OnOk result (Adds out.old out.new
         (json_tokens (enum_json (map (option_map string_bytes) names.now) number))) }
+    ensures stays { AddsSome out.old out.new }
 {
     if number == 0 {
         return out.string("");
@@ -95,14 +99,16 @@ fn push_name(text: &mut String, is_first: bool, name: &str) -> Result<(), AllocE
 }
 
 // Writes the names of the set bits, or else the bits as a number.
+#[tactic(auto, using(crate::proofs::Steps::stays))]
 fn write_bits_of_set(
     text: &mut String,
     out: &mut Writer,
     names: &[Option<String>],
     bits: u64,
 ) -> Result<(), AllocError>
-    ensures { OnOk result (Adds out.old out.new
+    ensures written { OnOk result (Adds out.old out.new
         (json_tokens (set_of_bits (map (option_map string_bytes) names.now) bits))) }
+    ensures stays { AddsSome out.old out.new }
 {
     if join_names(text, names, bits)? {
         out.string(text.as_str())
@@ -113,14 +119,16 @@ fn write_bits_of_set(
 
 /// Writes a value of a SET: the names of its members, with commas between them, or else its bits as a
 /// number; in base64 if it has more than 64 bits.
+#[tactic(auto, using(crate::proofs::Steps::stays))]
 pub(crate) fn write_set(
     text: &mut String,
     out: &mut Writer,
     names: &[Option<String>],
     bytes: &[u8],
 ) -> Result<(), AllocError>
-    ensures { OnOk result (Adds out.old out.new
+    ensures written { OnOk result (Adds out.old out.new
         (json_tokens (set_json (map (option_map string_bytes) names.now) bytes.now))) }
+    ensures stays { AddsSome out.old out.new }
 {
     match bytes.len() {
         0 => write_bits_of_set(text, out, names, 0),

@@ -7,7 +7,7 @@ ghost use Rattle.binlog_base.specs.declared.fault.Fault.TheVariants as Fault;
 ghost use Rattle.row_json.specs.Rows.{IsImageJson, is_diffs, AreDiffs, present_in, operation_of, IsPairJson};
 ghost use Rattle.row_json.specs.declared.row.Part.TheVariants as parts;
 ghost use Rattle.row_json.specs.Faults.{HasNone, IsFaultOfImage, IsFaultOfPair};
-ghost use Rattle.row_json.specs.Wrote.{Wrote, WroteMembers};
+ghost use Rattle.row_json.specs.Wrote.{AddsSome, Wrote, WroteMembers};
 
 use crate::images::{Images, Row};
 use crate::members::{Members, NoMembers};
@@ -30,6 +30,7 @@ fn present_in(present: Option<BitView<'_>>) -> BitView<'_>
 }
 
 // Writes an image; null if it isn't there.
+#[tactic(auto, using(crate::proofs::Steps::stays))]
 fn write_image<R: Row>(
     alloc: Global,
     text: &mut String,
@@ -44,6 +45,7 @@ fn write_image<R: Row>(
         (option_map (λ r. R.image r.now) image.entry) e) }
     ensures sound { OnOk result (HasNone (IsFaultOfImage parts.Row table.now present.now
         (option_map (λ r. R.image r.now) image.entry))) }
+    ensures stays { AddsSome out.old out.new }
 {
     match image {
         None => Ok(out.null()?),
@@ -64,6 +66,7 @@ fn has_diffs_in<R: Row>(row: &R) -> bool
 }
 
 // Writes the member `diffs`, if a value of the image is diffs.
+#[tactic(auto, using(crate::proofs::Steps::stays))]
 fn write_diffs_of<R: Row>(
     alloc: Global,
     text: &mut String,
@@ -78,6 +81,7 @@ fn write_diffs_of<R: Row>(
         (option_map (λ r. R.image r.now) image.entry) e) }
     ensures sound { OnOk result (HasNone (IsFaultOfImage parts.Diffs table.now present.now
         (option_map (λ r. R.image r.now) image.entry))) }
+    ensures stays { AddsSome out.old out.new }
 {
     match image {
         Some(row) if has_diffs_in(row) => {

@@ -7,7 +7,7 @@ ghost use Rattle.binlog_cells.specs.LentCells.{lent_cell};
 ghost use Rattle.row_json.specs.Rows.{IsMember, IsDiffsMember, IsMemberOf, AreMembers, IsObjectOf, IsRowJson};
 ghost use Rattle.row_json.specs.declared.row.Part.TheVariants as parts;
 ghost use Rattle.row_json.specs.Faults.{HasNone, IsFaultOfCell, IsFaultOfPart, IsFaultOfRow};
-ghost use Rattle.row_json.specs.Wrote.{Wrote, WroteMembers};
+ghost use Rattle.row_json.specs.Wrote.{Wrote, WroteMembers, AddsSome};
 
 use crate::cell::write_cell;
 use crate::document::write_lent_diffs;
@@ -30,6 +30,7 @@ pub(crate) enum Part {
 }
 
 // Writes the member of a value; none for diffs.
+#[tactic(auto, using(crate::proofs::Steps::stays))]
 fn write_member_of_value(
     alloc: Global,
     text: &mut String,
@@ -42,6 +43,7 @@ fn write_member_of_value(
     ensures err { IfErr result (λ e. e ≢ Fault.Memory
         → IsFaultOfCell parts.Row (Some (lent_cell value.now)) e) }
     ensures sound { OnOk result (HasNone (IsFaultOfCell parts.Row (Some (lent_cell value.now)))) }
+    ensures stays { AddsSome out.old out.new }
 {
     match value {
         LentCell::Diffs(_) => Ok(()),
@@ -54,6 +56,7 @@ fn write_member_of_value(
 }
 
 // Writes the member of a cell; none for diffs. A value that was taken from its row is null.
+#[tactic(auto, using(crate::proofs::Steps::stays))]
 fn write_member(
     alloc: Global,
     text: &mut String,
@@ -67,6 +70,7 @@ fn write_member(
         → IsFaultOfCell parts.Row (option_map (λ v. lent_cell v.now) cell.entry) e) }
     ensures sound { OnOk result
         (HasNone (IsFaultOfCell parts.Row (option_map (λ v. lent_cell v.now) cell.entry))) }
+    ensures stays { AddsSome out.old out.new }
 {
     match cell {
         None => {
@@ -79,6 +83,7 @@ fn write_member(
 }
 
 // Writes the member of a value in `diffs`; none for a value that isn't diffs.
+#[tactic(auto, using(crate::proofs::Steps::stays))]
 fn write_diffs_of_value(
     alloc: Global,
     text: &mut String,
@@ -91,6 +96,7 @@ fn write_diffs_of_value(
     ensures err { IfErr result (λ e. e ≢ Fault.Memory
         → IsFaultOfCell parts.Diffs (Some (lent_cell value.now)) e) }
     ensures sound { OnOk result (HasNone (IsFaultOfCell parts.Diffs (Some (lent_cell value.now)))) }
+    ensures stays { AddsSome out.old out.new }
 {
     match value {
         LentCell::Diffs(diffs) => {
@@ -103,6 +109,7 @@ fn write_diffs_of_value(
 }
 
 // Writes the member of a cell in `diffs`; none for a cell that isn't diffs.
+#[tactic(auto, using(crate::proofs::Steps::stays))]
 fn write_diffs_member(
     alloc: Global,
     text: &mut String,
@@ -116,6 +123,7 @@ fn write_diffs_member(
         → IsFaultOfCell parts.Diffs (option_map (λ v. lent_cell v.now) cell.entry) e) }
     ensures sound { OnOk result
         (HasNone (IsFaultOfCell parts.Diffs (option_map (λ v. lent_cell v.now) cell.entry))) }
+    ensures stays { AddsSome out.old out.new }
 {
     match cell {
         None => Ok(()),
@@ -131,6 +139,7 @@ fn is_present(present: &BitView<'_>, index: usize) -> bool
 }
 
 /// Writes the member of a cell in its row, or in `diffs`.
+#[tactic(auto, using(crate::proofs::Steps::stays))]
 pub(crate) fn write_member_of(
     alloc: Global,
     text: &mut String,
@@ -145,6 +154,7 @@ pub(crate) fn write_member_of(
         → IsFaultOfCell part (option_map (λ v. lent_cell v.now) cell.entry) e) }
     ensures sound { OnOk result
         (HasNone (IsFaultOfCell part (option_map (λ v. lent_cell v.now) cell.entry))) }
+    ensures stays { AddsSome out.old out.new }
 {
     match part {
         Part::Row => write_member(alloc, text, out, column, cell),
@@ -153,6 +163,7 @@ pub(crate) fn write_member_of(
 }
 
 // Writes the members of the columns that are in the image.
+#[tactic(auto, using(crate::proofs::Steps::stays))]
 fn write_members<R: Row>(
     alloc: Global,
     text: &mut String,
@@ -168,6 +179,7 @@ fn write_members<R: Row>(
         → IsFaultOfPart part columns.now present.now (R.image row.now) e) }
     ensures sound { OnOk result
         (HasNone (IsFaultOfPart part columns.now present.now (R.image row.now))) }
+    ensures stays { AddsSome out.old out.new }
 {
     let mut place = 0;
     for index in 0..columns.len() {
@@ -185,6 +197,7 @@ fn write_members<R: Row>(
 ///
 /// The error is the fault of the first document of JSON that has one, in the order of the columns, or
 /// `Memory`. A part of the object may then have been written.
+#[tactic(auto, using(crate::proofs::Steps::stays))]
 pub fn write_row(
     alloc: Global,
     text: &mut String,
@@ -196,6 +209,7 @@ pub fn write_row(
     ensures written { OnOk result (Wrote (IsRowJson table.now present.now row.now) out.old out.new) }
     ensures err { IfErr result (λ e. e ≢ Fault.Memory → IsFaultOfRow table.now present.now row.now e) }
     ensures sound { OnOk result (HasNone (IsFaultOfRow table.now present.now row.now)) }
+    ensures stays { AddsSome out.old out.new }
 {
     write_object(alloc, text, out, Part::Row, table, present, row)
 }
@@ -205,6 +219,7 @@ pub fn write_row(
 ///
 /// The error is the fault of the first document of JSON that has one, in the order of the columns, or
 /// `Memory`. A part of the object may then have been written.
+#[tactic(auto, using(crate::proofs::Steps::stays))]
 pub fn write_owned_row(
     alloc: Global,
     text: &mut String,
@@ -216,11 +231,13 @@ pub fn write_owned_row(
     ensures written { OnOk result (Wrote (IsRowJson table.now present.now row.now) out.old out.new) }
     ensures err { IfErr result (λ e. e ≢ Fault.Memory → IsFaultOfRow table.now present.now row.now e) }
     ensures sound { OnOk result (HasNone (IsFaultOfRow table.now present.now row.now)) }
+    ensures stays { AddsSome out.old out.new }
 {
     write_object(alloc, text, out, Part::Row, table, present, row)
 }
 
 /// Writes a part of a row as an object.
+#[tactic(auto, using(crate::proofs::Steps::stays))]
 pub(crate) fn write_object<R: Row>(
     alloc: Global,
     text: &mut String,
@@ -236,6 +253,7 @@ pub(crate) fn write_object<R: Row>(
         → IsFaultOfPart part table.now present.now (R.image row.now) e) }
     ensures sound { OnOk result
         (HasNone (IsFaultOfPart part table.now present.now (R.image row.now))) }
+    ensures stays { AddsSome out.old out.new }
 {
     out.begin_object()?;
     write_members(alloc, text, out, part, table.columns(), present, row)?;

@@ -3,7 +3,7 @@
 ghost use Rattle.std.specs.Prelude.{OnOk, ◌<◌};
 ghost use Rattle.json.specs.Tree.{json_tokens};
 ghost use Rattle.row_json.specs.Values.{base64_json, text_json, number_or_string, year_json};
-ghost use Rattle.row_json.specs.Wrote.{Adds};
+ghost use Rattle.row_json.specs.Wrote.{Adds, AddsSome};
 
 use crate::charset::{Charset, push_latin1, str_in};
 use base64::engine::general_purpose::STANDARD;
@@ -11,12 +11,14 @@ use json::{Writer, is_number};
 use std::alloc::AllocError;
 
 /// Writes `{"base64":".."}`.
+#[tactic(auto, using(crate::proofs::Steps::stays))]
 pub(crate) fn write_base64(
     text: &mut String,
     out: &mut Writer,
     bytes: &[u8],
 ) -> Result<(), AllocError>
-    ensures { OnOk result (Adds out.old out.new (json_tokens (base64_json bytes.now))) }
+    ensures written { OnOk result (Adds out.old out.new (json_tokens (base64_json bytes.now))) }
+    ensures stays { AddsSome out.old out.new }
 {
     text.clear();
     STANDARD.encode_string(bytes, text)?;
@@ -27,13 +29,15 @@ pub(crate) fn write_base64(
 }
 
 /// Writes bytes as a string if they are text of their character set, and else in base64.
+#[tactic(auto, using(crate::proofs::Steps::stays))]
 pub(crate) fn write_text(
     text: &mut String,
     out: &mut Writer,
     charset: Charset,
     bytes: &[u8],
 ) -> Result<(), AllocError>
-    ensures { OnOk result (Adds out.old out.new (json_tokens (text_json charset bytes.now))) }
+    ensures written { OnOk result (Adds out.old out.new (json_tokens (text_json charset bytes.now))) }
+    ensures stays { AddsSome out.old out.new }
 {
     if let Charset::Latin1 = charset {
         text.clear();
@@ -47,8 +51,10 @@ pub(crate) fn write_text(
 }
 
 /// Writes a text as a number if it is one of JSON, and else as a string.
+#[tactic(auto, using(crate::proofs::Steps::stays))]
 pub(crate) fn write_number_or_string(out: &mut Writer, text: &str) -> Result<(), AllocError>
-    ensures { OnOk result (Adds out.old out.new (json_tokens (number_or_string text.now))) }
+    ensures written { OnOk result (Adds out.old out.new (json_tokens (number_or_string text.now))) }
+    ensures stays { AddsSome out.old out.new }
 {
     if is_number(text) {
         out.number(text)
@@ -58,8 +64,10 @@ pub(crate) fn write_number_or_string(out: &mut Writer, text: &str) -> Result<(),
 }
 
 /// Writes a year, given by its text, as a number. 1900 is 0.
+#[tactic(auto, using(crate::proofs::Steps::stays))]
 pub(crate) fn write_year(text: &mut String, out: &mut Writer, year: &[u8]) -> Result<(), AllocError>
-    ensures { OnOk result (Adds out.old out.new (json_tokens (year_json year.now))) }
+    ensures written { OnOk result (Adds out.old out.new (json_tokens (year_json year.now))) }
+    ensures stays { AddsSome out.old out.new }
 {
     if year == b"1900".as_slice() {
         return out.u64(0);

@@ -6,8 +6,8 @@ use Rattle.row_json.proofs.Steps.{token_wrote}
 use Rattle.row_json.proofs.Bytes.{other_int}
 use Rattle.row_json.proofs.cell.write_int.Goals as goal
 
-pub returns-in_default : goal.returns-in_default
-returns-in_default c =
+pub returns-in_default-clause-written : goal.returns-in_default-clause-written
+returns-in_default-clause-written c =
     let column = c.args.column.now in
     let is = c.kind.ensures in
     token_wrote c.i64.result c.args.out.now c.i64.new.self _ (json.number _) _ refl c.i64.ensures

@@ -5,24 +5,24 @@ use Rattle.row_json.specs.Values.{date_by, time_by}
 use Rattle.row_json.proofs.Steps.{token_wrote, wrote_value}
 use Rattle.row_json.proofs.cell.write_plain.Goals as goal
 
-pub returns-in-NULL : goal.returns-in-NULL
-returns-in-NULL c = rw c.in-NULL.is (token_wrote c.null.result c.args.out.now c.null.new.self _ json.null _ refl c.null.ensures refl)
+pub returns-in-NULL-clause-written : goal.returns-in-NULL-clause-written
+returns-in-NULL-clause-written c = rw c.in-NULL.is (token_wrote c.null.result c.args.out.now c.null.new.self _ json.null _ refl c.null.ensures refl)
 
-pub returns-in-UInt : goal.returns-in-UInt
-returns-in-UInt c = rw c.in-UInt.is (token_wrote c.u64.result c.args.out.now c.u64.new.self _ (json.number _) _ refl c.u64.ensures refl)
+pub returns-in-UInt-clause-written : goal.returns-in-UInt-clause-written
+returns-in-UInt-clause-written c = rw c.in-UInt.is (token_wrote c.u64.result c.args.out.now c.u64.new.self _ (json.number _) _ refl c.u64.ensures refl)
 
-pub returns-in-Date : goal.returns-in-Date
-returns-in-Date c =
+pub returns-in-Date-clause-written : goal.returns-in-Date-clause-written
+returns-in-Date-clause-written c =
     let v = c.in-Date in
     rw v.is (wrote_value c.write_date.result c.args.out.now c.write_date.new.out _ (json.string (date_by c.kind.result v.year v.month v.day c.from.result v.minutes v.seconds v.microseconds))
     (ap (λ (k : Kind). json.string (date_by k v.year v.month v.day c.from.result v.minutes v.seconds v.microseconds)) c.kind.ensures
-    ∙ ap (λ (h : ℕ). json.string (date_by c.args.column.now.kind v.year v.month v.day h v.minutes v.seconds v.microseconds)) c.from.ensures) c.write_date.ensures)
+    ∙ ap (λ (h : ℕ). json.string (date_by c.args.column.now.kind v.year v.month v.day h v.minutes v.seconds v.microseconds)) c.from.ensures) c.write_date.ensures.written)
 
-pub returns-in-Time : goal.returns-in-Time
-returns-in-Time c =
+pub returns-in-Time-clause-written : goal.returns-in-Time-clause-written
+returns-in-Time-clause-written c =
     let v = c.in-Time in
     let hours = c.from-in-Time.result * 24 + c.from-in-Time-2.result in
     let same : hours ≡ v.days * 24 + v.hours = ap (λ (d : ℕ). d * 24 + c.from-in-Time-2.result) c.from-in-Time.ensures ∙ ap (λ (h : ℕ). v.days * 24 + h) c.from-in-Time-2.ensures in
     rw v.is (wrote_value c.write_time.result c.args.out.now c.write_time.new.out _ (json.string (time_by c.kind-in-Time.result v.is_negative hours v.minutes v.seconds v.microseconds))
     (ap (λ (k : Kind). json.string (time_by k v.is_negative hours v.minutes v.seconds v.microseconds)) c.kind-in-Time.ensures
-    ∙ ap (λ (h : ℕ). json.string (time_by c.args.column.now.kind v.is_negative h v.minutes v.seconds v.microseconds)) same) c.write_time.ensures)
+    ∙ ap (λ (h : ℕ). json.string (time_by c.args.column.now.kind v.is_negative h v.minutes v.seconds v.microseconds)) same) c.write_time.ensures.written)

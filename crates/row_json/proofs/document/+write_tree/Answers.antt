@@ -17,7 +17,7 @@ use Rattle.row_json.proofs.document.+write_tree.Goals as goal
 pub write_items-loop-item-preserved : goal.write_items-loop-item-preserved
 write_items-loop-item-preserved t c =
     let inv = c.loop-item.invariant in
-    let w = c.in_ok-write_tree.ensures in
+    let w = c.in_ok-write_tree.ensures.written in
     let i = c.loop-item.item-index in
     let xs = c.deref-item-items.result.now in
     let below : i < length xs = omega arith in
@@ -30,7 +30,7 @@ write_items-loop-item-preserved t c =
 pub write_members-loop-key-preserved : goal.write_members-loop-key-preserved
 write_members-loop-key-preserved t c =
     let inv = c.loop-key.invariant in
-    let w = c.in_ok-write_tree.ensures in
+    let w = c.in_ok-write_tree.ensures.written in
     let e : Entry = (c.in-Some.key.now, c.in-Some.member.now) in
     let left = c.next.new.self in
     let all : c.args.members.now.entries ≡ inv.0 ++ e ∷ left = inv.2 ∙ ap (λ (es : List Entry). inv.0 ++ es) c.in-Some.ensures.steps in
@@ -43,15 +43,15 @@ write_members-loop-key-preserved t c =
           (record { before = c.key.ensures.room.0; tokens = c.in_ok-key.ensures.ok ∙ ap (λ t. c.loop-key.out.tokens ++ token.key t ∷ []) c.as_str.ensures.value }) w.adds)),
     )
 
-pub write_container-returns-in_ok-begin_array-in-Array : goal.write_container-returns-in_ok-begin_array-in-Array
-write_container-returns-in_ok-begin_array-in-Array t c =
+pub write_container-returns-in_ok-begin_array-in-Array-clause-written : goal.write_container-returns-in_ok-begin_array-in-Array-clause-written
+write_container-returns-in_ok-begin_array-in-Array-clause-written t c =
     rw c.in-Array.is (subst (λ (d : trees.Data). OnOk c.write_items.result (Wrote (IsDataJson d) c.args.out.now c.write_items.new.out)) (sym (dom-Array c.in-Array.items)) (wrote_array c.write_items.result c.args.out.now c.begin_array.new.self c.write_items.new.out _ (AreItems (items_view c.in-Array.items.items))
-    (record { before = c.begin_array.ensures.room.0; tokens = c.in_ok-begin_array-in-Array.ensures.ok }) (λ js are. (js, are, refl)) c.write_items.ensures))
+    (record { before = c.begin_array.ensures.room.0; tokens = c.in_ok-begin_array-in-Array.ensures.ok }) (λ js are. (js, are, refl)) c.write_items.ensures.written))
 
-pub write_container-returns-in_ok-begin_object-in-Object : goal.write_container-returns-in_ok-begin_object-in-Object
-write_container-returns-in_ok-begin_object-in-Object t c =
+pub write_container-returns-in_ok-begin_object-in-Object-clause-written : goal.write_container-returns-in_ok-begin_object-in-Object-clause-written
+write_container-returns-in_ok-begin_object-in-Object-clause-written t c =
     rw c.in-Object.is (subst (λ (d : trees.Data). OnOk c.write_members.result (Wrote (IsDataJson d) c.args.out.now c.write_members.new.out)) (sym (dom-Object c.in-Object.members)) (wrote_object c.write_members.result c.args.out.now c.begin_object.new.self c.write_members.new.out _ (AreMembers (members_view c.in-Object.members.entries))
-    (record { before = c.begin_object.ensures.room.0; tokens = c.in_ok-begin_object-in-Object.ensures.ok }) (λ ms are. (ms, are, refl)) c.write_members.ensures))
+    (record { before = c.begin_object.ensures.room.0; tokens = c.in_ok-begin_object-in-Object.ensures.ok }) (λ ms are. (ms, are, refl)) c.write_members.ensures.written))
 
-pub write_tree-returns-in-Container : goal.write_tree-returns-in-Container
-write_tree-returns-in-Container t c = rw c.in-Container.is c.write_container.ensures
+pub write_tree-returns-in-Container-clause-written : goal.write_tree-returns-in-Container-clause-written
+write_tree-returns-in-Container-clause-written t c = rw c.in-Container.is c.write_container.ensures.written

@@ -14,7 +14,7 @@ returns-clause-written c =
     let tree = c.in_ok-tree.tree in
     let p = c.in_ok-tree.ensures.1 in
     let t = p.tree in
-    wrote_weaker (IsDataJson (dom_view tree)) (IsDocumentJson value) (λ j is. let d = subst (λ (x : Data). IsDataJson x j) t.2 is in (t.0, t.1, d, document_fits value t.0 j t.1 d p.limits.0)) c.in_ok-write_tree.ensures
+    wrote_weaker (IsDataJson (dom_view tree)) (IsDocumentJson value) (λ j is. let d = subst (λ (x : Data). IsDataJson x j) t.2 is in (t.0, t.1, d, document_fits value t.0 j t.1 d p.limits.0)) c.in_ok-write_tree.ensures.written
 
 pub returns-clause-sound : goal.returns-clause-sound
 returns-clause-sound c =

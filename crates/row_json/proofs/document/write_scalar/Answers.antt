@@ -5,20 +5,20 @@ use Rattle.row_json.proofs.Steps.{token_wrote}
 use Rattle.row_json.specs.Documents.{time_text}
 use Rattle.row_json.proofs.document.write_scalar.Goals as goal
 
-pub returns-in-Null : goal.returns-in-Null
-returns-in-Null c = rw c.in-Null.is (token_wrote c.null.result c.args.out.now c.null.new.self _ json.null _ refl c.null.ensures refl)
+pub returns-in-Null-clause-written : goal.returns-in-Null-clause-written
+returns-in-Null-clause-written c = rw c.in-Null.is (token_wrote c.null.result c.args.out.now c.null.new.self _ json.null _ refl c.null.ensures refl)
 
-pub returns-in-Boolean : goal.returns-in-Boolean
-returns-in-Boolean c = rw c.in-Boolean.is (token_wrote c.boolean.result c.args.out.now c.boolean.new.self _ (json.boolean c.in-Boolean.value) _ refl c.boolean.ensures refl)
+pub returns-in-Boolean-clause-written : goal.returns-in-Boolean-clause-written
+returns-in-Boolean-clause-written c = rw c.in-Boolean.is (token_wrote c.boolean.result c.args.out.now c.boolean.new.self _ (json.boolean c.in-Boolean.value) _ refl c.boolean.ensures refl)
 
-pub returns-in-String : goal.returns-in-String
-returns-in-String c = rw c.in-String.is (token_wrote c.string.result c.args.out.now c.string.new.self _ (json.string c.as_str.result.now) _ refl c.string.ensures (ap json.string c.as_str.ensures.value))
+pub returns-in-String-clause-written : goal.returns-in-String-clause-written
+returns-in-String-clause-written c = rw c.in-String.is (token_wrote c.string.result c.args.out.now c.string.new.self _ (json.string c.as_str.result.now) _ refl c.string.ensures (ap json.string c.as_str.ensures.value))
 
-pub returns-in_ok-push_time-in-DateTime : goal.returns-in_ok-push_time-in-DateTime
-returns-in_ok-push_time-in-DateTime c =
+pub returns-in_ok-push_time-in-DateTime-clause-written : goal.returns-in_ok-push_time-in-DateTime-clause-written
+returns-in_ok-push_time-in-DateTime-clause-written c =
     let text = c.as_str-in-DateTime.ensures.value ∙ (c.in_ok-push_time-in-DateTime.ensures ∙ ap (λ (l : List ℕ). l ++ time_text c.in-DateTime.time) c.clear.ensures.bytes) in
     rw c.in-DateTime.is (token_wrote c.string-in-DateTime.result c.args.out.now c.string-in-DateTime.new.self _ (json.string c.as_str-in-DateTime.result.now) _ refl c.string-in-DateTime.ensures (ap json.string text))
 
-pub returns-in_ok-write_text-in-Opaque : goal.returns-in_ok-write_text-in-Opaque
-returns-in_ok-write_text-in-Opaque c =
+pub returns-in_ok-write_text-in-Opaque-clause-written : goal.returns-in_ok-write_text-in-Opaque-clause-written
+returns-in_ok-write_text-in-Opaque-clause-written c =
     rw c.in-Opaque.is (token_wrote c.string-in-Opaque.result c.args.out.now c.string-in-Opaque.new.self _ (json.string c.as_str-in-Opaque.result.now) _ refl c.string-in-Opaque.ensures (ap json.string (c.as_str-in-Opaque.ensures.value ∙ grind (arith, common_steps, c.in_ok-write_text-in-Opaque.ensures, c.in_ok-write_text-in-Opaque.was, c.clear-in-Opaque.ensures.bytes))))

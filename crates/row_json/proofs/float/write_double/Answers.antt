@@ -3,18 +3,18 @@ use Rattle.std.specs.Float.{binary64}
 use Rattle.row_json.proofs.Floats.{float_wrote, special_wrote}
 use Rattle.row_json.proofs.float.write_double.Goals as goal
 
-pub returns-then-is_finite : goal.returns-then-is_finite
-returns-then-is_finite c =
+pub returns-then-is_finite-clause-written : goal.returns-then-is_finite-clause-written
+returns-then-is_finite-clause-written c =
     float_wrote c.float.result c.args.out.now c.float.new.self binary64 c.args.bits c.f64_from_bits_with_nan-number.result c.f64_from_bits_with_nan-number.ensures (sym c.is_finite.ensures.value ∙ c.if-is_finite.true) c.float.ensures.room.1.0 c.float.ensures.plain
 
-pub returns-then-is_nan : goal.returns-then-is_nan
-returns-then-is_nan c =
+pub returns-then-is_nan-clause-written : goal.returns-then-is_nan-clause-written
+returns-then-is_nan-clause-written c =
     special_wrote c.string.result c.args.out.now c.string.new.self binary64 c.args.bits c.f64_from_bits_with_nan-number.result _ c.f64_from_bits_with_nan-number.ensures (sym c.is_finite.ensures.value ∙ c.if-is_finite.false) (rw (sym c.is_nan.ensures.value ∙ c.if-is_nan.true) refl) c.string.ensures
 
-pub returns-then-is_sign_negative : goal.returns-then-is_sign_negative
-returns-then-is_sign_negative c =
+pub returns-then-is_sign_negative-clause-written : goal.returns-then-is_sign_negative-clause-written
+returns-then-is_sign_negative-clause-written c =
     special_wrote c.string-then-is_sign_negative.result c.args.out.now c.string-then-is_sign_negative.new.self binary64 c.args.bits c.f64_from_bits_with_nan-number.result _ c.f64_from_bits_with_nan-number.ensures (sym c.is_finite.ensures.value ∙ c.if-is_finite.false) (rw (sym c.is_nan.ensures.value ∙ c.if-is_nan.false, sym c.is_sign_negative.ensures ∙ c.if-is_sign_negative.true) refl) c.string-then-is_sign_negative.ensures
 
-pub returns-else-is_sign_negative : goal.returns-else-is_sign_negative
-returns-else-is_sign_negative c =
+pub returns-else-is_sign_negative-clause-written : goal.returns-else-is_sign_negative-clause-written
+returns-else-is_sign_negative-clause-written c =
     special_wrote c.string-else-is_sign_negative.result c.args.out.now c.string-else-is_sign_negative.new.self binary64 c.args.bits c.f64_from_bits_with_nan-number.result _ c.f64_from_bits_with_nan-number.ensures (sym c.is_finite.ensures.value ∙ c.if-is_finite.false) (rw (sym c.is_nan.ensures.value ∙ c.if-is_nan.false, sym c.is_sign_negative.ensures ∙ c.if-is_sign_negative.false) refl) c.string-else-is_sign_negative.ensures

@@ -8,19 +8,19 @@ use Rattle.row_json.proofs.Steps.{adds_token, adds_equal}
 use Rattle.row_json.proofs.Bytes.{zero_year, later_year}
 use Rattle.row_json.proofs.text.write_year.Goals as goal
 
-pub returns-then-eq : goal.returns-then-eq
-returns-then-eq c =
+pub returns-then-eq-clause-written : goal.returns-then-eq-clause-written
+returns-then-eq-clause-written c =
     let e : bytes_eq c.args.year.now (codes "1900") ≡ true = ap (bytes_eq c.args.year.now) (sym c.as_slice.ensures) ∙ (sym c.eq.ensures ∙ c.if-eq.true) in
     adds_equal c.u64.result c.args.out.now c.u64.new.self (number (decimal 0)) _ (zero_year c.args.year.now e) (adds_token c.u64.result _ _ _ c.u64.ensures)
 
-pub returns-in-Some : goal.returns-in-Some
-returns-in-Some c =
+pub returns-in-Some-clause-written : goal.returns-in-Some-clause-written
+returns-in-Some-clause-written c =
     let e : bytes_eq c.args.year.now (codes "1900") ≡ false = ap (bytes_eq c.args.year.now) (sym c.as_slice.ensures) ∙ (sym c.eq.ensures ∙ c.if-eq.false) in
     let text = sym (ap (option_map (λ (t : Bor (List ℕ)). t.now)) c.in-Some.is) ∙ c.str_in.ensures in
-    adds_equal c.write_number_or_string.result c.args.out.now c.write_number_or_string.new.out (number_or_string c.in-Some.year.now) _ (later_year c.args.year.now (Some c.in-Some.year.now) e text) c.write_number_or_string.ensures
+    adds_equal c.write_number_or_string.result c.args.out.now c.write_number_or_string.new.out (number_or_string c.in-Some.year.now) _ (later_year c.args.year.now (Some c.in-Some.year.now) e text) c.write_number_or_string.ensures.written
 
-pub returns-in-None : goal.returns-in-None
-returns-in-None c =
+pub returns-in-None-clause-written : goal.returns-in-None-clause-written
+returns-in-None-clause-written c =
     let e : bytes_eq c.args.year.now (codes "1900") ≡ false = ap (bytes_eq c.args.year.now) (sym c.as_slice.ensures) ∙ (sym c.eq.ensures ∙ c.if-eq.false) in
     let text = sym (ap (option_map (λ (t : Bor (List ℕ)). t.now)) c.in-None.is) ∙ c.str_in.ensures in
-    adds_equal c.write_base64.result c.args.out.now c.write_base64.new.out (base64_json c.args.year.now) _ (later_year c.args.year.now None e text) c.write_base64.ensures
+    adds_equal c.write_base64.result c.args.out.now c.write_base64.new.out (base64_json c.args.year.now) _ (later_year c.args.year.now None e text) c.write_base64.ensures.written

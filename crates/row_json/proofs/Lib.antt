@@ -13,5 +13,6 @@ pub mod Faults
 pub mod Years
 pub mod Depths
 pub mod Pairs
+pub mod Objects
 pub mod Lines
 pub mod Shown

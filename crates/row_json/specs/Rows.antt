@@ -110,6 +110,16 @@ pub record IsPairJson (cs : List Column) (e : RowsEvent) (added : List Named) (p
   pub are_diffs : AreDiffs cs (after_in e) pair.1 diffs
   pub is : j ≡ object (members_of ((codes "op", string (operation_of pair)) ∷ (added ++ (codes "before", before) ∷ (codes "after", after) ∷ diffs)))
 
+-- the members of a pair after those of a caller
+pub record AreImages (cs : List Column) (e : RowsEvent) (pair : Pair) (ms : List Named) : Type 0 where
+  pub before : Json
+  pub after : Json
+  pub diffs : List Named
+  pub is_before : IsImageJson cs (before_in e) pair.0 before
+  pub is_after : IsImageJson cs (after_in e) pair.1 after
+  pub are_diffs : AreDiffs cs (after_in e) pair.1 diffs
+  pub are : ms ≡ (codes "before", before) ∷ (codes "after", after) ∷ diffs
+
 -- The line of a pair: the pair as JSON, with no space outside strings, and a line's end. It reads
 -- back as that JSON.
 pub record IsLine (cs : List Column) (e : RowsEvent) (added : List Named) (pair : Pair) (line : List ℕ) : Type 0 where

@@ -1,4 +1,5 @@
 //! Plain values as JSON.
+#![tactic(auto, using(crate::proofs::Steps::stays))]
 
 ghost use Rattle.std.specs.Prelude.{◌≡◌, OnOk, ◌++◌, ◌≢◌, Some, IfErr, decimal};
 ghost use Rattle.std.specs.String.{string_bytes};
@@ -35,7 +36,6 @@ use mysql_binlog_rows::value::{
 use std::alloc::{AllocError, Global};
 
 // Writes a timestamp.
-#[tactic(auto, using(crate::proofs::Steps::stays))]
 fn write_timestamp(
     text: &mut String,
     out: &mut Writer,
@@ -52,7 +52,6 @@ fn write_timestamp(
 }
 
 // Writes a timestamp, given by its text.
-#[tactic(auto, using(crate::proofs::Steps::stays))]
 fn write_timestamp_text(
     text: &mut String,
     out: &mut Writer,
@@ -76,7 +75,6 @@ fn write_timestamp_text(
 }
 
 // Writes bytes by the kind of their column.
-#[tactic(auto, using(crate::proofs::Steps::stays))]
 fn write_bytes(
     text: &mut String,
     out: &mut Writer,
@@ -98,7 +96,6 @@ fn write_bytes(
 
 // Writes a signed number by the kind of its column. The numbers of timestamps and of ENUM values have
 // no sign.
-#[tactic(auto, using(crate::proofs::Steps::stays))]
 fn write_int(
     text: &mut String,
     out: &mut Writer,
@@ -132,7 +129,6 @@ fn push_date_of(text: &mut String, kind: Kind, date: Day, clock: Clock) -> Resul
 }
 
 // Writes a date by the kind of its column.
-#[tactic(auto, using(crate::proofs::Steps::stays))]
 fn write_date(
     text: &mut String,
     out: &mut Writer,
@@ -170,7 +166,6 @@ fn push_time_of(
 }
 
 // Writes a time by the kind of its column.
-#[tactic(auto, using(crate::proofs::Steps::stays))]
 fn write_time(
     text: &mut String,
     out: &mut Writer,
@@ -189,7 +184,6 @@ fn write_time(
 
 // Writes a value; a TIME of the old format has its sign.
 #[inline(always)]
-#[tactic(auto, using(crate::proofs::Steps::stays))]
 fn write_plain(
     text: &mut String,
     out: &mut Writer,
@@ -234,7 +228,6 @@ fn write_plain(
 
 // Writes the value of a column.
 #[inline(always)]
-#[tactic(auto, using(crate::proofs::Steps::stays))]
 fn write_value(
     text: &mut String,
     out: &mut Writer,
@@ -254,7 +247,6 @@ fn write_value(
 }
 
 // Writes bytes by the kind of their column.
-#[tactic(auto, using(crate::proofs::Steps::stays))]
 fn write_lent_bytes(
     text: &mut String,
     out: &mut Writer,
@@ -270,7 +262,6 @@ fn write_lent_bytes(
 // Writes a year by the kind of its column. Not inlined, as those below, so that other cells need no
 // room for its text.
 #[inline(never)]
-#[tactic(auto, using(crate::proofs::Steps::stays))]
 fn write_lent_year(
     text: &mut String,
     out: &mut Writer,
@@ -286,7 +277,6 @@ fn write_lent_year(
 
 // Writes a timestamp by the kind of its column.
 #[inline(never)]
-#[tactic(auto, using(crate::proofs::Steps::stays))]
 fn write_lent_timestamp(
     text: &mut String,
     out: &mut Writer,
@@ -304,7 +294,6 @@ fn write_lent_timestamp(
 
 // Writes a decimal by the kind of its column.
 #[inline(never)]
-#[tactic(auto, using(crate::proofs::Steps::stays))]
 fn write_decimal(
     text: &mut String,
     out: &mut Writer,
@@ -320,7 +309,6 @@ fn write_decimal(
 }
 
 /// Writes a cell of a column; null for diffs. `text` is room for making texts.
-#[tactic(auto, using(crate::proofs::Steps::stays))]
 pub(crate) fn write_cell(
     alloc: Global,
     text: &mut String,

@@ -1,4 +1,5 @@
 //! Documents of binary JSON, and their diffs, as JSON.
+#![tactic(auto, using(crate::proofs::Steps::stays))]
 
 ghost use Rattle.std.specs.Prelude.{◌≡◌, ◌≢◌, List, OnOk, IfErr, ◌++◌};
 ghost use Rattle.std.specs.String.{string_bytes};
@@ -24,7 +25,6 @@ use std::alloc::{AllocError, Global};
 use std::collections::BTreeMap;
 use std::fmt::Write;
 
-#[tactic(auto, using(crate::proofs::Steps::stays))]
 fn write_number(text: &mut String, out: &mut Writer, number: &JsonNumber) -> Result<(), AllocError>
     ensures written { OnOk result (Wrote (IsScalarJson (number_view number.now)) out.old out.new) }
     ensures stays { AddsSome out.old out.new }
@@ -54,7 +54,6 @@ fn push_time(text: &mut String, time: &MysqlTime) -> Result<(), AllocError>
     }
 }
 
-#[tactic(auto, using(crate::proofs::Steps::stays))]
 fn write_scalar(text: &mut String, out: &mut Writer, scalar: &JsonScalar) -> Result<(), AllocError>
     ensures written { OnOk result (Wrote (IsScalarJson (scalar_view scalar.now)) out.old out.new) }
     ensures stays { AddsSome out.old out.new }
@@ -78,7 +77,6 @@ fn write_scalar(text: &mut String, out: &mut Writer, scalar: &JsonScalar) -> Res
 }
 
 #[cycle(write_tree)]
-#[tactic(auto, using(crate::proofs::Steps::stays))]
 fn write_tree(text: &mut String, out: &mut Writer, tree: &JsonDom) -> Result<(), AllocError>
     ensures written { OnOk result (Wrote (IsDataJson (dom_view tree.now)) out.old out.new) }
     ensures stays { AddsSome out.old out.new }
@@ -90,7 +88,6 @@ fn write_tree(text: &mut String, out: &mut Writer, tree: &JsonDom) -> Result<(),
 }
 
 #[cycle(write_tree)]
-#[tactic(auto, using(crate::proofs::Steps::stays))]
 fn write_container(
     text: &mut String,
     out: &mut Writer,
@@ -113,7 +110,6 @@ fn write_container(
 }
 
 #[cycle(write_tree)]
-#[tactic(auto, using(crate::proofs::Steps::stays))]
 fn write_items(text: &mut String, out: &mut Writer, items: &Vec<JsonDom>) -> Result<(), AllocError>
     ensures written { OnOk result ((js : List Json) × AreItems (items_view items.now.items) js
         × Adds out.old out.new (array_end js)) }
@@ -126,7 +122,6 @@ fn write_items(text: &mut String, out: &mut Writer, items: &Vec<JsonDom>) -> Res
 }
 
 #[cycle(write_tree)]
-#[tactic(auto, using(crate::proofs::Steps::stays))]
 fn write_members(
     text: &mut String,
     out: &mut Writer,
@@ -144,7 +139,6 @@ fn write_members(
 }
 
 /// Writes a document by its tree.
-#[tactic(auto, using(crate::proofs::Steps::stays))]
 pub(crate) fn write_document(
     alloc: Global,
     text: &mut String,
@@ -161,7 +155,6 @@ pub(crate) fn write_document(
 }
 
 // Writes a document that is kept.
-#[tactic(auto, using(crate::proofs::Steps::stays))]
 fn write_kept_document(
     alloc: Global,
     text: &mut String,
@@ -187,7 +180,6 @@ fn operation_name(operation: JsonDiffOperation) -> &'static str
 }
 
 // Writes the members `op` and `path`.
-#[tactic(auto, using(crate::proofs::Steps::stays))]
 fn write_place(alloc: Global, out: &mut Writer, diff: &JsonDiff<'_>) -> Result<(), AllocError>
     ensures written { OnOk result (Adds out.old out.new (place_tokens diff.now)) }
     ensures stays { AddsSome out.old out.new }
@@ -201,7 +193,6 @@ fn write_place(alloc: Global, out: &mut Writer, diff: &JsonDiff<'_>) -> Result<(
 }
 
 // Writes the member `value`, if there is a value.
-#[tactic(auto, using(crate::proofs::Steps::stays))]
 fn write_diff_value(
     alloc: Global,
     text: &mut String,
@@ -224,7 +215,6 @@ fn write_diff_value(
     }
 }
 
-#[tactic(auto, using(crate::proofs::Steps::stays))]
 fn write_diff(
     alloc: Global,
     text: &mut String,
@@ -244,7 +234,6 @@ fn write_diff(
 }
 
 // Writes the diffs of a document as an array.
-#[tactic(auto, using(crate::proofs::Steps::stays))]
 fn write_diffs(
     alloc: Global,
     text: &mut String,
@@ -265,7 +254,6 @@ fn write_diffs(
 }
 
 /// Writes the diffs of a document as an array.
-#[tactic(auto, using(crate::proofs::Steps::stays))]
 pub(crate) fn write_lent_diffs(
     alloc: Global,
     text: &mut String,

@@ -1,4 +1,5 @@
 //! Floats as JSON.
+#![tactic(auto, using(crate::proofs::Steps::stays))]
 
 ghost use Rattle.std.specs.Prelude.{OnOk};
 ghost use Rattle.std.specs.Float.{binary32, binary64};
@@ -11,7 +12,6 @@ use std::num::{f32_from_bits_with_nan, f64_from_bits_with_nan};
 
 /// Writes a FLOAT, given by its bits: the shortest number that reads back, or a string if it isn't
 /// finite.
-#[tactic(auto, using(crate::proofs::Steps::stays))]
 pub(crate) fn write_float(out: &mut Writer, bits: u32) -> Result<(), AllocError>
     ensures written { OnOk result (Wrote (IsFloatJson binary32 bits) out.old out.new) }
     ensures stays { AddsSome out.old out.new }
@@ -29,7 +29,6 @@ pub(crate) fn write_float(out: &mut Writer, bits: u32) -> Result<(), AllocError>
 }
 
 /// Writes a DOUBLE in the same way.
-#[tactic(auto, using(crate::proofs::Steps::stays))]
 pub(crate) fn write_double(out: &mut Writer, bits: u64) -> Result<(), AllocError>
     ensures written { OnOk result (Wrote (IsFloatJson binary64 bits) out.old out.new) }
     ensures stays { AddsSome out.old out.new }

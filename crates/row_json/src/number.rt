@@ -1,4 +1,5 @@
 //! BIT, ENUM and SET as JSON.
+#![tactic(auto, using(crate::proofs::Steps::stays))]
 
 ghost use Rattle.std.specs.Prelude.{◌≡◌, OnOk, IfOk, ◌++◌, ◌<◌, length, map, codes, if◌then◌else◌};
 ghost use Rattle.std.specs.Option.{option_map};
@@ -14,7 +15,6 @@ use json::Writer;
 use std::alloc::AllocError;
 
 /// Writes a BIT as a number; in base64 if it has more than 64 bits, which no server's has.
-#[tactic(auto, using(crate::proofs::Steps::stays))]
 pub(crate) fn write_bits(
     text: &mut String,
     out: &mut Writer,
@@ -44,7 +44,6 @@ fn name_of(names: &[Option<String>], number: u64) -> Option<&str>
 }
 
 /// Writes a value of an ENUM: its name, `""` for 0, or else its number.
-#[tactic(auto, using(crate::proofs::Steps::stays))]
 pub(crate) fn write_enum(
     out: &mut Writer,
     names: &[Option<String>],
@@ -99,7 +98,6 @@ fn push_name(text: &mut String, is_first: bool, name: &str) -> Result<(), AllocE
 }
 
 // Writes the names of the set bits, or else the bits as a number.
-#[tactic(auto, using(crate::proofs::Steps::stays))]
 fn write_bits_of_set(
     text: &mut String,
     out: &mut Writer,
@@ -119,7 +117,6 @@ fn write_bits_of_set(
 
 /// Writes a value of a SET: the names of its members, with commas between them, or else its bits as a
 /// number; in base64 if it has more than 64 bits.
-#[tactic(auto, using(crate::proofs::Steps::stays))]
 pub(crate) fn write_set(
     text: &mut String,
     out: &mut Writer,

@@ -1,23 +1,26 @@
 //! Pairs of rows as JSON.
+#![tactic(auto, using(crate::proofs::Steps::stays))]
 
-ghost use Rattle.std.specs.Prelude.{◌≡◌, ◌≢◌, [], IfErr, OnOk};
+ghost use Rattle.std.specs.Prelude.{◌≡◌, ◌≢◌, List, [], ◌∷◌, IfErr, OnOk, codes};
+ghost use Rattle.json.specs.Json.{string};
+ghost use Rattle.json.specs.Token.{begin_object};
 ghost use Rattle.std.specs.List.{list_any};
 ghost use Rattle.std.specs.Option.{option_map};
 ghost use Rattle.binlog_base.specs.declared.fault.Fault.TheVariants as Fault;
-ghost use Rattle.row_json.specs.Rows.{IsImageJson, is_diffs, AreDiffs, present_in, operation_of, IsPairJson};
+ghost use Rattle.row_json.specs.Rows.{IsImageJson, is_diffs, AreDiffs, AreImages, present_in, operation_of, IsPairJson};
 ghost use Rattle.row_json.specs.declared.row.Part.TheVariants as parts;
 ghost use Rattle.row_json.specs.Faults.{HasNone, IsFaultOfImage, IsFaultOfPair};
-ghost use Rattle.row_json.specs.Wrote.{AddsSome, Wrote, WroteMembers};
+ghost use Rattle.row_json.specs.Wrote.{Adds, AddsSome, Named, Wrote, WroteMembers, named_tokens, object_end};
 
 use crate::images::{Images, Row};
-use crate::members::{Members, NoMembers};
+use crate::members::Members;
 use crate::row::{Part, write_object};
 use crate::table::TableJson;
 use binlog_base::bits::{BitOrder, BitView};
 use binlog_base::fault::Fault;
 use json::Writer;
 use mysql_binlog_rows::rows_event::{LentPair, RowPair, RowsEvent};
-use std::alloc::Global;
+use std::alloc::{AllocError, Global};
 
 // Returns the columns of an image: none if the event has no such image.
 fn present_in(present: Option<BitView<'_>>) -> BitView<'_>
@@ -30,7 +33,6 @@ fn present_in(present: Option<BitView<'_>>) -> BitView<'_>
 }
 
 // Writes an image; null if it isn't there.
-#[tactic(auto, using(crate::proofs::Steps::stays))]
 fn write_image<R: Row>(
     alloc: Global,
     text: &mut String,
@@ -66,7 +68,6 @@ fn has_diffs_in<R: Row>(row: &R) -> bool
 }
 
 // Writes the member `diffs`, if a value of the image is diffs.
-#[tactic(auto, using(crate::proofs::Steps::stays))]
 fn write_diffs_of<R: Row>(
     alloc: Global,
     text: &mut String,
@@ -103,6 +104,44 @@ fn operation_of<P: Images>(pair: &P) -> &'static str
     }
 }
 
+// Begins the object of a pair with `op`.
+fn begin_pair<P: Images>(out: &mut Writer, pair: &P) -> Result<(), AllocError>
+    ensures written { OnOk result (Adds out.old out.new
+        (begin_object ∷ named_tokens (codes "op", string (operation_of (P.pair pair.now))))) }
+    ensures stays { AddsSome out.old out.new }
+{
+    out.begin_object()?;
+    out.key("op")?;
+    out.string(operation_of(pair))
+}
+
+// Writes the images and the diffs of a pair, and ends its object.
+fn end_pair<P: Images>(
+    alloc: Global,
+    text: &mut String,
+    out: &mut Writer,
+    table: &TableJson,
+    event: &RowsEvent<'_>,
+    pair: &P,
+) -> Result<(), Fault>
+    ensures written { OnOk result ((ms : List Named)
+        × AreImages table.now event.now (P.pair pair.now) ms × Adds out.old out.new (object_end ms)) }
+    ensures err { IfErr result (λ e. e ≢ Fault.Memory
+        → IsFaultOfPair table.now event.now (P.pair pair.now) e) }
+    ensures sound { OnOk result (HasNone (IsFaultOfPair table.now event.now (P.pair pair.now))) }
+    ensures stays { AddsSome out.old out.new }
+{
+    let before = present_in(event.columns_before_image());
+    let after = present_in(event.columns_after_image());
+    out.key("before")?;
+    write_image(alloc, text, out, table, &before, pair.before())?;
+    out.key("after")?;
+    write_image(alloc, text, out, table, &after, pair.after())?;
+    write_diffs_of(alloc, text, out, table, &after, pair.after())?;
+    out.end_object()?;
+    Ok(())
+}
+
 /// Writes a pair of rows of either kind, with the members of a caller.
 pub(crate) fn write_images<P: Images, M: Members>(
     alloc: Global,
@@ -119,19 +158,29 @@ pub(crate) fn write_images<P: Images, M: Members>(
         → IsFaultOfPair table.now event.now (P.pair pair.now) e) }
     ensures sound { OnOk result (HasNone (IsFaultOfPair table.now event.now (P.pair pair.now))) }
 {
-    let before = present_in(event.columns_before_image());
-    let after = present_in(event.columns_after_image());
-    out.begin_object()?;
-    out.key("op")?;
-    out.string(operation_of(pair))?;
+    begin_pair(out, pair)?;
     members.write(out)?;
-    out.key("before")?;
-    write_image(alloc, text, out, table, &before, pair.before())?;
-    out.key("after")?;
-    write_image(alloc, text, out, table, &after, pair.after())?;
-    write_diffs_of(alloc, text, out, table, &after, pair.after())?;
-    out.end_object()?;
-    Ok(())
+    end_pair(alloc, text, out, table, event, pair)
+}
+
+// Writes a pair of rows of either kind, without members of a caller.
+fn write_own_images<P: Images>(
+    alloc: Global,
+    text: &mut String,
+    out: &mut Writer,
+    table: &TableJson,
+    event: &RowsEvent<'_>,
+    pair: &P,
+) -> Result<(), Fault>
+    ensures written { OnOk result (Wrote
+        (IsPairJson table.now event.now [] (P.pair pair.now)) out.old out.new) }
+    ensures err { IfErr result (λ e. e ≢ Fault.Memory
+        → IsFaultOfPair table.now event.now (P.pair pair.now) e) }
+    ensures sound { OnOk result (HasNone (IsFaultOfPair table.now event.now (P.pair pair.now))) }
+    ensures stays { AddsSome out.old out.new }
+{
+    begin_pair(out, pair)?;
+    end_pair(alloc, text, out, table, event, pair)
 }
 
 /// Writes a pair of rows of an event as an object:
@@ -145,7 +194,8 @@ pub(crate) fn write_images<P: Images, M: Members>(
 /// It takes no memory where it is kept from call to call.
 ///
 /// The error is the fault of the first document of JSON that has one, or `Memory`: in the row before the
-/// change, then in the row after it, then in the diffs. A part of the object may then have been written.
+/// change, then in the row after it, then in the diffs. Then what was written before stays, and a part
+/// of the object may come after it.
 pub fn write_pair(
     alloc: Global,
     text: &mut String,
@@ -158,14 +208,14 @@ pub fn write_pair(
         (IsPairJson table.now event.now [] pair.now) out.old out.new) }
     ensures err { IfErr result (λ e. e ≢ Fault.Memory → IsFaultOfPair table.now event.now pair.now e) }
     ensures sound { OnOk result (HasNone (IsFaultOfPair table.now event.now pair.now)) }
+    ensures stays { AddsSome out.old out.new }
 {
-    write_pair_with(alloc, text, out, table, event, pair, &NoMembers)
+    write_own_images(alloc, text, out, table, event, pair)
 }
 
 /// Writes a pair of rows as `write_pair` does, with members of the caller's between `op` and `before`.
 ///
-/// The error is the fault of the first document of JSON that has one, or `Memory`: in the row before the
-/// change, then in the row after it, then in the diffs. A part of the object may then have been written.
+/// The error is the one of `write_pair`. A part of the object may then have been written.
 pub fn write_pair_with<M: Members>(
     alloc: Global,
     text: &mut String,
@@ -187,7 +237,8 @@ pub fn write_pair_with<M: Members>(
 /// same pair has the same JSON.
 ///
 /// The error is the fault of the first document of JSON that has one, or `Memory`: in the row before the
-/// change, then in the row after it, then in the diffs. A part of the object may then have been written.
+/// change, then in the row after it, then in the diffs. Then what was written before stays, and a part
+/// of the object may come after it.
 pub fn write_owned_pair(
     alloc: Global,
     text: &mut String,
@@ -200,6 +251,7 @@ pub fn write_owned_pair(
         (IsPairJson table.now event.now [] pair.now) out.old out.new) }
     ensures err { IfErr result (λ e. e ≢ Fault.Memory → IsFaultOfPair table.now event.now pair.now e) }
     ensures sound { OnOk result (HasNone (IsFaultOfPair table.now event.now pair.now)) }
+    ensures stays { AddsSome out.old out.new }
 {
-    write_images(alloc, text, out, table, event, pair, &NoMembers)
+    write_own_images(alloc, text, out, table, event, pair)
 }

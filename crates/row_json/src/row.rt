@@ -1,4 +1,5 @@
 //! Rows as JSON.
+#![tactic(auto, using(crate::proofs::Steps::stays))]
 
 ghost use Rattle.std.specs.Prelude.{◌≡◌, ◌≢◌, ◌<◌, OnOk, IfErr, Some, slice_index_or, false};
 ghost use Rattle.std.specs.Option.{option_map};
@@ -30,7 +31,6 @@ pub(crate) enum Part {
 }
 
 // Writes the member of a value; none for diffs.
-#[tactic(auto, using(crate::proofs::Steps::stays))]
 fn write_member_of_value(
     alloc: Global,
     text: &mut String,
@@ -56,7 +56,6 @@ fn write_member_of_value(
 }
 
 // Writes the member of a cell; none for diffs. A value that was taken from its row is null.
-#[tactic(auto, using(crate::proofs::Steps::stays))]
 fn write_member(
     alloc: Global,
     text: &mut String,
@@ -83,7 +82,6 @@ fn write_member(
 }
 
 // Writes the member of a value in `diffs`; none for a value that isn't diffs.
-#[tactic(auto, using(crate::proofs::Steps::stays))]
 fn write_diffs_of_value(
     alloc: Global,
     text: &mut String,
@@ -109,7 +107,6 @@ fn write_diffs_of_value(
 }
 
 // Writes the member of a cell in `diffs`; none for a cell that isn't diffs.
-#[tactic(auto, using(crate::proofs::Steps::stays))]
 fn write_diffs_member(
     alloc: Global,
     text: &mut String,
@@ -139,7 +136,6 @@ fn is_present(present: &BitView<'_>, index: usize) -> bool
 }
 
 /// Writes the member of a cell in its row, or in `diffs`.
-#[tactic(auto, using(crate::proofs::Steps::stays))]
 pub(crate) fn write_member_of(
     alloc: Global,
     text: &mut String,
@@ -163,7 +159,6 @@ pub(crate) fn write_member_of(
 }
 
 // Writes the members of the columns that are in the image.
-#[tactic(auto, using(crate::proofs::Steps::stays))]
 fn write_members<R: Row>(
     alloc: Global,
     text: &mut String,
@@ -196,8 +191,7 @@ fn write_members<R: Row>(
 /// the column is in the row's image. `text` is room for making texts.
 ///
 /// The error is the fault of the first document of JSON that has one, in the order of the columns, or
-/// `Memory`. A part of the object may then have been written.
-#[tactic(auto, using(crate::proofs::Steps::stays))]
+/// `Memory`. Then what was written before stays, and a part of the object may come after it.
 pub fn write_row(
     alloc: Global,
     text: &mut String,
@@ -218,8 +212,7 @@ pub fn write_row(
 /// same row has the same JSON. A value that was taken from the row is null.
 ///
 /// The error is the fault of the first document of JSON that has one, in the order of the columns, or
-/// `Memory`. A part of the object may then have been written.
-#[tactic(auto, using(crate::proofs::Steps::stays))]
+/// `Memory`. Then what was written before stays, and a part of the object may come after it.
 pub fn write_owned_row(
     alloc: Global,
     text: &mut String,
@@ -237,7 +230,6 @@ pub fn write_owned_row(
 }
 
 /// Writes a part of a row as an object.
-#[tactic(auto, using(crate::proofs::Steps::stays))]
 pub(crate) fn write_object<R: Row>(
     alloc: Global,
     text: &mut String,

@@ -1,4 +1,5 @@
 //! Bytes as JSON: text, numbers in bytes, and names.
+#![tactic(auto, using(crate::proofs::Steps::stays))]
 
 ghost use Rattle.std.specs.Prelude.{OnOk, ◌<◌};
 ghost use Rattle.json.specs.Tree.{json_tokens};
@@ -11,7 +12,6 @@ use json::{Writer, is_number};
 use std::alloc::AllocError;
 
 /// Writes `{"base64":".."}`.
-#[tactic(auto, using(crate::proofs::Steps::stays))]
 pub(crate) fn write_base64(
     text: &mut String,
     out: &mut Writer,
@@ -29,7 +29,6 @@ pub(crate) fn write_base64(
 }
 
 /// Writes bytes as a string if they are text of their character set, and else in base64.
-#[tactic(auto, using(crate::proofs::Steps::stays))]
 pub(crate) fn write_text(
     text: &mut String,
     out: &mut Writer,
@@ -51,7 +50,6 @@ pub(crate) fn write_text(
 }
 
 /// Writes a text as a number if it is one of JSON, and else as a string.
-#[tactic(auto, using(crate::proofs::Steps::stays))]
 pub(crate) fn write_number_or_string(out: &mut Writer, text: &str) -> Result<(), AllocError>
     ensures written { OnOk result (Adds out.old out.new (json_tokens (number_or_string text.now))) }
     ensures stays { AddsSome out.old out.new }
@@ -64,7 +62,6 @@ pub(crate) fn write_number_or_string(out: &mut Writer, text: &str) -> Result<(),
 }
 
 /// Writes a year, given by its text, as a number. 1900 is 0.
-#[tactic(auto, using(crate::proofs::Steps::stays))]
 pub(crate) fn write_year(text: &mut String, out: &mut Writer, year: &[u8]) -> Result<(), AllocError>
     ensures written { OnOk result (Adds out.old out.new (json_tokens (year_json year.now))) }
     ensures stays { AddsSome out.old out.new }

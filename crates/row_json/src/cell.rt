@@ -43,7 +43,8 @@ fn write_timestamp(
     seconds: u32,
     microseconds: u32,
 ) -> Result<(), AllocError>
-    ensures written { OnOk result (Wrote (IsTimestampJson decimals seconds microseconds) out.old out.new) }
+    ensures written { OnOk result (Wrote
+        (IsTimestampJson decimals seconds microseconds) out.old out.new) }
     ensures stays { AddsSome out.old out.new }
 {
     text.clear();
@@ -81,7 +82,8 @@ fn write_bytes(
     column: &ColumnJson,
     bytes: &[u8],
 ) -> Result<(), AllocError>
-    ensures written { OnOk result (Wrote (IsBytesJson column.now column.now.kind bytes.now) out.old out.new) }
+    ensures written { OnOk result (Wrote
+        (IsBytesJson column.now column.now.kind bytes.now) out.old out.new) }
     ensures stays { AddsSome out.old out.new }
 {
     match column.kind() {
@@ -102,7 +104,8 @@ fn write_int(
     column: &ColumnJson,
     number: i64,
 ) -> Result<(), AllocError>
-    ensures written { OnOk result (Wrote (IsIntJson column.now column.now.kind number) out.old out.new) }
+    ensures written { OnOk result (Wrote
+        (IsIntJson column.now column.now.kind number) out.old out.new) }
     ensures stays { AddsSome out.old out.new }
 {
     match column.kind() {
@@ -190,7 +193,8 @@ fn write_plain(
     column: &ColumnJson,
     value: &Value,
 ) -> Result<(), AllocError>
-    ensures written { OnOk result (Wrote (IsPlainJson column.now (plain_of value.now)) out.old out.new) }
+    ensures written { OnOk result (Wrote
+        (IsPlainJson column.now (plain_of value.now)) out.old out.new) }
     ensures stays { AddsSome out.old out.new }
 {
     match value {
@@ -234,7 +238,8 @@ fn write_value(
     column: &ColumnJson,
     value: &Value,
 ) -> Result<(), AllocError>
-    ensures written { OnOk result (Wrote (IsValueJson column.now (plain_of value.now)) out.old out.new) }
+    ensures written { OnOk result (Wrote
+        (IsValueJson column.now (plain_of value.now)) out.old out.new) }
     ensures stays { AddsSome out.old out.new }
 {
     match column.kind() {
@@ -268,7 +273,8 @@ fn write_lent_year(
     column: &ColumnJson,
     year: Year,
 ) -> Result<(), AllocError>
-    ensures written { OnOk result (Wrote (IsValueJson column.now (Bytes (decimal year.0))) out.old out.new) }
+    ensures written { OnOk result (Wrote
+        (IsValueJson column.now (Bytes (decimal year.0))) out.old out.new) }
     ensures stays { AddsSome out.old out.new }
 {
     let mut room = [0; MAX_YEAR_TEXT];

@@ -78,7 +78,8 @@ fn write_diffs_of<R: Row>(
 ) -> Result<(), Fault>
     ensures written { OnOk result (WroteMembers (AreDiffs table.now present.now
         (option_map (λ r. R.image r.now) image.entry)) out.old out.new) }
-    ensures err { IfErr result (λ e. e ≢ Fault.Memory → IsFaultOfImage parts.Diffs table.now present.now
+    ensures err { IfErr result (λ e. e ≢ Fault.Memory
+        → IsFaultOfImage parts.Diffs table.now present.now
         (option_map (λ r. R.image r.now) image.entry) e) }
     ensures sound { OnOk result (HasNone (IsFaultOfImage parts.Diffs table.now present.now
         (option_map (λ r. R.image r.now) image.entry))) }
@@ -193,9 +194,9 @@ fn write_own_images<P: Images>(
 /// `table` is of the table map event that is in force for the event. `text` is room for making texts.
 /// It takes no memory where it is kept from call to call.
 ///
-/// The error is the fault of the first document of JSON that has one, or `Memory`: in the row before the
-/// change, then in the row after it, then in the diffs. Then what was written before stays, and a part
-/// of the object may come after it.
+/// The error is the fault of the first document of JSON that has one, or `Memory`: in the row before
+/// the change, then in the row after it, then in the diffs. Then what was written before stays, and a
+/// part of the object may come after it.
 pub fn write_pair(
     alloc: Global,
     text: &mut String,
@@ -236,9 +237,9 @@ pub fn write_pair_with<M: Members>(
 /// Writes a pair of rows that own their values, as `write_pair` writes one whose cells are lent: the
 /// same pair has the same JSON.
 ///
-/// The error is the fault of the first document of JSON that has one, or `Memory`: in the row before the
-/// change, then in the row after it, then in the diffs. Then what was written before stays, and a part
-/// of the object may come after it.
+/// The error is the fault of the first document of JSON that has one, or `Memory`: in the row before
+/// the change, then in the row after it, then in the diffs. Then what was written before stays, and a
+/// part of the object may come after it.
 pub fn write_owned_pair(
     alloc: Global,
     text: &mut String,

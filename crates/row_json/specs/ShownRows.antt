@@ -4,9 +4,11 @@ use Rattle.binlog_base.specs.Values.{value_at, Null}
 use Rattle.binlog_cells.specs.Cells.{Cell, PlainCell, JsonCell, DiffsCell}
 use Rattle.mysql_binlog_rows.specs.Images.{BinlogRow, Pair}
 use Rattle.mysql_binlog_rows.specs.RowsEvent.{RowsEvent}
+use Rattle.binlog_values.specs.JsonbValues.{JsonbValue}
 use Rattle.json.specs.Json.{Json}
+use Rattle.json.specs.Tree.{HasNumbers}
 use Rattle.row_json.specs.Columns.{Column, columns_in}
-use Rattle.row_json.specs.Documents.{IsDiffsJson}
+use Rattle.row_json.specs.Documents.{IsDocumentJson, IsDiffsJson}
 use Rattle.row_json.specs.Rows.{IsCellJson, operation_of, before_in, after_in}
 use Rattle.row_json.specs.Shown.{shown, AreOfOneColumn}
 
@@ -45,6 +47,10 @@ EachCell Holds cs present x y =
 -- two rows of one table with the same columns
 abbrev pub AreRowsOfOneTable : List Column → List Bool → BinlogRow → BinlogRow → Type 0
 AreRowsOfOneTable = EachCell AreCellsOfOneColumn
+
+-- The numbers in the JSON of a row's documents are numbers of JSON, as all of at most 64 bits are.
+abbrev pub DocumentsHaveNumbers : BinlogRow → Type 0
+DocumentsHaveNumbers x = (k : ℕ) (d : JsonbValue) (j : Json) → value_at x.values k ≡ Some (JsonCell d) → IsDocumentJson d j → HasNumbers j
 
 -- ---- pairs
 

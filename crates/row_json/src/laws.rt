@@ -5,14 +5,14 @@ ghost use Rattle.binlog_base.specs.Values.{PlainValue};
 ghost use Rattle.binlog_table.specs.TableColumns as table;
 ghost use Rattle.json.specs.Json.{Json};
 ghost use Rattle.json.specs.Print.{print};
-ghost use Rattle.json.specs.Tree.{json_tokens, HasNumbers};
+ghost use Rattle.json.specs.Tree.{json_tokens};
 ghost use Rattle.mysql_binlog_rows.specs.Images.{BinlogRow, Pair};
 ghost use Rattle.mysql_binlog_rows.specs.RowsEvent.{RowsEvent};
 ghost use Rattle.row_json.specs.Columns.{Column, Names, column_of};
 ghost use Rattle.row_json.specs.Rows.{IsRowJson, IsPairJson, IsLine, operation_of};
 ghost use Rattle.row_json.specs.Values.{IsValueJson};
 ghost use Rattle.row_json.specs.Shown.{shown, shown_enum, shown_set, AreOfOneColumn, IsCellOf, AreApart, HaveNoCommas};
-ghost use Rattle.row_json.specs.ShownRows.{ShowTheSame, EachCell, AreRowsOfOneTable, ArePairsOfOneTable, PairsShowTheSame};
+ghost use Rattle.row_json.specs.ShownRows.{ShowTheSame, EachCell, AreRowsOfOneTable, DocumentsHaveNumbers, ArePairsOfOneTable, PairsShowTheSame};
 ghost use Rattle.row_json.specs.Wrote.{Named};
 
 /// Different values of a column have different texts, as far as the JSON of a value shows it (`shown`):
@@ -30,16 +30,16 @@ pub fn json_shows_values()
 {}
 
 /// Rows with the same JSON show the same of each cell: two rows of one table with the same columns in
-/// their images (`rows`). So do rows whose JSON has the same text (`texts`). There each number's text
-/// is a number of JSON, and a `Writer` writes no other.
+/// their images (`rows`). So do rows whose JSON has the same text (`texts`), if the numbers of their
+/// documents are numbers of JSON: a `Writer` writes no other.
 pub fn json_shows_rows()
     ensures rows { (cs : List Column) (present : List Bool) (x y : BinlogRow) (j : Json)
         → AreRowsOfOneTable cs present x y → IsRowJson cs present x j → IsRowJson cs present y j
         → EachCell ShowTheSame cs present x y }
     ensures texts { (cs : List Column) (present : List Bool) (x y : BinlogRow) (j k : Json)
-        → AreRowsOfOneTable cs present x y → IsRowJson cs present x j → IsRowJson cs present y k
-        → HasNumbers j → HasNumbers k → print (json_tokens j) ≡ print (json_tokens k)
-        → EachCell ShowTheSame cs present x y }
+        → AreRowsOfOneTable cs present x y → DocumentsHaveNumbers x → DocumentsHaveNumbers y
+        → IsRowJson cs present x j → IsRowJson cs present y k
+        → print (json_tokens j) ≡ print (json_tokens k) → EachCell ShowTheSame cs present x y }
 {}
 
 /// Pairs of rows with the same JSON show the same: two pairs of one table, of events with the same

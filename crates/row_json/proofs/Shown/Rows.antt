@@ -1,24 +1,26 @@
 -- Rows with the same JSON show the same of each cell.
 use Rattle.std.proofs.Common.{◌≡◌, ℕ, zero, suc, ◌+◌, Bool, true, false, List, [], ◌∷◌, ◌++◌, refl, sym, ap, ◌∙◌, subst, arith}
-use Rattle.std.specs.Prelude.{Option, Some, slice_get}
+use Rattle.std.specs.Prelude.{Option, Some, None, slice_get, ⊤}
 use Rattle.binlog_base.specs.Values.{value_at}
+use Rattle.binlog_values.specs.JsonbValues.{JsonbValue}
 use Rattle.binlog_cells.specs.Cells.{Cell, PlainCell, JsonCell, DiffsCell}
 use Rattle.mysql_binlog_rows.specs.Images.{BinlogRow}
-use Rattle.json.specs.Json.{Json, object, document}
+use Rattle.json.specs.Json.{Json, null, object, document}
 use Rattle.json.specs.Print.{print}
-use Rattle.json.specs.Tree.{json_tokens, HasNumbers}
+use Rattle.json.specs.Tree.{json_tokens, HasNumbers, MembersHaveNumbers}
 use Rattle.json.proofs.Printed.Trees.{document-print}
 use Rattle.row_json.specs.declared.row.Part.{Part}
 use Rattle.row_json.specs.declared.row.Part.TheVariants as part
 use Rattle.row_json.specs.Columns.{Column, columns_in}
 use Rattle.row_json.specs.Documents.{IsDocumentJson, IsDiffsJson}
-use Rattle.row_json.specs.Rows.{IsMemberOf, AreMembers, IsObjectOf, IsRowJson}
-use Rattle.row_json.specs.Values.{IsValueJson}
+use Rattle.row_json.specs.Rows.{IsMember, IsMemberOf, AreMembers, IsObjectOf, IsRowJson}
+use Rattle.row_json.specs.Values.{with_sign, IsValueJson}
 use Rattle.row_json.specs.Wrote.{Named, members_of}
-use Rattle.row_json.specs.Shown.{shown}
-use Rattle.row_json.specs.ShownRows.{AreCellsOfOneColumn, ShowTheSame, ShowTheSameDiffs, EachCell, AreRowsOfOneTable}
+use Rattle.row_json.specs.Shown.{shown, IsInRange}
+use Rattle.row_json.specs.ShownRows.{AreCellsOfOneColumn, ShowTheSame, ShowTheSameDiffs, EachCell, AreRowsOfOneTable, DocumentsHaveNumbers}
 use Rattle.row_json.proofs.Depths.{object_fits}
-use Rattle.row_json.proofs.Shown.Values.{json_shows}
+use Rattle.row_json.proofs.Shown.Values.{json_shows, signed_text}
+use Rattle.row_json.proofs.Shown.Texts.{plain_numbers}
 
 -- ---- cells
 
@@ -119,11 +121,65 @@ objects_show p cs present x y j are a b k c get =
 pub rows_show : (cs : List Column) (present : List Bool) (x y : BinlogRow) (j : Json) → AreRowsOfOneTable cs present x y → IsRowJson cs present x j → IsRowJson cs present y j → EachCell ShowTheSame cs present x y
 rows_show cs present x y j are a b = objects_show part.Row cs present x y j are a b
 
-pub row_texts_show : (cs : List Column) (present : List Bool) (x y : BinlogRow) (j k : Json) → AreRowsOfOneTable cs present x y → IsRowJson cs present x j → IsRowJson cs present y k → HasNumbers j → HasNumbers k →
+-- ---- numbers
+
+-- a value has numbers in its ranges
+InRange : Option Cell → Type 0
+InRange (Some (PlainCell v)) = IsInRange v
+InRange _ = ⊤
+
+first_range : (c : Column) (x y : Option Cell) → AreCellsOfOneColumn c x y → InRange x
+unfolding InRange
+first_range c (Some (PlainCell v)) (Some (PlainCell w)) are = are.first.in_range
+first_range c (Some (PlainCell v)) (Some (JsonCell y)) are = subst IsInRange (sym are) tt
+first_range c (Some (JsonCell x)) y are = tt
+first_range c (Some (DiffsCell x)) y are = tt
+first_range c _ _ are = absurd are
+
+second_range : (c : Column) (x y : Option Cell) → AreCellsOfOneColumn c x y → InRange y
+unfolding InRange
+second_range c (Some (PlainCell v)) (Some (PlainCell w)) are = are.second.in_range
+second_range c (Some (JsonCell x)) (Some (PlainCell w)) are = subst IsInRange (sym are) tt
+second_range c x (Some (JsonCell y)) are = tt
+second_range c x (Some (DiffsCell y)) are = tt
+second_range c _ _ are = absurd are
+
+joined_numbers : (f r : List Named) → MembersHaveNumbers (members_of f) → MembersHaveNumbers (members_of r) → MembersHaveNumbers (members_of (f ++ r))
+joined_numbers [] r a b = b
+joined_numbers (m ∷ ms) r a b = (a.0, joined_numbers ms r a.1 b)
+
+one_number : (n : List ℕ) (j : Json) (f : List Named) → f ≡ (n, j) ∷ [] → HasNumbers j → MembersHaveNumbers (members_of f)
+one_number n j f e has = subst (λ (l : List Named). MembersHaveNumbers (members_of l)) (sym e) (has, tt)
+
+cell_numbers : (c : Column) (x : Option Cell) (f : List Named) → InRange x → ((d : JsonbValue) (j : Json) → x ≡ Some (JsonCell d) → IsDocumentJson d j → HasNumbers j) → IsMember c x f → MembersHaveNumbers (members_of f)
+unfolding InRange
+cell_numbers c None f range docs a = one_number c.name null f a tt
+cell_numbers c (Some (PlainCell v)) f range docs a = one_number c.name a.0 f a.2 (plain_numbers c (with_sign c.kind v) a.0 (signed_text c.kind v range) a.1)
+cell_numbers c (Some (JsonCell d)) f range docs a = one_number c.name a.0 f a.2 (docs d a.0 refl a.1)
+cell_numbers c (Some (DiffsCell d)) f range docs a = subst (λ (l : List Named). MembersHaveNumbers (members_of l)) (sym a) tt
+
+members_numbers : (cs : List Column) (present : List Bool) (place : ℕ) (v : List (Option Cell)) (ms : List Named) → ((k i : ℕ) (c : Column) → i ≡ place + k → slice_get (columns_in cs present) k ≡ Some c → InRange (value_at v i)) →
+    ((k : ℕ) (d : JsonbValue) (j : Json) → value_at v k ≡ Some (JsonCell d) → IsDocumentJson d j → HasNumbers j) → AreMembers part.Row cs present place v ms → MembersHaveNumbers (members_of ms)
+members_numbers [] present place v ms ranges docs a = subst (λ (l : List Named). MembersHaveNumbers (members_of l)) (sym a) tt
+members_numbers (c ∷ cs) [] place v ms ranges docs a = subst (λ (l : List Named). MembersHaveNumbers (members_of l)) (sym a) tt
+members_numbers (c ∷ cs) (false ∷ present) place v ms ranges docs a = members_numbers cs present place v ms ranges docs a
+members_numbers (c ∷ cs) (true ∷ present) place v ms ranges docs a =
+    let first = cell_numbers c (value_at v place) a.0 (ranges 0 place c (omega arith) refl) (docs place) a.2 in
+    let more = members_numbers cs present (suc place) v a.1 (λ k i d at get. ranges (suc k) i d (omega arith) get) docs a.3 in
+    subst (λ (l : List Named). MembersHaveNumbers (members_of l)) (sym a.4) (joined_numbers a.0 a.1 first more)
+
+row_numbers : (cs : List Column) (present : List Bool) (x : BinlogRow) (j : Json) → ((k : ℕ) (c : Column) → slice_get (columns_in cs present) k ≡ Some c → InRange (value_at x.values k)) → DocumentsHaveNumbers x → IsRowJson cs present x j → HasNumbers j
+row_numbers cs present x j ranges docs a =
+    let all = members_numbers cs present 0 x.values a.0 (λ k i c at get. let e : k ≡ i = omega arith in subst (λ (n : ℕ). InRange (value_at x.values n)) e (ranges k c get)) docs a.1 in
+    subst HasNumbers (sym a.2) all
+
+pub row_texts_show : (cs : List Column) (present : List Bool) (x y : BinlogRow) (j k : Json) → AreRowsOfOneTable cs present x y → DocumentsHaveNumbers x → DocumentsHaveNumbers y → IsRowJson cs present x j → IsRowJson cs present y k →
     print (json_tokens j) ≡ print (json_tokens k) → EachCell ShowTheSame cs present x y
-row_texts_show cs present x y j k are a b m n e =
-    let first : document (print (json_tokens j)) ≡ Some j = document-print j m (omega (arith, object_fits part.Row cs present x j a)) in
-    let second : document (print (json_tokens k)) ≡ Some k = document-print k n (omega (arith, object_fits part.Row cs present y k b)) in
+row_texts_show cs present x y j k are m n a b e =
+    let p = row_numbers cs present x j (λ i c get. first_range c (value_at x.values i) (value_at y.values i) (are i c get)) m a in
+    let q = row_numbers cs present y k (λ i c get. second_range c (value_at x.values i) (value_at y.values i) (are i c get)) n b in
+    let first : document (print (json_tokens j)) ≡ Some j = document-print j p (omega (arith, object_fits part.Row cs present x j a)) in
+    let second : document (print (json_tokens k)) ≡ Some k = document-print k q (omega (arith, object_fits part.Row cs present y k b)) in
     let read : Some j ≡ Some k = sym first ∙ (ap document e ∙ second) in
     let same : j ≡ k = cc (read) in
     rows_show cs present x y j are a (subst (IsRowJson cs present y) (sym same) b)

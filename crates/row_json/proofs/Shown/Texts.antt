@@ -83,7 +83,7 @@ float_numbers : (f : Format) (x : FloatValue) (j : Json) (p : Bool) → MatchBoo
 float_numbers f x j true a = subst HasNumbers (sym a.1) (IsNumber-plain a.0 a.2)
 float_numbers f x j false a = subst HasNumbers (sym a) tt
 
-plain_numbers : (c : Column) (v : PlainValue) (j : Json) → HasText v → IsPlainJson c v j → HasNumbers j
+pub plain_numbers : (c : Column) (v : PlainValue) (j : Json) → HasText v → IsPlainJson c v j → HasNumbers j
 unfolding HasText
 plain_numbers c Null j h a = subst HasNumbers (sym a) tt
 plain_numbers c (Bytes x) j h a = bytes_numbers c c.kind x j h a

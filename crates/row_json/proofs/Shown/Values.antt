@@ -14,7 +14,7 @@ use Rattle.row_json.proofs.Shown.FromJson.{HasText, plain_told}
 use Rattle.row_json.proofs.Shown.ToJson.{plain_json}
 use Rattle.row_json.proofs.Shown.Texts.{same_json}
 
-signed_text : (k : Kind) (v : PlainValue) → IsInRange v → HasText (with_sign k v)
+pub signed_text : (k : Kind) (v : PlainValue) → IsInRange v → HasText (with_sign k v)
 unfolding HasText
 signed_text k (Time p d h i s u) fits = let t = time_with_sign k p d h i s u fits in
     subst HasText (sym t.is) (record { first = t.hours_short; middle = t.minutes_short; last = t.seconds_short })

@@ -1,8 +1,10 @@
 -- What the JSON of rows, and of pairs of rows, shows of them.
-use Rattle.std.specs.Prelude.{◌≡◌, ℕ, Bool, List, Option, Some, None, slice_get, ⊤}
+use Rattle.std.specs.Prelude.{◌≡◌, ℕ, Bool, List, [], Option, Some, None, slice_get, ⊤}
+use Rattle.binlog_base.specs.Numbers.{AreBytes}
 use Rattle.binlog_base.specs.Values.{value_at, Null}
 use Rattle.binlog_cells.specs.Cells.{Cell, PlainCell, JsonCell, DiffsCell}
-use Rattle.mysql_binlog_rows.specs.Images.{BinlogRow, Pair}
+use Rattle.mysql_binlog_rows.specs.Images.{BinlogRow, Pair, nullable_cell}
+use Rattle.binlog_table.specs.TableColumns as table
 use Rattle.mysql_binlog_rows.specs.RowsEvent.{RowsEvent}
 use Rattle.binlog_values.specs.JsonbValues.{JsonbValue}
 use Rattle.json.specs.Json.{Json}
@@ -23,6 +25,13 @@ AreCellsOfOneColumn c (Some (JsonCell x)) (Some (PlainCell w)) = w ≡ Null
 AreCellsOfOneColumn c (Some (JsonCell x)) (Some (JsonCell y)) = ⊤
 AreCellsOfOneColumn c (Some (DiffsCell x)) (Some (DiffsCell y)) = ⊤
 AreCellsOfOneColumn c x y = ⊥
+
+-- a cell that some bytes spell for this column, in an image without partial bits
+pub record IsWholeCellOf (c : table.Column) (x : Cell) : Type 0 where
+  pub is_null : Bool
+  pub bytes : List ℕ
+  pub are : AreBytes bytes
+  pub spelled : (nullable_cell is_null [] c).spells bytes x
 
 -- The same is shown of two cells in their rows: of values what `shown` says, of documents their JSON.
 -- Diffs aren't shown there.

@@ -1,6 +1,7 @@
 //! Laws of values as JSON, as public calls that do nothing.
 
-ghost use Rattle.std.specs.Prelude.{◌≡◌, ◌↔◌, ℕ, Bool, List, Option};
+ghost use Rattle.std.specs.Prelude.{◌≡◌, ◌↔◌, ℕ, Bool, List, Option, Some};
+ghost use Rattle.binlog_cells.specs.Cells.{Cell};
 ghost use Rattle.binlog_base.specs.Values.{PlainValue};
 ghost use Rattle.binlog_table.specs.TableColumns as table;
 ghost use Rattle.json.specs.Json.{Json};
@@ -12,7 +13,7 @@ ghost use Rattle.row_json.specs.Columns.{Column, Names, column_of};
 ghost use Rattle.row_json.specs.Rows.{IsRowJson, IsPairJson, IsLine, operation_of};
 ghost use Rattle.row_json.specs.Values.{IsValueJson};
 ghost use Rattle.row_json.specs.Shown.{shown, shown_enum, shown_set, AreOfOneColumn, IsCellOf, AreApart, HaveNoCommas};
-ghost use Rattle.row_json.specs.ShownRows.{ShowTheSame, EachCell, AreRowsOfOneTable, DocumentsHaveNumbers, ArePairsOfOneTable, PairsShowTheSame};
+ghost use Rattle.row_json.specs.ShownRows.{AreCellsOfOneColumn, IsWholeCellOf, ShowTheSame, EachCell, AreRowsOfOneTable, DocumentsHaveNumbers, ArePairsOfOneTable, PairsShowTheSame};
 ghost use Rattle.row_json.specs.Wrote.{Named};
 
 /// Different values of a column have different texts, as far as the JSON of a value shows it (`shown`):
@@ -31,7 +32,8 @@ pub fn json_shows_values()
 
 /// Rows with the same JSON show the same of each cell: two rows of one table with the same columns in
 /// their images (`rows`). So do rows whose JSON has the same text (`texts`), if the numbers of their
-/// documents are numbers of JSON: a `Writer` writes no other.
+/// documents are numbers of JSON: a `Writer` writes no other. Any two cells of a column of a table,
+/// documents among them and no diffs, are cells of one column (`cells`).
 pub fn json_shows_rows()
     ensures rows { (cs : List Column) (present : List Bool) (x y : BinlogRow) (j : Json)
         → AreRowsOfOneTable cs present x y → IsRowJson cs present x j → IsRowJson cs present y j
@@ -40,6 +42,9 @@ pub fn json_shows_rows()
         → AreRowsOfOneTable cs present x y → DocumentsHaveNumbers x → DocumentsHaveNumbers y
         → IsRowJson cs present x j → IsRowJson cs present y k
         → print (json_tokens j) ≡ print (json_tokens k) → EachCell ShowTheSame cs present x y }
+    ensures cells { (i : ℕ) (names : Names) (c : table.Column) (x y : Cell)
+        → IsWholeCellOf c x → IsWholeCellOf c y
+        → AreCellsOfOneColumn (column_of i names c) (Some x) (Some y) }
 {}
 
 /// Pairs of rows with the same JSON show the same: two pairs of one table, of events with the same

@@ -35,9 +35,13 @@ use Rattle.binlog_cells.specs.declared.value.form.Form.{Form}
 use Rattle.binlog_cells.specs.declared.value.form.Form.TheVariants as way
 use Rattle.binlog_cells.specs.declared.value.form.Width.{Width}
 use Rattle.binlog_cells.specs.declared.value.form.Width.TheVariants as width
-use Rattle.binlog_cells.specs.Cells.{PlainCell, JsonCell, DiffsCell, cell, cell_by, json_cell, form_of, element_form, typed_form, plain_form, plain_by, integer, long_integer, float_bits, double_bits, timestamp_cell, time_cell, datetime_cell, year_cell, date_cell, timestamp2_cell, datetime2_cell, time2_cell, decimal_cell, fixed_bytes, text, text_cell, variant_cell, bytes_in, timestamp_text, places_text, int_value, time_of_digits, date_of_bits, year_text, date_of_digits}
+use Rattle.std.specs.Prelude.{◌&&◌, slice_index_or, Some}
+use Rattle.binlog_values.specs.JsonbValues.{JsonbValue}
+use Rattle.binlog_values.specs.JsonDiffs.{Diff}
+use Rattle.row_json.specs.ShownRows.{IsWholeCellOf, AreCellsOfOneColumn}
+use Rattle.binlog_cells.specs.Cells.{Cell, PlainCell, JsonCell, DiffsCell, cell, cell_by, json_cell, form_of, element_form, typed_form, plain_form, plain_by, integer, long_integer, float_bits, double_bits, timestamp_cell, time_cell, datetime_cell, year_cell, date_cell, timestamp2_cell, datetime2_cell, time2_cell, decimal_cell, fixed_bytes, text, text_cell, variant_cell, bytes_in, timestamp_text, places_text, int_value, time_of_digits, date_of_bits, year_text, date_of_digits}
 use Rattle.binlog_table.specs.TableColumns as table
-use Rattle.mysql_binlog_rows.specs.Images.{nullable_cell, is_partial}
+use Rattle.mysql_binlog_rows.specs.Images.{nullable_cell, is_partial, is_json}
 use Rattle.row_json.specs.declared.kind.Kind.{Kind}
 use Rattle.row_json.specs.declared.kind.Kind.TheVariants as kind
 use Rattle.row_json.specs.Columns.{Names, column_of}
@@ -529,3 +533,59 @@ of_one_column i names t v w a b =
     let p = read t v a in
     let q = read t w b in
     record { alike = alike t v w p q; first = of_column i names t v p; second = of_column i names t w q }
+
+-- ---- cells that may be documents
+
+not_partial : (b : Bool) (n : ℕ) → (b && slice_index_or [] n false) ≡ false
+not_partial true n = refl
+not_partial false n = refl
+
+not_json : (x : List ℕ) (n : ℕ) (partial : Bool) (d : List Diff) → partial ≡ false → (choice partial (map_value (inside n (repeated diff)) DiffsCell) (map_value (inside n json) JsonCell)).spells x (DiffsCell d) → ⊥
+not_json x n true d e s = cc (e)
+not_json x n false d e s = cc (s.5.1)
+
+-- a document is read by the form of documents
+json_read : (t : table.Column) (d : JsonbValue) → IsWholeCellOf t (JsonCell d) → form_of t.column_type (unwrap_or t.metadata []) t.unsigned ≡ Ok way.Json
+unfolding nullable_cell cell cell_by json_cell
+json_read t d whole = by whole.is_null whole.spelled
+  where
+    by_form_of : (f : Form) (partial : Bool) (z : List ℕ) → form_of t.column_type (unwrap_or t.metadata []) t.unsigned ≡ Ok f → (cell_by partial f).spells z (JsonCell d) → form_of t.column_type (unwrap_or t.metadata []) t.unsigned ≡ Ok way.Json
+    by_form_of (way.Plain f) partial z is s = absurd (cc (s.5.1))
+    by_form_of way.Json partial z is s = is
+
+    by : (p : Bool) → (nullable_cell p [] t).spells whole.bytes (JsonCell d) → form_of t.column_type (unwrap_or t.metadata []) t.unsigned ≡ Ok way.Json
+    by true s = absurd (cc (s.1))
+    by false s = by_form_of s.0 (is_partial [] t) s.2 s.4.1 s.5
+
+-- there are no diffs
+no_diffs : (t : table.Column) (d : List Diff) → IsWholeCellOf t (DiffsCell d) → ⊥
+unfolding nullable_cell cell cell_by json_cell
+no_diffs t d whole = by whole.is_null whole.spelled
+  where
+    by_form_of : (f : Form) (partial : Bool) (z : List ℕ) → partial ≡ false → (cell_by partial f).spells z (DiffsCell d) → ⊥
+    by_form_of (way.Plain f) partial z is s = cc (s.5.1)
+    by_form_of way.Json partial z is s = not_json s.2 s.0 partial d is s.5
+
+    by : (p : Bool) → (nullable_cell p [] t).spells whole.bytes (DiffsCell d) → ⊥
+    by true s = cc (s.1)
+    by false s = by_form_of s.0 (is_partial [] t) s.2 (not_partial (is_json t.column_type) t.json_place) s.5
+
+plain_of_cell : (t : table.Column) (v : PlainValue) → IsWholeCellOf t (PlainCell v) → IsCellOf t v
+plain_of_cell t v cell = record { is_null = cell.is_null; partials = []; bytes = cell.bytes; are = cell.are; spelled = cell.spelled }
+
+-- beside a document stands NULL
+only_null_beside : (t : table.Column) (v : PlainValue) (d : JsonbValue) → IsWholeCellOf t (PlainCell v) → IsWholeCellOf t (JsonCell d) → v ≡ Null
+unfolding IsRead
+only_null_beside t v d a b = by (read t v (plain_of_cell t v a))
+  where
+    by : IsRead t v → v ≡ Null
+    by (inl e) = e
+    by (inr r) = let other = json_read t d b in absurd (cc (r.is, other))
+
+pub cells_of_one_column : (i : ℕ) (names : Names) (t : table.Column) (x y : Cell) → IsWholeCellOf t x → IsWholeCellOf t y → AreCellsOfOneColumn (column_of i names t) (Some x) (Some y)
+cells_of_one_column i names t (PlainCell v) (PlainCell w) a b = of_one_column i names t v w (plain_of_cell t v a) (plain_of_cell t w b)
+cells_of_one_column i names t (PlainCell v) (JsonCell e) a b = only_null_beside t v e a b
+cells_of_one_column i names t (JsonCell d) (PlainCell w) a b = only_null_beside t w d b a
+cells_of_one_column i names t (JsonCell d) (JsonCell e) a b = tt
+cells_of_one_column i names t (DiffsCell d) y a b = absurd (no_diffs t d a)
+cells_of_one_column i names t x (DiffsCell e) a b = absurd (no_diffs t e b)

@@ -7,6 +7,8 @@ use Rattle.binlog_base.specs.declared.fault.Fault.TheVariants as fault
 use Rattle.mysql_binlog_rows.specs.Images.{Pair}
 use Rattle.binlog_file.specs.Changes.{Wanted, Spot}
 use Rattle.binlog_file.specs.LentChanges.{LentChange}
+use Rattle.mysql_binlog_rows.specs.RowsEvent.{RowsEvent}
+use Rattle.row_json.specs.Columns.{Column}
 use Rattle.row_json.specs.Faults.{IsFaultOfPair}
 use Rattle.changes.specs.declared.error.Failure.{Failure}
 use Rattle.changes.specs.declared.error.Failure.TheVariants as failure
@@ -122,8 +124,8 @@ not_at_event (failure.Output e) wanted at not = tt
 not_at_event failure.Memory wanted at not = tt
 
 -- the failure of a row whose line can't be made is that of one of its documents
-pub line_failure : (at row : ℕ) (f : Fault) (p : Pair) (why : Failure) → IsRowFailure at row f why → (f ≢ fault.Memory → IsFaultOfPair p f) → IsLineFailure at p why
-line_failure at row f p (failure.File e) h is = (h.1, row, f, is h.0, h.2)
-line_failure at row f p (failure.NoEvent n) h is = absurd h
-line_failure at row f p (failure.Output e) h is = absurd h
-line_failure at row f p failure.Memory h is = tt
+pub line_failure : (cs : List Column) (d : RowsEvent) (at row : ℕ) (f : Fault) (p : Pair) (why : Failure) → IsRowFailure at row f why → (f ≢ fault.Memory → IsFaultOfPair cs d p f) → IsLineFailure cs d at p why
+line_failure cs d at row f p (failure.File e) h is = (h.1, row, f, is h.0, h.2)
+line_failure cs d at row f p (failure.NoEvent n) h is = absurd h
+line_failure cs d at row f p (failure.Output e) h is = absurd h
+line_failure cs d at row f p failure.Memory h is = tt

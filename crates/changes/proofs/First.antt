@@ -15,6 +15,7 @@ use Rattle.binlog_file.specs.Changes.{Wanted, Spot, first_spot}
 use Rattle.binlog_file.specs.Stream.{Kept, Reading, first_kept}
 use Rattle.binlog_file.specs.LentChanges.{LentChange, PairGives}
 use Rattle.binlog_file.specs.SourceChanges.{Found, Finds, spot_at}
+use Rattle.row_json.specs.Columns.{columns_of}
 use Rattle.changes.specs.declared.error.Failure.{Failure}
 use Rattle.changes.specs.declared.error.Failure.TheVariants as failure
 use Rattle.changes.specs.declared.run.Form.{Form}
@@ -55,7 +56,7 @@ row_error c old new p e table rows origin gives = (
 )
 
 -- neither is one whose line can't be made
-pub line_error : (c old new : LentChange) (p : Pair) (u : Unit {0}) (why : Failure) → old.table ≡ c.table → old.rows ≡ c.rows → PairGives old p (Some (Ok u)) new → IsLineFailure c.origin.position p why → EndsAtRow why c old.left
+pub line_error : (c old new : LentChange) (p : Pair) (u : Unit {0}) (why : Failure) → old.table ≡ c.table → old.rows ≡ c.rows → PairGives old p (Some (Ok u)) new → IsLineFailure (columns_of c.table) c.rows c.origin.position p why → EndsAtRow why c old.left
 line_error c old new p u (failure.File e) table rows gives is =
     let here = subst (λ (d : RowsEvent). IsPair (pair c.table d) gives.0 p) rows (subst (λ (t : TableMap). IsPair (pair t old.rows) gives.0 p) table gives.2) in
     (is.0, inr (is.1, is.2, inr (gives.0, new.left, p, gives.1, here, is.3), is.4))

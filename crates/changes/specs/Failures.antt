@@ -3,6 +3,7 @@ use Rattle.std.specs.Prelude.{◌≡◌, ◌≢◌, ◌⊎◌, ℕ, true, false,
 use Rattle.std.specs.Io.KnownBytes.{Appends}
 use Rattle.binlog_base.specs.declared.fault.Fault.{Fault}
 use Rattle.binlog_base.specs.declared.fault.Fault.TheVariants as fault
+use Rattle.mysql_binlog_rows.specs.RowsEvent.{RowsEvent}
 use Rattle.mysql_binlog_rows.specs.Images.{Pair, pair}
 use Rattle.mysql_binlog_rows.specs.Cover.{IsPair, EndsWith}
 use Rattle.binlog_events.specs.declared.error.EventError.TheVariants as error
@@ -15,6 +16,7 @@ use Rattle.binlog_file.specs.LentEvents as Events
 use Rattle.binlog_file.specs.LentEvents.{Shows, GoesPast}
 use Rattle.binlog_file.specs.declared.lent_changes.LentEvent.{LentEvent}
 use Rattle.binlog_file.specs.declared.lent_changes.LentEvent.TheVariants as lent
+use Rattle.row_json.specs.Columns.{Column, columns_of}
 use Rattle.row_json.specs.Faults.{IsFaultOfPair}
 use Rattle.changes.specs.declared.error.Failure.{Failure}
 use Rattle.changes.specs.declared.error.Failure.TheVariants as failure
@@ -34,11 +36,11 @@ abbrev pub IsNotOfFile : Failure → Type 0
 IsNotOfFile (failure.File e) = ⊥
 IsNotOfFile _ = ⊤
 
--- the row at the start of this rest can't be read, or one of its documents can't
+-- the row at the start of this rest can't be read, or can't be written: its first faulty document is this
 abbrev pub HasFault : LentChange → List ℕ → Fault → Type 0
 HasFault c rest f =
     EndsWith (pair c.table c.rows) rest (Some f)
-    ⊎ ((x more : List ℕ) × (p : Pair) × (rest ≡ x ++ more) × IsPair (pair c.table c.rows) x p × IsFaultOfPair p f)
+    ⊎ ((x more : List ℕ) × (p : Pair) × (rest ≡ x ++ more) × IsPair (pair c.table c.rows) x p × IsFaultOfPair (columns_of c.table) c.rows p f)
 
 -- the error of the row of an event with which this rest begins, or that memory was refused
 abbrev pub IsErrorOfRow : LentChange → List ℕ → FileError → Type 0
@@ -133,7 +135,7 @@ IsRowFailure at row f failure.Memory = ⊤
 IsRowFailure at row f _ = ⊥
 
 -- the line of this row of the event at a position can't be made
-abbrev pub IsLineFailure : ℕ → Pair → Failure → Type 0
-IsLineFailure at p (failure.File e) = (e.position ≡ at) × (row : ℕ) × (f : Fault) × IsFaultOfPair p f × (e.error ≡ error.RowsData row f)
-IsLineFailure at p failure.Memory = ⊤
-IsLineFailure at p _ = ⊥
+abbrev pub IsLineFailure : List Column → RowsEvent → ℕ → Pair → Failure → Type 0
+IsLineFailure cs rows at p (failure.File e) = (e.position ≡ at) × (row : ℕ) × (f : Fault) × IsFaultOfPair cs rows p f × (e.error ≡ error.RowsData row f)
+IsLineFailure cs rows at p failure.Memory = ⊤
+IsLineFailure cs rows at p _ = ⊥

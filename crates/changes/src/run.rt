@@ -4,6 +4,7 @@ ghost use Rattle.std.specs.Prelude.{◌≡◌, ◌≢◌, ◌⊎◌, ℕ, List, 
 ghost use Rattle.std.specs.String.{string_bytes};
 ghost use Rattle.std.specs.Io.KnownBytes.{Appends};
 ghost use Rattle.row_json.specs.Rows.{IsLine};
+ghost use Rattle.row_json.specs.Columns.{columns_of};
 ghost use Rattle.row_lines.specs.Lines.{line_text};
 ghost use Rattle.std.specs.Prelude.{◌^◌, ◌<◌, length, Some, None, Err, IfSome, IsSome, IsOk};
 ghost use Rattle.mysql_binlog_rows.specs.Images.{Pair, pair};
@@ -185,7 +186,8 @@ impl Lines {
             × IsLine table.now event.now (members_in source.now) pair.now line
             × (self.new.bytes.items ≡ self.old.bytes.items ++ line)) }
         ensures kept { OnErr result (self.new.bytes.items ≡ self.old.bytes.items) }
-        ensures failed { IfErr result (IsLineFailure source.now.origin.position pair.now) }
+        ensures failed { IfErr result (IsLineFailure table.now event.now source.now.origin.position
+            pair.now) }
     {
         let bytes = &mut self.bytes;
         match write_line_with(alloc, &mut self.room, bytes, table, event, pair, source) {
@@ -229,7 +231,8 @@ fn write_json_rows<'f, S: Bytes + Drop, O: Write>(
     ensures lines { OnOk result (WritesRows (IsJsonLine table.now change.entry.rows source.now)
         change.entry (O.contents out.old) lines.old.bytes.items (O.contents out.new)
         lines.new.bytes.items) }
-    ensures first { source.now.origin ≡ change.entry.origin → IfErr result (λ why. WritesFirstRows why
+    ensures first { source.now.origin ≡ change.entry.origin → table.now ≡ columns_of change.entry.table
+        → IfErr result (λ why. WritesFirstRows why
         (IsJsonLine table.now change.entry.rows source.now) change.entry (O.contents out.old)
         lines.old.bytes.items (O.contents out.new) lines.new.bytes.items) }
     ensures stays { OnOk result (Stays changes.old changes.new) }

@@ -1,5 +1,6 @@
-use Rattle.std.proofs.Common.{◌≡◌, ℕ, [], ◌∷◌, ◌++◌, length, refl, ◌∙◌, subst, arith, length-append, ap}
+use Rattle.std.proofs.Common.{◌≡◌, ℕ, List, [], ◌∷◌, ◌++◌, length, refl, ◌∙◌, subst, arith, length-append, ap}
 use Rattle.mysql_binlog_rows.specs.RowsEvent.{RowsEvent}
+use Rattle.row_json.specs.Columns.{Column}
 use Rattle.row_json.specs.Rows.{IsLine}
 use Rattle.binlog_events.specs.declared.origin.Origin.{Origin}
 use Rattle.changes.specs.declared.error.Failure.TheVariants as failure
@@ -62,7 +63,7 @@ returns-in_err-read-clause-first g c =
     let error = c.in_err-read.field-0.0 in
     let gives = err_gives old c.next_pair.new.change p c.in-Some.read error c.in_err-read.was c.in-Some.ensures.pair in
     let fails = row_error e old c.next_pair.new.change p error h.1 h.2 h.9 gives in
-    λ same. passed_on _ (failure.File error) _ c.from_residual.ensures.1 (rows_so_far (failure.File error) _ e _ _ _ c.loop-read.lines.bytes.items _ h.3 old.left h.4 h.5 h.6 h.8 refl fails)
+    λ same columns. passed_on _ (failure.File error) _ c.from_residual.ensures.1 (rows_so_far (failure.File error) _ e _ _ _ c.loop-read.lines.bytes.items _ h.3 old.left h.4 h.5 h.6 h.8 refl fails)
 
 pub returns-in_err-add_json-clause-first : goal.returns-in_err-add_json-clause-first
 returns-in_err-add_json-clause-first g c =
@@ -73,9 +74,14 @@ returns-in_err-add_json-clause-first g c =
     let p = c.next_pair.new.pair in
     let u = c.in_ok-read.field-0 in
     let gives = ok_gives old new p c.in-Some.read u c.in_ok-read.was c.in-Some.ensures.pair in
-    let why = c.in_err-add_json.field-0.0 in λ same.
+    let why = c.in_err-add_json.field-0.0 in λ same columns.
     let origin : c.at.result.origin ≡ e.origin = ap (λ (s : Source). s.origin) c.at.ensures ∙ same in
-    let fails = line_error e old new p u why h.1 h.2 gives (subst (λ (o : Origin). IsLineFailure o.position p why) origin c.in_err-add_json.ensures.failed) in
+    let cs = c.args.table.now in
+    let rows = c.rows.ensures ∙ same_rows old new p u gives ∙ h.2 in
+    let failed1 = subst (λ (o : Origin). IsLineFailure cs c.rows.result.now o.position p why) origin c.in_err-add_json.ensures.failed in
+    let failed2 = subst (λ (d : RowsEvent). IsLineFailure cs d e.origin.position p why) rows failed1 in
+    let failed = subst (λ (k : List Column). IsLineFailure k e.rows e.origin.position p why) columns failed2 in
+    let fails = line_error e old new p u why h.1 h.2 gives failed in
     passed_on _ why _ c.from_residual-in_err-add_json.ensures.1 (rows_so_far why _ e _ _ _ c.loop-read.lines.bytes.items _ h.3 old.left h.4 h.5 h.6 h.8 c.in_err-add_json.ensures.kept fails)
 
 pub returns-in_err-write_if_full-clause-first : goal.returns-in_err-write_if_full-clause-first
@@ -96,7 +102,7 @@ returns-in_err-write_if_full-clause-first g c =
     (subst (λ (s : Source). IsLine cs c.rows.result.now (members_in s) p line) c.at.ensures added.1)) in
     let why = c.in_err-write_if_full.field-0.0 in
     let out = up_to_line why _ _ c.loop-read.lines.bytes.items line c.add_json.new.self.bytes.items c.write_if_full.new.self.bytes.items added.2 c.in_err-write_if_full.ensures.first in
-    λ same. passed_on _ why _ c.from_residual-in_err-write_if_full.ensures.1 (record {
+    λ same columns. passed_on _ why _ c.from_residual-in_err-write_if_full.ensures.1 (record {
       pairs = h.3 ++ p ∷ [];
       rest = new.left;
       text = h.4 ++ line;

@@ -49,7 +49,7 @@ returns-clause-first g c =
     let is_table : s.table.now ≡ utf8_lossy t.table = ap (λ (x : Source). x.table.now) made ∙ c.name-name.ensures ∙ tells.name ∙ ap (λ (u : TableMap). utf8_lossy u.table) c.table.ensures in
     on_error c.write_json_rows.result _ _
     (first_weaker (IsJsonLine c.json-json.result.now e.rows s) (IsRowLine form.Json file gtid e) (json_row c.json-json.result.now s file gtid e columns is_file is_origin is_gtid is_database is_table) e _ _ _ _)
-    (c.write_json_rows.ensures.first is_origin)
+    (c.write_json_rows.ensures.first is_origin columns)
 
 pub returns-in_err-table-clause-first : goal.returns-in_err-table-clause-first
 returns-in_err-table-clause-first g c = passed_on _ failure.Memory _ c.from_residual.ensures.1 (no_rows failure.Memory _ c.args.change _ _ tt)

@@ -1,8 +1,8 @@
 -- Two events that tell the same of their table have the same columns.
-use Rattle.std.proofs.Common.{◌≡◌, ℕ, List, refl, sym, ap, ◌∙◌}
+use Rattle.std.proofs.Common.{◌≡◌, refl, sym, ap, ◌∙◌}
 use Rattle.binlog_table.specs.TableMap.{TableMap, without_id}
 use Rattle.binlog_table.specs.TableColumns.{column_at}
-use Rattle.row_json.specs.Columns.{Column, columns_of}
+use Rattle.row_json.specs.Columns.{columns_of}
 
 columns_alike : (t : TableMap) → columns_of t ≡ columns_of (without_id t)
 unfolding column_at

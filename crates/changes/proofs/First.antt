@@ -1,7 +1,7 @@
 -- What was written before an error.
-use Rattle.std.proofs.Common.{◌≡◌, ◌<◌, ◌^◌, ◌+◌, ℕ, Bool, true, false, List, [], ◌∷◌, ◌++◌, length, Option, Some, None, Result, Ok, Err, IfErr, ◌⊎◌, inl, inr, refl, sym, ap, subst, ◌∙◌, append-nil, length-append, arith}
+use Rattle.std.proofs.Common.{◌≡◌, ◌<◌, ◌^◌, ◌+◌, ℕ, Bool, false, List, [], ◌++◌, length, Option, Some, None, Result, Ok, Err, IfErr, ◌⊎◌, inl, inr, refl, sym, ap, subst, ◌∙◌, append-nil, length-append, arith}
 use Rattle.std.specs.Prelude.{OnOk}
-use Rattle.std.specs.Io.KnownBytes.{Appends, Consumes}
+use Rattle.std.specs.Io.KnownBytes.{Consumes}
 use Rattle.binlog_table.specs.TableMap.{TableMap}
 use Rattle.mysql_binlog_rows.specs.RowsEvent.{RowsEvent}
 use Rattle.mysql_binlog_rows.specs.Images.{Pair, pair}
@@ -10,8 +10,8 @@ use Rattle.binlog_events.specs.declared.error.FileError.{FileError}
 use Rattle.binlog_events.specs.declared.origin.Origin.{Origin}
 use Rattle.binlog_file.specs.declared.lent_changes.LentEvent.{LentEvent}
 use Rattle.binlog_file.specs.declared.lent_changes.LentEvent.TheVariants as lent
-use Rattle.binlog_file.specs.Events.{Event, magic}
-use Rattle.binlog_file.specs.Changes.{Wanted, Spot, first_spot}
+use Rattle.binlog_file.specs.Events.{magic}
+use Rattle.binlog_file.specs.Changes.{Wanted, Spot}
 use Rattle.binlog_file.specs.Stream.{Kept, Reading, first_kept}
 use Rattle.binlog_file.specs.LentChanges.{LentChange, PairGives}
 use Rattle.binlog_file.specs.SourceChanges.{Found, Finds, spot_at}

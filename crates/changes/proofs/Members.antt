@@ -1,5 +1,5 @@
 -- Members that are written one after the other.
-use Rattle.std.proofs.Common.{◌≡◌, List, ◌++◌, refl, sym, ap, subst}
+use Rattle.std.proofs.Common.{◌≡◌, List, ◌++◌, refl, subst}
 use Rattle.std.specs.List.{flat_map}
 use Rattle.json.specs.Written.{Written}
 use Rattle.row_json.specs.Wrote.{Adds, Named, named_tokens, WroteMembers}

@@ -1,7 +1,7 @@
 -- Lemmas on names.
 use Rattle.std.proofs.Common.{◌≡◌, ℕ, List, [], ◌∷◌, ◌++◌, length, take, drop, refl, sym, ap, ◌∙◌, arith}
 use Rattle.std.proofs.lemmas.List.{take-append-drop}
-use Rattle.std.specs.Prelude.{◌&&◌, nat_eq, bytes_eq, true, false}
+use Rattle.std.specs.Prelude.{◌&&◌, bytes_eq}
 
 pub eq_append : (a b x y : List ℕ) → length a ≡ length b → bytes_eq (a ++ x) (b ++ y) ≡ (bytes_eq a b && bytes_eq x y)
 eq_append [] [] x y same = refl

@@ -1,10 +1,9 @@
 -- The pairs of an event, read one after the other.
-use Rattle.std.proofs.Common.{◌≡◌, ℕ, ◌+◌, List, [], ◌∷◌, ◌++◌, length, Option, Some, None, Result, Ok, Err, refl, sym, ap, subst, ◌∙◌, append-nil, length-append, arith}
-use Rattle.binlog_base.specs.declared.fault.Fault.{Fault}
+use Rattle.std.proofs.Common.{◌≡◌, ℕ, List, [], ◌∷◌, ◌++◌, Some, None, Result, Ok, refl, ap, subst}
 use Rattle.binlog_table.specs.TableMap.{TableMap}
 use Rattle.mysql_binlog_rows.specs.RowsEvent.{RowsEvent}
 use Rattle.mysql_binlog_rows.specs.Images.{Pair, pair}
-use Rattle.mysql_binlog_rows.specs.Cover.{IsPair, Covers, EndsWith}
+use Rattle.mysql_binlog_rows.specs.Cover.{IsPair, Covers}
 use Rattle.mysql_binlog_rows.proofs.Covers.{SoFar, one_pair_more, covers_from}
 use Rattle.binlog_events.specs.declared.error.FileError.{FileError}
 use Rattle.binlog_file.specs.LentChanges.{LentChange, PairGives}

@@ -1,13 +1,10 @@
 -- What is written of an event.
-use Rattle.std.proofs.Common.{◌≡◌, ℕ, List, [], ◌++◌, Option, None, Result, Ok, Err, refl, sym, ap, subst, append-nil}
+use Rattle.std.proofs.Common.{◌≡◌, ℕ, List, [], Option, None, Result, Ok, Err, refl, sym, subst}
 use Rattle.std.specs.Prelude.{OnOk}
 use Rattle.std.specs.Option.{option_map}
 use Rattle.std.specs.Str.Lossy.{utf8_lossy}
-use Rattle.binlog_table.specs.TableMap.{TableMap}
-use Rattle.mysql_binlog_rows.specs.RowsEvent.{RowsEvent}
 use Rattle.mysql_binlog_rows.specs.Images.{Pair, pair}
 use Rattle.mysql_binlog_rows.specs.Cover.{Covers}
-use Rattle.binlog_events.specs.declared.origin.Origin.{Origin}
 use Rattle.binlog_file.specs.LentChanges.{LentChange}
 use Rattle.binlog_file.specs.declared.lent_changes.LentEvent.TheVariants as lent
 use Rattle.row_json.specs.Columns.{Column, columns_of}
@@ -17,11 +14,9 @@ use Rattle.changes.specs.declared.run.Form.{Form}
 use Rattle.changes.specs.declared.run.Form.TheVariants as form
 use Rattle.changes.specs.declared.source.Source.{Source}
 use Rattle.changes.specs.Origins.{source_fields, source_member, member_of_row}
-use Rattle.changes.specs.Sources.{members_in, source_at}
-use Rattle.changes.specs.Outputs.{Outputs}
 use Rattle.changes.specs.Rows.{AreLinesBy, IsJsonLine, WritesRows, row_number}
-use Rattle.changes.specs.Lines.{IsRowLine, AreEventLines, WritesEvent}
-use Rattle.changes.proofs.Outputs.{outputs_nothing, outputs_held}
+use Rattle.changes.specs.Lines.{IsRowLine, WritesEvent}
+use Rattle.changes.proofs.Outputs.{outputs_nothing}
 use Rattle.changes.proofs.Rows.{lines_weaker, no_lines}
 
 pub on_ok : {A E : Type 0} (r : Result A E) (P Q : Type 0) → (P → Q) → OnOk r P → OnOk r Q

@@ -1,5 +1,5 @@
 -- What was written where a run ends early. It is a module of its own because Failure is a type of the code.
-use Rattle.std.specs.Prelude.{◌≡◌, ◌≢◌, ◌⊎◌, ℕ, true, false, List, [], ◌++◌, Option, Some, None, Result, Ok, Err, ⊤}
+use Rattle.std.specs.Prelude.{◌≡◌, ◌≢◌, ◌⊎◌, ℕ, List, [], ◌++◌, Option, Some, Result, Ok, Err, ⊤}
 use Rattle.std.specs.Io.KnownBytes.{Appends}
 use Rattle.binlog_base.specs.declared.fault.Fault.{Fault}
 use Rattle.binlog_base.specs.declared.fault.Fault.TheVariants as fault
@@ -8,8 +8,8 @@ use Rattle.mysql_binlog_rows.specs.Images.{Pair, pair}
 use Rattle.mysql_binlog_rows.specs.Cover.{IsPair, EndsWith}
 use Rattle.binlog_events.specs.declared.error.EventError.TheVariants as error
 use Rattle.binlog_events.specs.declared.error.FileError.{FileError}
-use Rattle.binlog_file.specs.Events.{Event, glance_of, is_binlog}
-use Rattle.binlog_file.specs.Changes.{Wanted, Spot, IsMemory, first_spot}
+use Rattle.binlog_file.specs.Events.{Event, glance_of}
+use Rattle.binlog_file.specs.Changes.{Wanted, Spot, IsMemory}
 use Rattle.binlog_file.specs.Stream.{IsOutside, NoHeader}
 use Rattle.binlog_file.specs.LentChanges.{LentChange}
 use Rattle.binlog_file.specs.LentEvents as Events

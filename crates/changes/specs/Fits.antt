@@ -1,5 +1,5 @@
 -- The member `source` nests two levels.
-use Rattle.std.proofs.Common.{rules, arith, ◌≡◌, ℕ, List, Option, Some, None}
+use Rattle.std.proofs.Common.{arith, ℕ, List, Option, Some, None}
 use Rattle.std.specs.Option.{option_map}
 use Rattle.row_json.specs.Wrote.{Fits}
 use Rattle.binlog_events.specs.declared.origin.Origin.{Origin}

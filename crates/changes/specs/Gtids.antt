@@ -1,5 +1,5 @@
 -- The global transaction id (GTID) that is in force, as text.
-use Rattle.std.specs.Prelude.{ℕ, ◌+◌, ◌||◌, if◌then◌else◌, List, ◌++◌, length, nat_eq, nat_lt, codes, decimal, slice_range, Option, Some, None}
+use Rattle.std.specs.Prelude.{ℕ, ◌||◌, if◌then◌else◌, List, ◌++◌, length, nat_eq, nat_lt, codes, decimal, slice_range, Option, Some, None}
 use Rattle.std.specs.Fmt.{signed_decimal}
 use Rattle.std.specs.Int.{w64, cast_signed}
 use Rattle.byteorder.specs.Endian.{little_number}

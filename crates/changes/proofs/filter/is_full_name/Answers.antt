@@ -1,4 +1,4 @@
-use Rattle.std.proofs.Common.{◌≡◌, ◌++◌, sym, ap, ◌∙◌}
+use Rattle.std.proofs.Common.{◌++◌, sym, ap, ◌∙◌}
 use Rattle.std.specs.Prelude.{◌&&◌, codes, bytes_eq}
 use Rattle.changes.proofs.Names.{split_eq}
 use Rattle.changes.proofs.filter.is_full_name.Goals as goal

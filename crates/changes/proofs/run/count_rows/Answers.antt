@@ -1,4 +1,4 @@
-use Rattle.std.proofs.Common.{◌≡◌, [], ◌∷◌, ◌++◌, refl, ◌∙◌}
+use Rattle.std.proofs.Common.{[], ◌∷◌, ◌++◌, refl, ◌∙◌}
 use Rattle.changes.proofs.Pairs.{nothing_read, pair_read, ok_gives, stays, same_table, same_rows, same_origin}
 use Rattle.changes.proofs.First.{err_gives, row_error}
 use Rattle.changes.proofs.run.count_rows.Goals as goal

@@ -1,4 +1,4 @@
-use Rattle.std.proofs.Common.{◌≡◌, [], ◌∷◌, ◌++◌, length, refl, ◌∙◌, arith}
+use Rattle.std.proofs.Common.{[], ◌∷◌, ◌++◌, length, refl, ◌∙◌, arith}
 use Rattle.row_lines.specs.Lines.{line_text}
 use Rattle.changes.specs.declared.error.Failure.TheVariants as failure
 use Rattle.changes.proofs.Pairs.{nothing_read, pair_read, ok_gives, stays, same_table, same_rows, same_origin}

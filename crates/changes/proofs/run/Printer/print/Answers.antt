@@ -1,4 +1,4 @@
-use Rattle.std.proofs.Common.{◌≡◌, List, ℕ, [], Option, Some, None, inl, refl, subst, ap, sym, ◌∙◌}
+use Rattle.std.proofs.Common.{List, ℕ, [], Option, Some, None, inl, refl, subst, ap, sym, ◌∙◌}
 use Rattle.std.specs.Io.KnownBytes.{Consumes}
 use Rattle.std.proofs.KnownBytes.{Keeps-refl}
 use Rattle.binlog_base.specs.Failures.{CountedState}

@@ -1,4 +1,4 @@
-use Rattle.std.proofs.Common.{◌≡◌, sym, ap, ◌∙◌}
+use Rattle.std.proofs.Common.{sym, ap, ◌∙◌}
 use Rattle.row_json.specs.Columns.{columns_of}
 use Rattle.changes.proofs.table.Table.new.Goals as goal
 

@@ -1,4 +1,3 @@
-use Rattle.std.proofs.Common.{sym, ◌∙◌}
 use Rattle.changes.proofs.Kept.{tells_as, tells_if}
 use Rattle.changes.proofs.tables.KeptTables.is_last.Goals as goal
 

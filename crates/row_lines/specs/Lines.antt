@@ -1,5 +1,5 @@
 -- The lines of pairs of rows, as bytes.
-use Rattle.std.specs.Prelude.{ℕ, Bool, zero, suc, ◌==◌, if◌then◌else◌, List, [], ◌∷◌, ◌++◌, length, codes, encode_utf8_all, Option, Some, None, slice_get}
+use Rattle.std.specs.Prelude.{ℕ, Bool, true, false, zero, suc, ◌==◌, if◌then◌else◌, List, [], ◌∷◌, ◌++◌, length, codes, encode_utf8_all, Option, Some, None, slice_get, unwrap_or}
 use Rattle.std.specs.List.{flat_map}
 use Rattle.std.specs.Fmt.{decimal, signed_decimal}
 use Rattle.std.specs.Int.{w32, w64, to_be_bytes}
@@ -9,6 +9,7 @@ use Rattle.binlog_base.specs.Writing.{IsPrefix}
 use Rattle.binlog_base.specs.Values.{PlainValue, Null, Bytes, Int, UInt, Float, Double, Date, Time, ColumnView, value_at}
 use Rattle.binlog_values.specs.JsonbValues.{JsonbValue, is_array, count_in}
 use Rattle.binlog_cells.specs.Cells.{Cell, PlainCell, JsonCell, DiffsCell}
+use Rattle.binlog_cells.specs.OldTimes.{signed_old_cell}
 use Rattle.mysql_binlog_rows.specs.Images.{BinlogRow, Pair}
 
 -- numbers in decimal, separated by commas
@@ -47,25 +48,38 @@ abbrev pub name_text : Option ColumnView → List ℕ
 name_text None = []
 name_text (Some column) = encode_utf8_all (lossy_chars column.name)
 
+-- the value of a column as it is shown: with signs, a TIME of the old format has the sign that its digits mean
+abbrev pub shown_cell : Bool → Option ColumnView → Option Cell → Option Cell
+shown_cell true (Some column) (Some value) = Some (unwrap_or (signed_old_cell column.column_type value) value)
+shown_cell _ column value = value
+
 -- column i of a row as `name=cell`, with a comma before it unless it is the first
 abbrev pub comma : ℕ → List ℕ
 comma i = if i == 0 then [] else codes ", "
 
-abbrev pub field_text : BinlogRow → ℕ → List ℕ
-field_text row i = comma i ++ (name_text (slice_get row.columns i) ++ (codes "=" ++ cell_text (value_at row.values i)))
+abbrev pub field_text : Bool → BinlogRow → ℕ → List ℕ
+field_text has_signs row i =
+    comma i ++ (name_text (slice_get row.columns i) ++ (codes "=" ++ cell_text (shown_cell has_signs (slice_get row.columns i) (value_at row.values i))))
 
 -- the first n columns of a row
-unfoldable pub fields_text : BinlogRow → ℕ → List ℕ
-fields_text row zero = []
-fields_text row (suc i) = fields_text row i ++ field_text row i
+unfoldable pub fields_text : Bool → BinlogRow → ℕ → List ℕ
+fields_text has_signs row zero = []
+fields_text has_signs row (suc i) = fields_text has_signs row i ++ field_text has_signs row i
 
-abbrev pub image_text : Option BinlogRow → List ℕ
-image_text None = codes "-"
-image_text (Some row) = codes "{" ++ (fields_text row (length row.values) ++ codes "}")
+abbrev pub image_text : Bool → Option BinlogRow → List ℕ
+image_text has_signs None = codes "-"
+image_text has_signs (Some row) = codes "{" ++ (fields_text has_signs row (length row.values) ++ codes "}")
+
+abbrev pub pair_text : Bool → Pair → List ℕ
+pair_text has_signs pair = image_text has_signs pair.0 ++ (codes " -> " ++ (image_text has_signs pair.1 ++ codes "\n"))
 
 -- the line of a pair of rows
 abbrev pub line_text : Pair → List ℕ
-line_text pair = image_text pair.0 ++ (codes " -> " ++ (image_text pair.1 ++ codes "\n"))
+line_text pair = pair_text false pair
+
+-- the same, where TIMEs of the old format have their sign
+abbrev pub signed_line_text : Pair → List ℕ
+signed_line_text pair = pair_text true pair
 
 abbrev pub lines_text : List Pair → List ℕ
 lines_text pairs = flat_map line_text pairs

@@ -7,11 +7,12 @@
 //! the bits of a float in hexadecimal, `date(year,month,day,hour,minute,second,microseconds)`,
 //! `time(negative,days,hours,minutes,seconds,microseconds)`, `array(count)`, `object(count)` or
 //! `scalar` for a JSON document, or `diffs(count)` for the diffs of one. A year, a timestamp with a
-//! fraction and a decimal are the bytes of their text.
+//! fraction and a decimal are the bytes of their text. A TIME of the format before fractional seconds
+//! has its sign with `push_signed_line` alone.
 #![tactic(auto)]
 
 mod bytes;
 mod cell;
 mod line;
 
-pub use line::push_line;
+pub use line::{push_line, push_signed_line};

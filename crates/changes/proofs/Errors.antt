@@ -1,6 +1,6 @@
 -- Results that are errors.
-use Rattle.std.proofs.Common.{◌≡◌, true, false, Result, Ok, Err, IfErr, sym, subst}
-use Rattle.std.specs.Prelude.{IsErrAnd, IsOk, OnOk}
+use Rattle.std.proofs.Common.{◌≡◌, true, false, Option, Some, Result, Ok, Err, IfErr, sym, subst}
+use Rattle.std.specs.Prelude.{IsErrAnd, IsOk, OnOk, IfSome}
 
 -- what holds of every error holds of the result's
 pub any_error : {A E : Type 0} (r : Result A E) (P : E → Type 0) → ((e : E) → P e) → IfErr r P
@@ -33,3 +33,7 @@ on_errors (Err e) P Q R to h k = to e h k
 
 pub of_error : {A E : Type 0} (r : Result A E) (e : E) (P : E → Type 0) → r ≡ Err e → IfErr r P → P e
 of_error {A = A} {E = E} r e P is h = subst (λ (x : Result A E). IfErr x P) is h
+
+-- what holds of a value if there is one holds of this one
+pub of_some : {A : Type 0} (o : Option A) (x : A) (P : A → Type 0) → o ≡ Some x → IfSome o P → P x
+of_some {A = A} o x P is h = subst (λ (p : Option A). IfSome p P) is h

@@ -111,11 +111,11 @@ output_not_file (failure.NoEvent n) is = tt
 output_not_file (failure.Output e) is = tt
 output_not_file failure.Memory is = tt
 
-pub not_at_row : (why : Failure) (c : LentChange) (rest : List ℕ) → IsNotOfFile why → EndsAtRow why c rest
-not_at_row (failure.File e) c rest not = absurd not
-not_at_row (failure.NoEvent n) c rest not = tt
-not_at_row (failure.Output e) c rest not = tt
-not_at_row failure.Memory c rest not = tt
+pub not_at_row : (why : Failure) (c : LentChange) (k : ℕ) (rest : List ℕ) → IsNotOfFile why → EndsAtRow why c k rest
+not_at_row (failure.File e) c k rest not = absurd not
+not_at_row (failure.NoEvent n) c k rest not = tt
+not_at_row (failure.Output e) c k rest not = tt
+not_at_row failure.Memory c k rest not = tt
 
 pub not_at_event : (why : Failure) (wanted : Wanted) (at : Spot) → IsNotOfFile why → EndsAtEvent why wanted at
 not_at_event (failure.File e) wanted at not = absurd not
@@ -124,8 +124,8 @@ not_at_event (failure.Output e) wanted at not = tt
 not_at_event failure.Memory wanted at not = tt
 
 -- the failure of a row whose line can't be made is that of one of its documents
-pub line_failure : (cs : List Column) (d : RowsEvent) (at row : ℕ) (f : Fault) (p : Pair) (why : Failure) → IsRowFailure at row f why → (f ≢ fault.Memory → IsFaultOfPair cs d p f) → IsLineFailure cs d at p why
-line_failure cs d at row f p (failure.File e) h is = (h.1, row, f, is h.0, h.2)
+pub line_failure : (cs : List Column) (d : RowsEvent) (at row : ℕ) (f : Fault) (p : Pair) (why : Failure) → IsRowFailure at row f why → (f ≢ fault.Memory → IsFaultOfPair cs d p f) → IsLineFailure cs d at row p why
+line_failure cs d at row f p (failure.File e) h is = (h.1, f, is h.0, h.2)
 line_failure cs d at row f p (failure.NoEvent n) h is = absurd h
 line_failure cs d at row f p (failure.Output e) h is = absurd h
 line_failure cs d at row f p failure.Memory h is = tt

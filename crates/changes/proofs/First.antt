@@ -6,6 +6,7 @@ use Rattle.binlog_table.specs.TableMap.{TableMap}
 use Rattle.mysql_binlog_rows.specs.RowsEvent.{RowsEvent}
 use Rattle.mysql_binlog_rows.specs.Images.{Pair, pair}
 use Rattle.mysql_binlog_rows.specs.Cover.{IsPair, EndsWith}
+use Rattle.binlog_events.specs.declared.error.EventError.TheVariants as error
 use Rattle.binlog_events.specs.declared.error.FileError.{FileError}
 use Rattle.binlog_events.specs.declared.origin.Origin.{Origin}
 use Rattle.binlog_file.specs.declared.lent_changes.LentEvent.{LentEvent}
@@ -24,6 +25,7 @@ use Rattle.changes.specs.declared.run.Settings.{Settings}
 use Rattle.changes.specs.declared.filter.Filter.{Filter}
 use Rattle.changes.specs.Filters.{wanted_by}
 use Rattle.changes.specs.Outputs.{Outputs}
+use Rattle.changes.specs.Names.{up_to_most}
 use Rattle.changes.specs.Rows.{BeginsWith, AreLinesBy}
 use Rattle.changes.specs.Readings.{Passes, SourceNext}
 use Rattle.changes.specs.Lines.{IsRowLine, Writes}
@@ -41,34 +43,36 @@ pub err_gives : (old new : LentChange) (p : Pair) (r : Result (Unit {0}) FileErr
 err_gives old new p r e is h = subst (λ (x : Result (Unit {0}) FileError). PairGives old p (Some x) new) is h
 
 -- a row that can't be read is the first of those that were left
-pub row_error : (c old new : LentChange) (p : Pair) (e : FileError) → old.table ≡ c.table → old.rows ≡ c.rows → old.origin ≡ c.origin → PairGives old p (Some (Err e)) new → IsErrorOfRow c old.left e
-row_error c old new p e table rows origin gives = (
+pub row_error : (c old new : LentChange) (n : ℕ) (p : Pair) (e : FileError) → old.table ≡ c.table → old.rows ≡ c.rows → old.origin ≡ c.origin → old.count ≡ c.count + n → PairGives old p (Some (Err e)) new → IsErrorOfRow c n old.left e
+row_error c old new n p e table rows origin count gives = (
   gives.2 ∙ ap (λ (o : Origin). o.position) origin,
   elim gives.3 [
     | inl memory ↦ inl memory
     | inr h ↦ inr (
-      old.count,
       h.0,
-      inl (subst (λ (d : RowsEvent). EndsWith (pair c.table d) old.left (Some h.0)) rows (subst (λ (t : TableMap). EndsWith (pair t old.rows) old.left (Some h.0)) table h.1)),
-      h.2,
+      inl (
+        subst (λ (d : RowsEvent). EndsWith (pair c.table d) old.left (Some h.0)) rows (subst (λ (t : TableMap). EndsWith (pair t old.rows) old.left (Some h.0)) table h.1),
+        subst (λ (k : ℕ). e.error ≡ error.RowsData k h.0) count h.2,
+      ),
     )
   ],
 )
 
 -- neither is one whose line can't be made
-pub line_error : (c old new : LentChange) (p : Pair) (u : Unit {0}) (why : Failure) → old.table ≡ c.table → old.rows ≡ c.rows → PairGives old p (Some (Ok u)) new → IsLineFailure (columns_of c.table) c.rows c.origin.position p why → EndsAtRow why c old.left
-line_error c old new p u (failure.File e) table rows gives is =
+pub line_error : (c old new : LentChange) (n : ℕ) (p : Pair) (u : Unit {0}) (why : Failure) → old.table ≡ c.table → old.rows ≡ c.rows → PairGives old p (Some (Ok u)) new → IsLineFailure (columns_of c.table) c.rows c.origin.position (up_to_most n) p why
+    → EndsAtRow why c n old.left
+line_error c old new n p u (failure.File e) table rows gives is =
     let here = subst (λ (d : RowsEvent). IsPair (pair c.table d) gives.0 p) rows (subst (λ (t : TableMap). IsPair (pair t old.rows) gives.0 p) table gives.2) in
-    (is.0, inr (is.1, is.2, inr (gives.0, new.left, p, gives.1, here, is.3), is.4))
-line_error c old new p u (failure.NoEvent n) table rows gives is = tt
-line_error c old new p u (failure.Output e) table rows gives is = tt
-line_error c old new p u failure.Memory table rows gives is = tt
+    (is.0, inr (is.1, inr ((gives.0, new.left, p, gives.1, here, is.2), is.3)))
+line_error c old new n p u (failure.NoEvent m) table rows gives is = tt
+line_error c old new n p u (failure.Output e) table rows gives is = tt
+line_error c old new n p u failure.Memory table rows gives is = tt
 
 -- ---- the rows of an event
 
 -- some rows were read and written, and then nothing more
 pub rows_so_far : (why : Failure) (Is : ℕ → Pair → List ℕ → Type 0) (c : LentChange) (a b : Option (List ℕ)) (held mid left : List ℕ) (ps : List Pair) (rest text : List ℕ)
-    → BeginsWith (pair c.table c.rows) c.left ps rest → AreLinesBy Is 0 ps text → Outputs a held text b mid → left ≡ mid → EndsAtRow why c rest → WritesFirstRows why Is c a held b left
+    → BeginsWith (pair c.table c.rows) c.left ps rest → AreLinesBy Is 0 ps text → Outputs a held text b mid → left ≡ mid → EndsAtRow why c (length ps) rest → WritesFirstRows why Is c a held b left
 rows_so_far why Is c a b held mid left ps rest text begins lines outputs same ends = record {
   pairs = ps;
   rest = rest;
@@ -87,7 +91,7 @@ no_rows why Is c a held not = record {
   text = [];
   begins = nothing_read c.table c.rows c.left;
   lines = refl;
-  ends = not_at_row why c c.left not;
+  ends = not_at_row why c 0 c.left not;
   outputs = up_to_nothing why a held;
 }
 
@@ -111,7 +115,7 @@ first_written f g file gtid c old held new left same why h =
 
 -- nothing is written of rows that are counted
 pub first_counted : (f : Form) (file : List ℕ) (gtid : Option (List ℕ)) (c : LentChange) (old : Option (List ℕ)) (held : List ℕ) → f ≡ form.Count
-    → (why : Failure) → (ps : List Pair) × (rest : List ℕ) × BeginsWith (pair c.table c.rows) c.left ps rest × EndsAtRow why c rest → WritesFirstOfEvent why f file gtid (lent.Rows c) old held old held
+    → (why : Failure) → (ps : List Pair) × (rest : List ℕ) × BeginsWith (pair c.table c.rows) c.left ps rest × EndsAtRow why c (length ps) rest → WritesFirstOfEvent why f file gtid (lent.Rows c) old held old held
 first_counted f file gtid c old held same why h =
     ([], (h.0, h.1, h.2, subst (λ (k : Form). AreLinesBy (IsRowLine k file gtid c) 0 h.0 []) (sym same) (no_lines 0 h.0), h.3), up_to_nothing why old held)
 
@@ -161,7 +165,7 @@ event_so_far f wanted file from gtid out held old r p here mid kept h is_each x 
 
 event_but_output : (why g : Failure) (f : Form) (file : List ℕ) (gtid : Option (List ℕ)) (x : LentEvent) (text : List ℕ) → IsOutput g → AreFirstOfEvent why f file gtid x text → AreFirstOfEvent g f file gtid x text
 event_but_output why g f file gtid (lent.Other o) text is h = (h.0, output_not_file g is)
-event_but_output why g f file gtid (lent.Rows c) text is h = (h.0, h.1, h.2, h.3, not_at_row g c h.1 (output_not_file g is))
+event_but_output why g f file gtid (lent.Rows c) text is h = (h.0, h.1, h.2, h.3, not_at_row g c (length h.0) h.1 (output_not_file g is))
 
 next_but_output : (why g : Failure) (f : Form) (wanted : Wanted) (file : List ℕ) (at : Spot) (gtid : Option (List ℕ)) (text : List ℕ) → IsOutput g → AreFirstOfNext why f wanted file at gtid text → AreFirstOfNext g f wanted file at gtid text
 next_but_output why g f wanted file at gtid text is (inl h) = inl (h.0, not_at_event g wanted at (output_not_file g is))

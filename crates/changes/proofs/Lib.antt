@@ -1,5 +1,6 @@
 -- The proofs of this program.
 pub mod Names
+pub mod Counted
 pub mod Members
 pub mod Outputs
 pub mod Beginnings
@@ -13,4 +14,5 @@ pub mod Written
 pub mod Events
 pub mod Passed
 pub mod Whole
+pub mod CountedFiles
 pub mod First

@@ -1,5 +1,5 @@
 -- The pairs of an event, read one after the other.
-use Rattle.std.proofs.Common.{◌≡◌, ℕ, List, [], ◌∷◌, ◌++◌, Some, None, Result, Ok, refl, ap, subst}
+use Rattle.std.proofs.Common.{◌≡◌, ◌+◌, ℕ, List, [], ◌∷◌, ◌++◌, length, Some, None, Result, Ok, refl, ap, subst, arith, length-append}
 use Rattle.binlog_table.specs.TableMap.{TableMap}
 use Rattle.mysql_binlog_rows.specs.RowsEvent.{RowsEvent}
 use Rattle.mysql_binlog_rows.specs.Images.{Pair, pair}
@@ -33,6 +33,13 @@ same_rows old new p u gives = ap (λ (c : LentChange). c.rows) gives.3
 
 pub same_origin : (old new : LentChange) (p : Pair) (u : Unit {0}) → PairGives old p (Some (Ok u)) new → new.origin ≡ old.origin
 same_origin old new p u gives = ap (λ (c : LentChange). c.origin) gives.3
+
+pub one_more : (old new : LentChange) (p : Pair) (u : Unit {0}) → PairGives old p (Some (Ok u)) new → new.count ≡ old.count + 1
+one_more old new p u gives = ap (λ (c : LentChange). c.count) gives.3
+
+-- the number of the next pair, after one more was read
+pub counted_more : (c old new : LentChange) (ps : List Pair) (p : Pair) (u : Unit {0}) → PairGives old p (Some (Ok u)) new → old.count ≡ c.count + length ps → new.count ≡ c.count + length (ps ++ p ∷ [])
+counted_more c old new ps p u gives so_far = omega (arith, one_more old new p u gives, so_far, length-append ps (p ∷ []))
 
 -- a pair that was read is one that the event gives
 pub ok_gives : (old new : LentChange) (p : Pair) (r : Result (Unit {0}) FileError) (u : Unit {0}) → r ≡ Ok u → PairGives old p (Some r) new → PairGives old p (Some (Ok u)) new

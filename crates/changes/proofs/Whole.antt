@@ -61,7 +61,7 @@ end_without at stop left none = subst (λ (o : Option ℕ). IsEnd o at) (sym non
 end_with : (at : Spot) (stop : Option ℕ) (n : ℕ) → at.place.at ≡ n → stop ≡ Some n → IsEnd stop at
 end_with at stop n is some = subst (λ (o : Option ℕ). IsEnd o at) (sym some) is
 
-is_end_at : (is_each : Bool) (stop : Option ℕ) (old at : Spot) → Passes is_each old at → at.place.left ≡ [] → (is_each ≡ false → stop ≡ None) → (stop ≡ None) ⊎ (stop ≡ Some old.place.at) → IsEnd stop at
+pub is_end_at : (is_each : Bool) (stop : Option ℕ) (old at : Spot) → Passes is_each old at → at.place.left ≡ [] → (is_each ≡ false → stop ≡ None) → (stop ≡ None) ⊎ (stop ≡ Some old.place.at) → IsEnd stop at
 is_end_at true stop old at same left whole stops = elim stops [ inl none ↦ end_without at stop left none | inr some ↦ end_with at stop old.place.at (ap (λ (s : Spot). s.place.at) same) some ]
 is_end_at false stop old at passes left whole stops = end_without at stop left (whole refl)
 

@@ -14,7 +14,8 @@ use Rattle.changes.specs.declared.run.Form.{Form}
 use Rattle.changes.specs.declared.run.Form.TheVariants as form
 use Rattle.changes.specs.declared.source.Source.{Source}
 use Rattle.changes.specs.Origins.{source_fields, source_member, member_of_row}
-use Rattle.changes.specs.Rows.{AreLinesBy, IsJsonLine, WritesRows, row_number}
+use Rattle.changes.specs.Names.{up_to_most}
+use Rattle.changes.specs.Rows.{AreLinesBy, IsJsonLine, WritesRows}
 use Rattle.changes.specs.Lines.{IsRowLine, WritesEvent}
 use Rattle.changes.proofs.Outputs.{outputs_nothing}
 use Rattle.changes.proofs.Rows.{lines_weaker, no_lines}
@@ -37,9 +38,9 @@ rows_weaker Is Be to c old held new left h = record {
 pub json_row : (cs : List Column) (s : Source) (file : List ℕ) (gtid : Option (List ℕ)) (c : LentChange) → cs ≡ columns_of c.table → s.file.now ≡ file → s.origin ≡ c.origin → option_map (λ g. g.now) s.gtid ≡ gtid
     → s.database.now ≡ utf8_lossy c.table.database → s.table.now ≡ utf8_lossy c.table.table → (row : ℕ) (p : Pair) (line : List ℕ) → IsJsonLine cs c.rows s row p line → IsRowLine form.Json file gtid c row p line
 json_row cs s file gtid c columns is_file is_origin is_gtid is_database is_table row p line is =
-    let fields : source_fields s.file.now s.origin (row_number row) (option_map (λ g. g.now) s.gtid) s.database.now s.table.now ≡ source_fields file c.origin (row_number row) gtid (utf8_lossy c.table.database) (utf8_lossy c.table.table) =
+    let fields : source_fields s.file.now s.origin (up_to_most row) (option_map (λ g. g.now) s.gtid) s.database.now s.table.now ≡ source_fields file c.origin (up_to_most row) gtid (utf8_lossy c.table.database) (utf8_lossy c.table.table) =
     rw (is_file, is_origin, is_gtid, is_database, is_table) refl in
-    subst (λ (k : List Column). IsLine k c.rows (member_of_row file gtid c.origin c.table (row_number row)) p line) columns (subst (λ (fs : List Named). IsLine cs c.rows (source_member fs) p line) fields is)
+    subst (λ (k : List Column). IsLine k c.rows (member_of_row file gtid c.origin c.table (up_to_most row)) p line) columns (subst (λ (fs : List Named). IsLine cs c.rows (source_member fs) p line) fields is)
 
 -- the rows of an event were written in a form
 pub rows_written : (f g : Form) (file : List ℕ) (gtid : Option (List ℕ)) (c : LentChange) (old : Option (List ℕ)) (held : List ℕ) (new : Option (List ℕ)) (left : List ℕ) → f ≡ g

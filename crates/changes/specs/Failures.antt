@@ -1,5 +1,5 @@
 -- What was written where a run ends early. It is a module of its own because Failure is a type of the code.
-use Rattle.std.specs.Prelude.{◌≡◌, ◌≢◌, ◌⊎◌, ℕ, List, [], ◌++◌, Option, Some, Result, Ok, Err, ⊤}
+use Rattle.std.specs.Prelude.{◌≡◌, ◌≢◌, ◌⊎◌, ◌+◌, ℕ, List, [], ◌++◌, length, Option, Some, Result, Ok, Err, ⊤}
 use Rattle.std.specs.Io.KnownBytes.{Appends}
 use Rattle.binlog_base.specs.declared.fault.Fault.{Fault}
 use Rattle.binlog_base.specs.declared.fault.Fault.TheVariants as fault
@@ -21,6 +21,7 @@ use Rattle.row_json.specs.Faults.{IsFaultOfPair}
 use Rattle.changes.specs.declared.error.Failure.{Failure}
 use Rattle.changes.specs.declared.error.Failure.TheVariants as failure
 use Rattle.changes.specs.declared.run.Form.{Form}
+use Rattle.changes.specs.Names.{up_to_most}
 use Rattle.changes.specs.Rows.{AreLinesBy, BeginsWith}
 use Rattle.changes.specs.Lines.{AreRowLines, AreLines}
 
@@ -36,20 +37,26 @@ abbrev pub IsNotOfFile : Failure → Type 0
 IsNotOfFile (failure.File e) = ⊥
 IsNotOfFile _ = ⊤
 
--- the row at the start of this rest can't be read, or can't be written: its first faulty document is this
-abbrev pub HasFault : LentChange → List ℕ → Fault → Type 0
-HasFault c rest f =
-    EndsWith (pair c.table c.rows) rest (Some f)
-    ⊎ ((x more : List ℕ) × (p : Pair) × (rest ≡ x ++ more) × IsPair (pair c.table c.rows) x p × IsFaultOfPair (columns_of c.table) c.rows p f)
+-- the row at the start of this rest can't be read
+abbrev pub IsUnreadable : LentChange → List ℕ → Fault → Type 0
+IsUnreadable c rest f = EndsWith (pair c.table c.rows) rest (Some f)
 
--- the error of the row of an event with which this rest begins, or that memory was refused
-abbrev pub IsErrorOfRow : LentChange → List ℕ → FileError → Type 0
-IsErrorOfRow c rest e = (e.position ≡ c.origin.position) × (IsMemory e.error ⊎ ((row : ℕ) × (f : Fault) × HasFault c rest f × (e.error ≡ error.RowsData row f)))
+-- the row at the start of this rest can't be written: its first faulty document is this
+abbrev pub IsUnwritable : LentChange → List ℕ → Fault → Type 0
+IsUnwritable c rest f = (x more : List ℕ) × (p : Pair) × (rest ≡ x ++ more) × IsPair (pair c.table c.rows) x p × IsFaultOfPair (columns_of c.table) c.rows p f
 
--- an error of the file is that of the row with which this rest of an event begins
-abbrev pub EndsAtRow : Failure → LentChange → List ℕ → Type 0
-EndsAtRow (failure.File e) c rest = IsErrorOfRow c rest e
-EndsAtRow _ c rest = ⊤
+-- The error of the row of an event that comes after n others, with which this rest begins; or that memory was
+-- refused. The error has the row's number: how many rows of the event are before it. (Before the n rows there
+-- are c.count, none where the event is one that a reading gives.)
+abbrev pub IsErrorOfRow : LentChange → ℕ → List ℕ → FileError → Type 0
+IsErrorOfRow c n rest e =
+    (e.position ≡ c.origin.position)
+    × (IsMemory e.error ⊎ ((f : Fault) × ((IsUnreadable c rest f × (e.error ≡ error.RowsData (c.count + n) f)) ⊎ (IsUnwritable c rest f × (e.error ≡ error.RowsData (up_to_most n) f)))))
+
+-- an error of the file is that of the row of an event that comes after n others, with which this rest begins
+abbrev pub EndsAtRow : Failure → LentChange → ℕ → List ℕ → Type 0
+EndsAtRow (failure.File e) c n rest = IsErrorOfRow c n rest e
+EndsAtRow _ c n rest = ⊤
 
 -- an error of the file is that of the event at a spot, or isn't the bytes'
 abbrev pub EndsAtEvent : Failure → Wanted → Spot → Type 0
@@ -68,7 +75,7 @@ EndsAtHeader _ x = ⊤
 abbrev pub AreFirstOfEvent : Failure → Form → List ℕ → Option (List ℕ) → LentEvent → List ℕ → Type 0
 AreFirstOfEvent why f file gtid (lent.Other o) text = (text ≡ []) × IsNotOfFile why
 AreFirstOfEvent why f file gtid (lent.Rows c) text =
-    (ps : List Pair) × (rest : List ℕ) × BeginsWith (pair c.table c.rows) c.left ps rest × AreRowLines f file gtid c 0 ps text × EndsAtRow why c rest
+    (ps : List Pair) × (rest : List ℕ) × BeginsWith (pair c.table c.rows) c.left ps rest × AreRowLines f file gtid c 0 ps text × EndsAtRow why c (length ps) rest
 
 -- no lines, where the event at a spot fails; or those of the first rows of this event, up to the failure
 abbrev pub AreFirstOfNext : Failure → Form → Wanted → List ℕ → Spot → Option (List ℕ) → List ℕ → Type 0
@@ -115,7 +122,7 @@ pub record WritesFirstRows (why : Failure) (Is : ℕ → Pair → List ℕ → T
   pub text : List ℕ
   pub begins : BeginsWith (pair c.table c.rows) c.left pairs rest
   pub lines : AreLinesBy Is 0 pairs text
-  pub ends : EndsAtRow why c rest
+  pub ends : EndsAtRow why c (length pairs) rest
   pub outputs : OutputsUpTo why old held text new left
 
 -- The lines of some first rows of an event were written.
@@ -134,8 +141,8 @@ IsRowFailure at row f (failure.File e) = (f ≢ fault.Memory) × (e.position ≡
 IsRowFailure at row f failure.Memory = ⊤
 IsRowFailure at row f _ = ⊥
 
--- the line of this row of the event at a position can't be made
-abbrev pub IsLineFailure : List Column → RowsEvent → ℕ → Pair → Failure → Type 0
-IsLineFailure cs rows at p (failure.File e) = (e.position ≡ at) × (row : ℕ) × (f : Fault) × IsFaultOfPair cs rows p f × (e.error ≡ error.RowsData row f)
-IsLineFailure cs rows at p failure.Memory = ⊤
-IsLineFailure cs rows at p _ = ⊥
+-- the line of the row of this number in the event at a position can't be made
+abbrev pub IsLineFailure : List Column → RowsEvent → ℕ → ℕ → Pair → Failure → Type 0
+IsLineFailure cs rows at row p (failure.File e) = (e.position ≡ at) × (f : Fault) × IsFaultOfPair cs rows p f × (e.error ≡ error.RowsData row f)
+IsLineFailure cs rows at row p failure.Memory = ⊤
+IsLineFailure cs rows at row p _ = ⊥

@@ -1,6 +1,8 @@
 -- The definitions that the contracts of this program use.
 pub mod Names
 pub mod Filters
+pub mod Letters
+pub mod Counted
 pub mod Gtids
 pub mod Origins
 pub mod Sources
@@ -12,5 +14,6 @@ pub mod Tables
 pub mod Readings
 pub mod Lines
 pub mod Failures
+pub mod CountedFiles
 pub mod Runs
 pub mod Printers

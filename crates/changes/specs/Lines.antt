@@ -12,13 +12,14 @@ use Rattle.binlog_file.specs.declared.lent_changes.LentEvent.{LentEvent}
 use Rattle.binlog_file.specs.declared.lent_changes.LentEvent.TheVariants as lent
 use Rattle.row_json.specs.Columns.{columns_of}
 use Rattle.row_json.specs.Rows.{IsLine}
-use Rattle.row_lines.specs.Lines.{line_text}
+use Rattle.row_lines.specs.Lines.{signed_line_text}
 use Rattle.changes.specs.declared.run.Form.{Form}
 use Rattle.changes.specs.declared.run.Form.TheVariants as form
+use Rattle.changes.specs.Names.{up_to_most}
 use Rattle.changes.specs.Gtids.{gtid_after}
 use Rattle.changes.specs.Origins.{member_of_row}
 use Rattle.changes.specs.Outputs.{Outputs}
-use Rattle.changes.specs.Rows.{AreLinesBy, row_number}
+use Rattle.changes.specs.Rows.{AreLinesBy}
 
 -- ---- the rows of an event
 
@@ -28,8 +29,8 @@ place_text file at t = file ++ (codes ":" ++ (decimal at ++ (codes " " ++ (utf8_
 
 -- the line of the row of this number in the event
 abbrev pub IsRowLine : Form → List ℕ → Option (List ℕ) → LentChange → ℕ → Pair → List ℕ → Type 0
-IsRowLine form.Json file gtid c row p line = IsLine (columns_of c.table) c.rows (member_of_row file gtid c.origin c.table (row_number row)) p line
-IsRowLine form.Text file gtid c row p line = line ≡ place_text file c.origin.position c.table ++ line_text p
+IsRowLine form.Json file gtid c row p line = IsLine (columns_of c.table) c.rows (member_of_row file gtid c.origin c.table (up_to_most row)) p line
+IsRowLine form.Text file gtid c row p line = line ≡ place_text file c.origin.position c.table ++ signed_line_text p
 IsRowLine form.Count file gtid c row p line = line ≡ []
 
 -- the lines of these rows, of which the first has this number

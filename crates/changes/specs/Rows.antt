@@ -1,5 +1,5 @@
 -- The lines of the rows of an event.
-use Rattle.std.specs.Prelude.{◌≡◌, ◌-◌, ◌^◌, min, ℕ, suc, List, [], ◌∷◌, ◌++◌, Option, None}
+use Rattle.std.specs.Prelude.{◌≡◌, ℕ, suc, List, [], ◌∷◌, ◌++◌, Option, None}
 use Rattle.std.specs.List.{concat}
 use Rattle.binlog_base.specs.Format.{Format}
 use Rattle.mysql_binlog_rows.specs.RowsEvent.{RowsEvent}
@@ -9,6 +9,7 @@ use Rattle.binlog_file.specs.LentChanges.{LentChange}
 use Rattle.row_json.specs.Columns.{Column}
 use Rattle.row_json.specs.Rows.{IsLine}
 use Rattle.changes.specs.declared.source.Source.{Source}
+use Rattle.changes.specs.Names.{up_to_most}
 use Rattle.changes.specs.Sources.{members_in, source_at}
 use Rattle.changes.specs.Outputs.{Outputs}
 
@@ -22,13 +23,9 @@ abbrev pub AreLinesBy : (ℕ → Pair → List ℕ → Type 0) → ℕ → List 
 AreLinesBy Is row [] text = text ≡ []
 AreLinesBy Is row (p ∷ ps) text = (line more : List ℕ) × Is row p line × AreLinesBy Is (suc row) ps more × (text ≡ line ++ more)
 
--- rows are numbered up to 2^64 - 1
-abbrev pub row_number : ℕ → ℕ
-row_number n = min n (2 ^ 64 - 1)
-
 -- a line of JSON of a row of an event of this source
 abbrev pub IsJsonLine : List Column → RowsEvent → Source → ℕ → Pair → List ℕ → Type 0
-IsJsonLine cs e s row p line = IsLine cs e (members_in (source_at s (row_number row))) p line
+IsJsonLine cs e s row p line = IsLine cs e (members_in (source_at s (up_to_most row))) p line
 
 -- All rows of an event were read, and each was written as such a line.
 pub record WritesRows (Is : ℕ → Pair → List ℕ → Type 0) (c : LentChange) (old : Option (List ℕ)) (held : List ℕ) (new : Option (List ℕ)) (left : List ℕ) : Type 0 where

@@ -1,5 +1,11 @@
 //! How many rows of each table changed.
 
+ghost use Rattle.std.specs.Prelude.{◌≡◌, [], ◌∷◌, ◌++◌, codes, IfOk, OnOk, OnErr};
+ghost use Rattle.std.specs.String.{string_bytes};
+ghost use Rattle.std.specs.Str.Lossy.{utf8_lossy};
+ghost use Rattle.std.specs.Io.KnownBytes.{Appends};
+ghost use Rattle.changes.specs.Counted.{nothing, plus, added, name_of, CountsMore, AreCounts, name_text, numbers_text, table_text};
+
 use crate::filter::Operation;
 use binlog_table::table_map::TableMapEvent;
 use std::alloc::{AllocError, Global};
@@ -20,7 +26,9 @@ pub struct Changed {
 
 impl Changed {
     /// Returns that no row changed.
-    pub fn none() -> Changed {
+    pub fn none() -> Changed
+        ensures { result ≡ nothing }
+    {
         Changed {
             inserted: 0,
             updated: 0,
@@ -29,7 +37,9 @@ impl Changed {
     }
 
     /// Adds so many rows that an operation changed.
-    pub fn add(&mut self, operation: Operation, rows: u64) {
+    pub fn add(&mut self, operation: Operation, rows: u64)
+        ensures { self.new ≡ added operation rows self.old }
+    {
         match operation {
             Operation::Insert => self.inserted = self.inserted.saturating_add(rows),
             Operation::Update => self.updated = self.updated.saturating_add(rows),
@@ -38,14 +48,19 @@ impl Changed {
     }
 
     // Adds other numbers.
-    fn add_all(&mut self, other: &Changed) {
+    fn add_all(&mut self, other: &Changed)
+        ensures { self.new ≡ plus self.old other.now }
+    {
         self.inserted = self.inserted.saturating_add(other.inserted);
         self.updated = self.updated.saturating_add(other.updated);
         self.deleted = self.deleted.saturating_add(other.deleted);
     }
 
     // Writes a line of the table.
-    fn print<O: Write>(&self, out: &mut O, name: &str) -> io::Result<()> {
+    fn print<O: Write>(&self, out: &mut O, name: &str) -> io::Result<()>
+        ensures { OnOk result (Appends (O.contents out.old) (O.contents out.new)
+            (numbers_text self.now name.now)) }
+    {
         let (inserted, updated, deleted) = (self.inserted, self.updated, self.deleted);
         writeln!(out, "{inserted:>12} {updated:>12} {deleted:>12}  {name}")
     }
@@ -61,7 +76,9 @@ pub struct TableName {
 
 impl TableName {
     /// Returns the name of a table.
-    pub fn of(alloc: Global, table: &TableMapEvent<'_>) -> Result<TableName, AllocError> {
+    pub fn of(alloc: Global, table: &TableMapEvent<'_>) -> Result<TableName, AllocError>
+        ensures { IfOk result (λ name. name_of name ≡ (table.now.database, table.now.table)) }
+    {
         Ok(TableName {
             database: Vec::from_slice(alloc, table.database_name_raw())?,
             table: Vec::from_slice(alloc, table.table_name_raw())?,
@@ -69,7 +86,9 @@ impl TableName {
     }
 
     /// Returns the name as text, with U+FFFD in place of what isn't UTF-8.
-    pub fn text(&self, alloc: Global) -> Result<String, AllocError> {
+    pub fn text(&self, alloc: Global) -> Result<String, AllocError>
+        ensures { IfOk result (λ text. string_bytes text ≡ name_text self.now) }
+    {
         let database = String::from_utf8_lossy(alloc, &self.database)?;
         let table = String::from_utf8_lossy(alloc, &self.table)?;
         format!(in alloc; "{database}.{table}")
@@ -86,7 +105,9 @@ pub struct Counts {
 
 impl Counts {
     /// Returns that nothing was counted.
-    pub fn new(alloc: Global) -> Counts {
+    pub fn new(alloc: Global) -> Counts
+        ensures { AreCounts [] result }
+    {
         Counts {
             alloc,
             tables: BTreeMap::new(alloc),
@@ -100,28 +121,30 @@ impl Counts {
         name: TableName,
         operation: Operation,
         rows: u64,
-    ) -> Result<(), AllocError> {
-        if let Some(changed) = self.tables.get_mut(&name) {
-            changed.add(operation, rows);
-        } else if self.tables.len() < MOST_TABLES {
-            let mut changed = Changed::none();
-            changed.add(operation, rows);
-            self.tables.insert(name, changed)?;
-        } else {
+    ) -> Result<(), AllocError>
+        ensures added { OnOk result (CountsMore
+            (record { name = name_of name; operation = operation; rows = rows } ∷ []) self.old self.new) }
+        ensures kept { OnErr result (CountsMore [] self.old self.new) }
+    {
+        let counted = self.tables.get(&name).copied();
+        if counted.is_none() && self.tables.len() >= MOST_TABLES {
             self.others.add(operation, rows);
+            return Ok(());
         }
+        let mut changed = counted.unwrap_or(Changed::none());
+        changed.add(operation, rows);
+        self.tables.insert(name, changed)?;
         Ok(())
     }
-
     /// Writes the numbers as a table: a line for each table, in the order of their names, and a line of
     /// sums. A line before that has the rows of the tables that aren't counted apart, if there are any.
-    pub fn print<O: Write>(&self, out: &mut O) -> io::Result<()> {
-        writeln!(
-            out,
-            "{:>12} {:>12} {:>12}  table",
-            "inserted", "updated", "deleted"
-        )?;
+    pub fn print<O: Write>(&self, out: &mut O) -> io::Result<()>
+        ensures { OnOk result (Appends (O.contents out.old) (O.contents out.new)
+            (table_text self.now)) }
+    {
+        writeln!(out, "    inserted      updated      deleted  table")?;
         let mut sums = Changed::none();
+        sums.add_all(&self.others);
         for (name, changed) in self.tables.iter() {
             let name = name.text(self.alloc)?;
             changed.print(out, name.as_str())?;
@@ -129,7 +152,6 @@ impl Counts {
         }
         if self.others != Changed::none() {
             self.others.print(out, "(tables beyond the first 65536)")?;
-            sums.add_all(&self.others);
         }
         sums.print(out, "(all)")?;
         out.flush()

@@ -4,6 +4,7 @@ ghost use Rattle.std.specs.Prelude.{◌≡◌, ◌++◌, codes, bytes_eq, Some};
 ghost use Rattle.std.specs.List.{list_any};
 ghost use Rattle.changes.specs.Names.{full_name};
 ghost use Rattle.changes.specs.Filters.{operation_of, is_wanted, is_named, is_among};
+ghost use Rattle.changes.specs.Letters.{letter_of, is_chosen, operations_of};
 
 use binlog_consts::consts::EventType;
 use binlog_file::choice::Choice;
@@ -35,7 +36,9 @@ impl Operation {
     }
 
     // Returns the letter of the operation, as in lines of JSON.
-    fn letter(self) -> &'static str {
+    fn letter(self) -> &'static str
+        ensures { result.now ≡ letter_of self }
+    {
         match self {
             Operation::Insert => "c",
             Operation::Update => "u",
@@ -52,16 +55,34 @@ pub struct Operations {
     pub deletes: bool,
 }
 
+// Returns whether one of the names is this one.
+fn has_name(names: &[&str], wanted: &[u8]) -> bool
+    ensures { result ≡ list_any (λ name. bytes_eq name.now wanted.now) names.now }
+{
+    for name in names {
+        if name.as_bytes() == wanted {
+            return true;
+        }
+    }
+    false
+}
+
+// Returns whether one of the letters is that of an operation, or there are none.
+fn is_chosen(letters: &[&str], operation: Operation) -> bool
+    ensures { result ≡ is_chosen letters.now operation }
+{
+    letters.is_empty() || has_name(letters, operation.letter().as_bytes())
+}
+
 impl Operations {
     /// Returns the operations with these letters; all if there are none.
-    pub fn named(letters: &[&str]) -> Operations {
-        let is_named = |operation: Operation| {
-            letters.is_empty() || letters.iter().any(|letter| *letter == operation.letter())
-        };
+    pub fn named(letters: &[&str]) -> Operations
+        ensures { result ≡ operations_of letters.now }
+    {
         Operations {
-            inserts: is_named(Operation::Insert),
-            updates: is_named(Operation::Update),
-            deletes: is_named(Operation::Delete),
+            inserts: is_chosen(letters, Operation::Insert),
+            updates: is_chosen(letters, Operation::Update),
+            deletes: is_chosen(letters, Operation::Delete),
         }
     }
 
@@ -107,18 +128,6 @@ fn is_full_name(text: &[u8], database: &[u8], table: &[u8]) -> bool
     }
 }
 
-// Returns whether one of the names is that of the database.
-fn names_database(names: &[&str], database: &[u8]) -> bool
-    ensures { result ≡ list_any (λ name. bytes_eq name.now database.now) names.now }
-{
-    for name in names {
-        if name.as_bytes() == database {
-            return true;
-        }
-    }
-    false
-}
-
 // Returns whether one of the names is that of the table.
 fn names_table(names: &[&str], database: &[u8], table: &[u8]) -> bool
     ensures { result ≡ list_any
@@ -138,7 +147,7 @@ impl<'a> TableNames<'a> {
         ensures { result ≡ is_named self.now database.now table.now }
     {
         self.databases.is_empty() && self.tables.is_empty()
-            || names_database(self.databases, database)
+            || has_name(self.databases, database)
             || names_table(self.tables, database, table)
     }
 }

@@ -5,7 +5,7 @@ ghost use Rattle.std.specs.String.{string_bytes};
 ghost use Rattle.std.specs.Io.KnownBytes.{Appends};
 ghost use Rattle.row_json.specs.Rows.{IsLine};
 ghost use Rattle.row_json.specs.Columns.{columns_of};
-ghost use Rattle.row_lines.specs.Lines.{line_text};
+ghost use Rattle.row_lines.specs.Lines.{signed_line_text};
 ghost use Rattle.std.specs.Prelude.{◌^◌, ◌<◌, length, Some, None, Err, IfSome, IsSome, IsOk};
 ghost use Rattle.mysql_binlog_rows.specs.Images.{Pair, pair};
 ghost use Rattle.mysql_binlog_rows.specs.Cover.{Covers};
@@ -25,6 +25,11 @@ ghost use Rattle.changes.specs.declared.error.Failure.{Failure};
 ghost use Rattle.changes.specs.Failures.{IsOutput, IsErrorOfRow, EndsAtRow, IsRowFailure, IsLineFailure};
 ghost use Rattle.changes.specs.Failures.{IsLostBy, OutputsUpTo, AppendsUpTo};
 ghost use Rattle.changes.specs.Failures.{WritesFirstRows, WritesFirstOfEvent, WritesFirst};
+ghost use Rattle.changes.specs.Names.{up_to_most};
+ghost use Rattle.changes.specs.Counted.{name_of, CountsMore};
+ghost use Rattle.changes.specs.CountedFiles.{counted_by, AreEventRows, AreFirstEventRows};
+ghost use Rattle.changes.specs.CountedFiles.{AreCountedToEnd, AreFirstCounted, AreAllCounted};
+ghost use Rattle.changes.specs.CountedFiles.{AreFirstOfFile, CountsThese};
 ghost use Rattle.changes.specs.Printers.{IsSame};
 ghost use Rattle.changes.specs.Runs.{AreAllLines, AreFirstLines};
 
@@ -48,7 +53,7 @@ use binlog_file::source_changes::SourceChanges;
 use binlog_table::table_map::TableMapEvent;
 use mysql_binlog_rows::rows_event::{LentPair, RowsEvent};
 use row_json::{LineRoom, TableJson, write_line_with};
-use row_lines::push_line;
+use row_lines::push_signed_line;
 use std::alloc::{AllocError, Global};
 use std::io::{ErrorKind, Read, Write};
 use std::time::Clock;
@@ -187,7 +192,7 @@ impl Lines {
             × (self.new.bytes.items ≡ self.old.bytes.items ++ line)) }
         ensures kept { OnErr result (self.new.bytes.items ≡ self.old.bytes.items) }
         ensures failed { IfErr result (IsLineFailure table.now event.now source.now.origin.position
-            pair.now) }
+            source.now.row pair.now) }
     {
         let bytes = &mut self.bytes;
         match write_line_with(alloc, &mut self.room, bytes, table, event, pair, source) {
@@ -204,12 +209,12 @@ impl Lines {
         pair: &LentPair<'_>,
     ) -> Result<(), AllocError>
         ensures line { OnOk result (self.new.bytes.items
-            ≡ self.old.bytes.items ++ (place.now ++ line_text pair.now)) }
+            ≡ self.old.bytes.items ++ (place.now ++ signed_line_text pair.now)) }
         ensures kept { OnErr result (self.new.bytes.items ≡ self.old.bytes.items) }
     {
         let len = self.bytes.len();
         self.bytes.extend_from_slice(place.as_bytes())?;
-        let pushed = push_line(alloc, &mut self.bytes, pair);
+        let pushed = push_signed_line(alloc, &mut self.bytes, pair);
         if pushed.is_err() {
             self.bytes.truncate(len);
         }
@@ -259,10 +264,10 @@ fn write_text_rows<'f, S: Bytes + Drop, O: Write>(
     lines: &mut Lines,
     out: &mut O,
 ) -> Result<u64, Failure>
-    ensures lines { OnOk result (WritesRows (λ row p line. line ≡ place.now ++ line_text p)
+    ensures lines { OnOk result (WritesRows (λ row p line. line ≡ place.now ++ signed_line_text p)
         change.entry (O.contents out.old) lines.old.bytes.items (O.contents out.new)
         lines.new.bytes.items) }
-    ensures first { IfErr result (λ why. WritesFirstRows why (λ row p line. line ≡ place.now ++ line_text p)
+    ensures first { IfErr result (λ why. WritesFirstRows why (λ row p line. line ≡ place.now ++ signed_line_text p)
         change.entry (O.contents out.old) lines.old.bytes.items (O.contents out.new)
         lines.new.bytes.items) }
     ensures stays { OnOk result (Stays changes.old changes.new) }
@@ -286,10 +291,11 @@ fn count_rows<'f, S: Bytes + Drop>(
     change: LentChange<'_>,
 ) -> (u64, Option<FileError>)
     ensures covers { result.1 ≡ None → (ps : List Pair)
-        × Covers (pair change.entry.table change.entry.rows) change.entry.left ps None }
+        × Covers (pair change.entry.table change.entry.rows) change.entry.left ps None
+        × (result.0 ≡ up_to_most (length ps)) }
     ensures first { IfSome result.1 (λ error. (ps : List Pair) × (rest : List ℕ)
         × BeginsWith (pair change.entry.table change.entry.rows) change.entry.left ps rest
-        × IsErrorOfRow change.entry rest error) }
+        × IsErrorOfRow change.entry (length ps) rest error × (result.0 ≡ up_to_most (length ps))) }
     ensures stays { result.1 ≡ None → Stays changes.old changes.new }
 {
     let mut change = change;
@@ -302,6 +308,23 @@ fn count_rows<'f, S: Bytes + Drop>(
         }
     }
     (count, None)
+}
+
+// Adds so many rows of a table to the counts. If what changed them isn't known, nothing is counted.
+fn add_rows(
+    counts: &mut Counts,
+    name: TableName,
+    operation: Option<Operation>,
+    rows: u64,
+) -> Result<(), AllocError>
+    ensures added { OnOk result (CountsMore (counted_by operation (name_of name) rows)
+        counts.old counts.new) }
+    ensures kept { OnErr result (CountsMore [] counts.old counts.new) }
+{
+    match operation {
+        Some(operation) => counts.add(name, operation, rows),
+        None => Ok(()),
+    }
 }
 
 // The types of the events that are looked at beside rows events: those after which another GTID may be
@@ -429,15 +452,17 @@ impl<'a> Printer<'a> {
             × Covers (pair change.entry.table change.entry.rows) change.entry.left ps None) }
         ensures first { IfErr result (λ why. (ps : List Pair) × (rest : List ℕ)
             × BeginsWith (pair change.entry.table change.entry.rows) change.entry.left ps rest
-            × EndsAtRow why change.entry rest) }
+            × EndsAtRow why change.entry (length ps) rest) }
         ensures stays { OnOk result (Stays changes.old changes.new) }
+        ensures counts { OnOk result (CountsThese (AreEventRows (lent.Rows change.entry))
+            counts.old counts.new) }
+        ensures first_counts { IfErr result (λ why. CountsThese
+            (AreFirstEventRows why (lent.Rows change.entry)) counts.old counts.new) }
     {
         let name = TableName::of(self.alloc, change.table())?;
         let operation = Operation::of(change.rows().event_type());
         let (rows, error) = count_rows(self.alloc, changes, change);
-        if let Some(operation) = operation {
-            counts.add(name, operation, rows)?;
-        }
+        add_rows(counts, name, operation, rows)?;
         match error {
             None => Ok(rows),
             Some(error) => Err(Failure::File(error)),
@@ -461,6 +486,10 @@ impl<'a> Printer<'a> {
         ensures stays { OnOk result (Stays changes.old changes.new) }
         ensures same { IsSame self.old self.new }
         ensures gtid { self.new.gtid ≡ self.old.gtid }
+        ensures counts { OnOk result (self.old.settings.now.form ≡ Form.Count
+            → CountsThese (AreEventRows (lent.Rows change.entry)) counts.old counts.new) }
+        ensures first_counts { IfErr result (λ why. self.old.settings.now.form ≡ Form.Count
+            → CountsThese (AreFirstEventRows why (lent.Rows change.entry)) counts.old counts.new) }
     {
         match self.settings.form {
             Form::Json => self.print_json(changes, change, out),
@@ -499,6 +528,10 @@ impl<'a> Printer<'a> {
         ensures stays { OnOk result (Stays changes.old changes.new) }
         ensures same { IsSame self.old self.new }
         ensures gtid { OnOk result (self.new.gtid ≡ gtid_past self.old.gtid event.entry) }
+        ensures counts { OnOk result (self.old.settings.now.form ≡ Form.Count
+            → CountsThese (AreEventRows event.entry) counts.old counts.new) }
+        ensures first_counts { IfErr result (λ why. self.old.settings.now.form ≡ Form.Count
+            → CountsThese (AreFirstEventRows why event.entry) counts.old counts.new) }
     {
         match event {
             LentEvent::Other(event) => {
@@ -530,6 +563,17 @@ impl<'a> Printer<'a> {
             self.old.file.now (spot_at (kept_in changes.old.walk) None x) self.old.gtid
             (O.contents out.old) self.old.lines.bytes.items
             (O.contents out.new) self.new.lines.bytes.items) }
+        ensures counts { OnOk result (self.old.settings.now.form ≡ Form.Count
+            → changes.old.walk.pending ≡ None → (x : List ℕ)
+            → Finds (reading_in changes.old.walk) (S.remaining changes.old.source) x
+            → CountsThese (AreCountedToEnd self.old.settings.now.filter.positions.stop
+            (wanted_by changes.old.choice) (spot_at (kept_in changes.old.walk) None x))
+            counts.old counts.new) }
+        ensures first_counts { IfErr result (λ why. self.old.settings.now.form ≡ Form.Count
+            → changes.old.walk.pending ≡ None → (x : List ℕ)
+            → Finds (reading_in changes.old.walk) (S.remaining changes.old.source) x
+            → CountsThese (AreFirstCounted why (wanted_by changes.old.choice)
+            (spot_at (kept_in changes.old.walk) None x)) counts.old counts.new) }
     {
         let mut bounds = Bounds::of(self.settings.filter.positions);
         let mut buffer = EventBuffer::new(self.alloc);
@@ -565,6 +609,12 @@ impl<'a> Printer<'a> {
             → (x : List ℕ) → R.remaining reader ≡ Some x → length x < 2 ^ 64
             → (text : List ℕ) × AreFirstLines why self.old.settings.now self.old.file.now x text
             × AppendsUpTo why (O.contents out.old) (O.contents out.new) text) }
+        ensures counts { OnOk result (self.old.settings.now.form ≡ Form.Count
+            → (x : List ℕ) → R.remaining reader ≡ Some x → length x < 2 ^ 64
+            → CountsThese (AreAllCounted self.old.settings.now x) counts.old counts.new) }
+        ensures first_counts { IfErr result (λ why. self.old.settings.now.form ≡ Form.Count
+            → (x : List ℕ) → R.remaining reader ≡ Some x → length x < 2 ^ 64
+            → CountsThese (AreFirstOfFile why self.old.settings.now x) counts.old counts.new) }
     {
         let file = BinlogFile::new(self.alloc, Counted::new(reader))?;
         let mut changes = SourceChanges::new(self.alloc, file, self.settings.filter);
@@ -590,9 +640,14 @@ pub fn run<R: Read + Drop, O: Write, E: Write + Drop, K: Clock>(
     ensures all { result ≡ Whole → (x : List ℕ) → R.remaining reader ≡ Some x → length x < 2 ^ 64
         → (text : List ℕ) × AreAllLines settings.now file.now x text
         × Appends (O.contents out.old) (O.contents out.new) text }
+    ensures counts { result ≡ Whole → settings.now.form ≡ Form.Count
+        → (x : List ℕ) → R.remaining reader ≡ Some x → length x < 2 ^ 64
+        → CountsThese (AreAllCounted settings.now x) counts.old counts.new }
     ensures first { result ≢ Whole → (x : List ℕ) → R.remaining reader ≡ Some x → length x < 2 ^ 64
         → (why : Failure) × (text : List ℕ) × AreFirstLines why settings.now file.now x text
-        × AppendsUpTo why (O.contents out.old) (O.contents out.new) text }
+        × AppendsUpTo why (O.contents out.old) (O.contents out.new) text
+        × (settings.now.form ≡ Form.Count
+        → CountsThese (AreFirstOfFile why settings.now x) counts.old counts.new) }
 {
     let mut printer = Printer {
         alloc,

@@ -4,9 +4,11 @@ use Rattle.changes.specs.declared.error.Failure.TheVariants as failure
 use Rattle.changes.specs.declared.run.Lines.{Lines}
 use Rattle.changes.specs.Lines.{AreEventLines}
 use Rattle.changes.specs.Failures.{AreFirstOfEvent, OutputsUpTo}
+use Rattle.changes.specs.CountedFiles.{AreEventRows, AreFirstEventRows}
 use Rattle.changes.proofs.Errors.{passed_on}
 use Rattle.changes.proofs.Failures.{up_to_nothing}
 use Rattle.changes.proofs.Outputs.{outputs_held}
+use Rattle.changes.proofs.CountedFiles.{counts_nothing}
 use Rattle.changes.proofs.run.Printer.print_event.Goals as goal
 
 pub returns-in_ok-see-in-Other-clause-lines : goal.returns-in_ok-see-in-Other-clause-lines
@@ -26,3 +28,10 @@ returns-in_err-see-in-Other-clause-first g c =
       subst (λ (x : LentEvent). AreFirstOfEvent failure.Memory s.settings.now.form s.file.now s.gtid x []) (sym c.in-Other.is) (refl, tt),
       subst (λ t. OutputsUpTo failure.Memory out held [] out t) (sym same) (up_to_nothing failure.Memory out held),
     )
+
+pub returns-in_ok-see-in-Other-clause-counts : goal.returns-in_ok-see-in-Other-clause-counts
+returns-in_ok-see-in-Other-clause-counts g c = λ same. ([], subst (λ (x : LentEvent). AreEventRows x []) (sym c.in-Other.is) refl, counts_nothing c.args.counts.now)
+
+pub returns-in_err-see-in-Other-clause-first_counts : goal.returns-in_err-see-in-Other-clause-first_counts
+returns-in_err-see-in-Other-clause-first_counts g c =
+    passed_on _ failure.Memory _ c.from_residual.ensures.1 (λ same. ([], subst (λ (x : LentEvent). AreFirstEventRows failure.Memory x []) (sym c.in-Other.is) (refl, tt), counts_nothing c.args.counts.now))

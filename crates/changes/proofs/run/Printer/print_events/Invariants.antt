@@ -3,7 +3,9 @@ use Rattle.binlog_file.specs.SourceChanges.{Finds, spot_at, items_left}
 use Rattle.binlog_file.specs.SourceWalks.{reading_in, kept_in}
 use Rattle.changes.specs.Filters.{wanted_by}
 use Rattle.changes.specs.Printers.{IsSame}
+use Rattle.changes.specs.declared.run.Form.TheVariants as form
 use Rattle.changes.proofs.Whole.{SoFar}
+use Rattle.changes.proofs.CountedFiles.{CountedSoFar}
 use Rattle.changes.proofs.run.Printer.print_events.Given as goal
 
 abbrev pub invariant-loop-bounds : goal.invariant-loop-bounds
@@ -14,6 +16,8 @@ invariant-loop-bounds g l =
     × (l.fn.changes.walk.pending ≡ None → (x : List ℕ) → Finds (reading_in l.fn.changes.walk) (g.S.Source.remaining l.fn.changes.source) x
     → SoFar l.fn.self.settings.now.form (wanted_by l.fn.changes.choice) l.fn.self.file.now (spot_at (kept_in l.fn.changes.walk) None x) l.fn.self.gtid (g.O.Write.contents l.fn.out) l.fn.self.lines.bytes.items
     (g.S.Source.remaining l.changes.source) (reading_in l.changes.walk) l.changes.walk.pending l.self.gtid (g.O.Write.contents l.out) l.self.lines.bytes.items)
+    × (l.fn.self.settings.now.form ≡ form.Count → l.fn.changes.walk.pending ≡ None → (x : List ℕ) → Finds (reading_in l.fn.changes.walk) (g.S.Source.remaining l.fn.changes.source) x
+    → CountedSoFar (wanted_by l.fn.changes.choice) (spot_at (kept_in l.fn.changes.walk) None x) l.fn.counts (g.S.Source.remaining l.changes.source) (reading_in l.changes.walk) l.changes.walk.pending l.counts)
 
 abbrev pub decreases-loop-bounds : goal.decreases-loop-bounds
 decreases-loop-bounds g l = items_left (reading_in l.changes.walk) l.changes.walk.pending

@@ -1,4 +1,8 @@
-use Rattle.changes.proofs.Errors.{on_error}
+use Rattle.std.proofs.Common.{◌≡◌, sym, ◌∙◌}
+use Rattle.changes.specs.declared.run.Form.{Form}
+use Rattle.changes.specs.declared.run.Form.TheVariants as form
+use Rattle.changes.proofs.Errors.{on_error, any_error}
+use Rattle.changes.proofs.Counted.{in_any_case}
 use Rattle.changes.proofs.First.{first_counted}
 use Rattle.changes.proofs.Written.{on_ok, rows_counted}
 use Rattle.changes.proofs.run.Printer.print_rows.Goals as goal
@@ -12,3 +16,21 @@ pub returns-in-Count-clause-first : goal.returns-in-Count-clause-first
 returns-in-Count-clause-first g c =
     let s = c.args.self.now in
     on_error c.count.result _ _ (first_counted s.settings.now.form s.file.now s.gtid c.args.change (g.O.Write.contents c.args.out.now) s.lines.bytes.items c.in-Count.is) c.count.ensures.first
+
+pub returns-in-Count-clause-counts : goal.returns-in-Count-clause-counts
+returns-in-Count-clause-counts g c = on_ok c.count.result _ _ (λ counts same. counts) c.count.ensures.counts
+
+pub returns-in-Count-clause-first_counts : goal.returns-in-Count-clause-first_counts
+returns-in-Count-clause-first_counts g c = on_error c.count.result _ _ (λ why counts same. counts) c.count.ensures.first_counts
+
+pub returns-in-Json-clause-counts : goal.returns-in-Json-clause-counts
+returns-in-Json-clause-counts g c = in_any_case c.print_json.result _ (λ same. absurd (let bad : form.Json ≡ form.Count = sym c.in-Json.is ∙ same in cc))
+
+pub returns-in-Json-clause-first_counts : goal.returns-in-Json-clause-first_counts
+returns-in-Json-clause-first_counts g c = any_error c.print_json.result _ (λ why same. absurd (let bad : form.Json ≡ form.Count = sym c.in-Json.is ∙ same in cc))
+
+pub returns-in-Text-clause-counts : goal.returns-in-Text-clause-counts
+returns-in-Text-clause-counts g c = in_any_case c.print_text.result _ (λ same. absurd (let bad : form.Text ≡ form.Count = sym c.in-Text.is ∙ same in cc))
+
+pub returns-in-Text-clause-first_counts : goal.returns-in-Text-clause-first_counts
+returns-in-Text-clause-first_counts g c = any_error c.print_text.result _ (λ why same. absurd (let bad : form.Text ≡ form.Count = sym c.in-Text.is ∙ same in cc))

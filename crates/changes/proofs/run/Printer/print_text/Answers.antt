@@ -1,6 +1,6 @@
 use Rattle.std.proofs.Common.{◌≡◌, ◌++◌, ℕ, ap, ◌∙◌}
 use Rattle.binlog_table.specs.TableMap.{TableMap}
-use Rattle.row_lines.specs.Lines.{line_text}
+use Rattle.row_lines.specs.Lines.{signed_line_text}
 use Rattle.changes.specs.declared.error.Failure.TheVariants as failure
 use Rattle.changes.specs.declared.run.Form.TheVariants as form
 use Rattle.changes.specs.Lines.{IsRowLine, place_text}
@@ -17,7 +17,7 @@ returns-clause-lines g c =
     let place : c.as_str.result.now ≡ place_text file e.origin.position e.table =
     c.as_str.ensures.value ∙ c.in_ok-place.ensures ∙ ap (λ (n : ℕ). place_text file n c.table.result.now) c.position.ensures ∙ ap (λ (u : TableMap). place_text file e.origin.position u) c.table.ensures in
     on_ok c.write_text_rows.result _ _
-    (rows_weaker (λ row p line. line ≡ c.as_str.result.now ++ line_text p) (IsRowLine form.Text file gtid e) (λ row p line is. is ∙ ap (λ b. b ++ line_text p) place) e _ _ _ _)
+    (rows_weaker (λ row p line. line ≡ c.as_str.result.now ++ signed_line_text p) (IsRowLine form.Text file gtid e) (λ row p line is. is ∙ ap (λ b. b ++ signed_line_text p) place) e _ _ _ _)
     c.write_text_rows.ensures.lines
 
 pub returns-clause-first : goal.returns-clause-first
@@ -28,7 +28,7 @@ returns-clause-first g c =
     let place : c.as_str.result.now ≡ place_text file e.origin.position e.table =
     c.as_str.ensures.value ∙ c.in_ok-place.ensures ∙ ap (λ (n : ℕ). place_text file n c.table.result.now) c.position.ensures ∙ ap (λ (u : TableMap). place_text file e.origin.position u) c.table.ensures in
     on_error c.write_text_rows.result _ _
-    (first_weaker (λ row p line. line ≡ c.as_str.result.now ++ line_text p) (IsRowLine form.Text file gtid e) (λ row p line is. is ∙ ap (λ b. b ++ line_text p) place) e _ _ _ _)
+    (first_weaker (λ row p line. line ≡ c.as_str.result.now ++ signed_line_text p) (IsRowLine form.Text file gtid e) (λ row p line is. is ∙ ap (λ b. b ++ signed_line_text p) place) e _ _ _ _)
     c.write_text_rows.ensures.first
 
 pub returns-in_err-place-clause-first : goal.returns-in_err-place-clause-first

@@ -16,4 +16,5 @@ pub mod Lines
 pub mod Failures
 pub mod CountedFiles
 pub mod Runs
+pub mod Arguments
 pub mod Printers

@@ -1,11 +1,17 @@
 //! The arguments of the program.
 
+ghost use Rattle.std.specs.Prelude.{◌≡◌, ℕ, List, Some, None, codes};
+ghost use Rattle.clap.specs.Matches.{found_of, one_text, ReadsOne};
+ghost use Rattle.changes.specs.Arguments.{form_of, settings_of, texts, values_of};
+ghost use Rattle.changes.specs.Arguments.{IsFlag, AreArguments};
+
 use crate::filter::{Filter, Operations, Positions, TableNames};
 use crate::run::{Form, Settings};
 use clap::builder::ValueParser;
 use clap::error::ErrorKind;
 use clap::{Arg, ArgAction, ArgMatches, Command, Error, value_parser};
 use std::alloc::{AllocError, Global};
+use std::str::FromStr;
 
 /// The names of the operations.
 static OPERATIONS: [&str; 3] = ["c", "u", "d"];
@@ -127,18 +133,38 @@ pub struct Arguments<'a> {
 }
 
 // Returns the values of an option; none if it isn't given.
-fn values<'m>(matches: &'m ArgMatches<'_>, name: &str) -> &'m [&'m str] {
+fn values<'m>(matches: &'m ArgMatches<'_>, name: &str) -> &'m [&'m str]
+    ensures { texts result.now ≡ values_of (found_of matches.now) name.now }
+{
     matches.get_strs(name).unwrap_or(&[])
+}
+
+// Returns whether a flag is given.
+fn flag_of(matches: &ArgMatches<'_>, name: &str) -> bool
+    ensures { IsFlag (found_of matches.now) name.now result }
+{
+    matches.get_flag(name)
 }
 
 impl<'a> Arguments<'a> {
     /// Returns the arguments that were found.
-    pub fn of(matches: &'a ArgMatches<'_>) -> Arguments<'a> {
-        let is_quiet = matches.get_flag("quiet");
+    pub fn of(matches: &'a ArgMatches<'_>) -> Arguments<'a>
+        ensures found { AreArguments (found_of matches.now) result }
+        ensures start { (t : List ℕ) → one_text (found_of matches.now) (codes "start-position") ≡ Some t
+            → ReadsOne ⟦<u64 as FromStr>⟧.from_str_gives t result.positions.start }
+        ensures no_start { one_text (found_of matches.now) (codes "start-position") ≡ None
+            → result.positions.start ≡ None }
+        ensures stop { (t : List ℕ) → one_text (found_of matches.now) (codes "stop-position") ≡ Some t
+            → ReadsOne ⟦<u64 as FromStr>⟧.from_str_gives t result.positions.stop }
+        ensures no_stop { one_text (found_of matches.now) (codes "stop-position") ≡ None
+            → result.positions.stop ≡ None }
+    {
+        let is_quiet = flag_of(matches, "quiet");
+        let is_progress = flag_of(matches, "progress");
         Arguments {
             files: values(matches, "file"),
-            is_count: matches.get_flag("count"),
-            is_progress: matches.get_flag("progress") && !is_quiet,
+            is_count: flag_of(matches, "count"),
+            is_progress: is_progress && !is_quiet,
             tables: TableNames {
                 databases: values(matches, "database"),
                 tables: values(matches, "table"),
@@ -148,13 +174,15 @@ impl<'a> Arguments<'a> {
                 start: matches.get_one("start-position"),
                 stop: matches.get_one("stop-position"),
             },
-            is_text: matches.get_flag("text"),
+            is_text: flag_of(matches, "text"),
             is_quiet,
         }
     }
 
     // Returns the form of what is printed.
-    fn form(&self) -> Form {
+    fn form(&self) -> Form
+        ensures { result ≡ form_of self.now.is_count self.now.is_text }
+    {
         if self.is_count {
             Form::Count
         } else if self.is_text {
@@ -166,7 +194,9 @@ impl<'a> Arguments<'a> {
 
     /// Returns what is printed of the file with this number: the start position is that of the first
     /// file, and the stop position that of the last one.
-    pub fn settings(&self, index: usize) -> Settings<'a> {
+    pub fn settings(&self, index: usize) -> Settings<'a>
+        ensures { result ≡ settings_of self.now index }
+    {
         let is_last = index.saturating_add(1) == self.files.len();
         Settings {
             filter: Filter {

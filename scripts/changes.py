@@ -12,7 +12,10 @@ PROGRAM is the built program (crates/changes/out/changes). Each FILE is a `.bin.
 - Standard input gives the same as the file.
 - `--table` gives the lines of that table, for each table, and `--database` and `--op` those of theirs; `--count` gives their numbers.
 - `--start-position` and `--stop-position` at each rows event give the lines from it on, and before it.
-- A copy that is cut in its last event gives the lines before it and one message; so does one with a byte changed, if it has checksums.
+- A copy that is cut in its last event gives the lines before it and one message; so does one with a byte changed, if it has checksums. `--count`
+  gives the numbers of these lines.
+- A copy whose event lacks the last byte of its last row gives the lines before that row, the row's number in the message, and with `--count` the
+  numbers of these lines.
 """
 import gzip
 import json
@@ -36,10 +39,11 @@ def check(holds, what):
         raise Failed(what)
 
 
-def run(program, *words, data=None, status=0):
+def run(program, *words, data=None, status=0, message=""):
     ran = subprocess.run([program, "--quiet", *words], input=data, capture_output=True)
-    check(ran.returncode == status, f"{words}: status {ran.returncode}, {ran.stderr.decode()}")
-    check(len(ran.stderr.splitlines()) == (status != 0), f"{words}: {ran.stderr.decode()}")
+    told = ran.stderr.decode()
+    check(ran.returncode == status, f"{words}: status {ran.returncode}, {told}")
+    check(len(told.splitlines()) == (status != 0) and message in told, f"{words}: {told}")
     return ran.stdout.decode().splitlines()
 
 
@@ -129,26 +133,59 @@ def check_filters(program, path, rows, lines):
     check_count(program, path, by_line)
 
 
-def check_count(program, path, by_line):
+def check_count(program, path, by_line, status=0):
     numbers = Counter((e["db"], e["table"], e["op"]) for e in by_line)
     tables = sorted({(e["db"], e["table"]) for e in by_line}, key=lambda t: (t[0].encode(), t[1].encode()))
     expected = [[str(numbers[t + (op,)]) for op in "cud"] + [f"{t[0]}.{t[1]}"] for t in tables]
     expected.append([str(sum(e["op"] == op for e in by_line)) for op in "cud"] + ["(all)"])
-    check([line.split(None, 3) for line in run(program, "--count", str(path))[1:]] == expected, "counts differ")
+    found = [line.split(None, 3) for line in run(program, "--count", str(path), status=status)[1:]]
+    check(found == expected, f"counts differ: {found} is not {expected}")
 
 
 def check_damage(program, path, rows, lines, data, folder):
     places = [at for at, *_ in events_of(data)]
-    before = {at: sum(len(e["lines"]) for e in rows if e["pos"] < at) for at in places}
+    by_line = [event for event in rows for _ in event["lines"]]
+    before = {at: sum(e["pos"] < at for e in by_line) for at in places}
     damaged = folder / path.name
     sums = data[places[1] - 5] == 1
     for at, end in list(zip(places, places[1:] + [len(data)]))[-4:]:
         for cut in {at + 1, at + 19, (at + end) // 2, end - 1} - {at}:
             damaged.write_bytes(data[:cut])
             check(run(program, str(damaged), status=1) == lines[: before[at]], f"cut at {cut} differs")
+            check_count(program, damaged, by_line[: before[at]], status=1)
         if sums:
             damaged.write_bytes(data[: end - 5] + bytes([data[end - 5] ^ 1]) + data[end - 4:])
             check(run(program, str(damaged), status=1) == lines[: before[at]], f"damage at {end - 5} differs")
+
+
+def ends_with_cell(line):
+    """Whether the last image of a row has a cell with bytes, so that it can't be read without the last one."""
+    before, after = line.split(" -> ")
+    image = before if after == "-" else after
+    return any(cell and cell.split("=")[-1] not in ("NULL", "x") for cell in image[1:-1].split(", "))
+
+
+def check_faulty_rows(program, path, rows, lines, data, folder):
+    faulty = folder / path.name
+    by_line = [event for event in rows for _ in event["lines"]]
+    places = [at for at, *_ in events_of(data)]
+    sums = 4 if data[places[1] - 5] == 1 else 0
+    several = [event for event in rows if len(event["lines"]) > 1 and ends_with_cell(event["lines"][-1])]
+    for event in several[:: max(1, len(several) // 10)]:
+        at, last = event["pos"], len(event["lines"]) - 1
+        size = int.from_bytes(data[at + 9:at + 13], "little")
+        raw = data[at:at + 9] + (size - 1).to_bytes(4, "little") + data[at + 13:at + size - sums - 1]
+        faulty.write_bytes(data[:at] + raw + (zlib.crc32(raw).to_bytes(4, "little") if sums else b""))
+        count = sum(e["pos"] < at for e in by_line) + last
+        found = run(program, str(faulty), status=1, message=f" at {at}: row {last} can't be read: ")
+        check(found == lines[:count], f"a faulty row at {at} differs")
+        check_count(program, faulty, by_line[:count], status=1)
+
+
+def folder_in(folder, name):
+    inner = folder / name
+    inner.mkdir()
+    return inner
 
 
 def check_file(program, name, folder):
@@ -160,9 +197,8 @@ def check_file(program, name, folder):
     lines = check_json(program, path, rows, data)
     check_filters(program, path, rows, lines)
     if path.stat().st_size < 120000:
-        inner = folder / "damaged"
-        inner.mkdir(exist_ok=True)
-        check_damage(program, path, rows, lines, data, inner)
+        check_damage(program, path, rows, lines, data, folder_in(folder, "damaged"))
+    check_faulty_rows(program, path, rows, lines, data, folder_in(folder, "faulty"))
     check_text(program, path, rows)
     return len(lines)
 

@@ -1,5 +1,4 @@
 use Rattle.std.proofs.Common.{◌≡◌, sym, ◌∙◌}
-use Rattle.changes.specs.declared.run.Form.{Form}
 use Rattle.changes.specs.declared.run.Form.TheVariants as form
 use Rattle.changes.proofs.Errors.{on_error, any_error}
 use Rattle.changes.proofs.Counted.{in_any_case}

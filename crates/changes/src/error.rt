@@ -52,18 +52,35 @@ impl<T: Drop> From<AllocFailed<T>> for Failure {
     }
 }
 
-// What an error of an event is told as.
+// What an error of an event is told as. `there` is how many bytes of the event the file has, if that is
+// known.
 #[derive(Clone, Copy)]
-struct Sentence(EventError);
+struct Sentence {
+    error: EventError,
+    there: Option<u64>,
+}
+
+impl Sentence {
+    // Writes that so many bytes of the event are missing.
+    fn write_cut<W: fmt::Write>(&self, f: &mut fmt::Formatter<W>, missing: u64) -> fmt::Result {
+        match self.there {
+            Some(there) => {
+                let all = there.saturating_add(missing);
+                write!(f, "the event is cut: {there} of {all} bytes are there")
+            }
+            None => write!(f, "the event is cut: {missing} bytes are missing"),
+        }
+    }
+}
 
 impl fmt::Display for Sentence {
     fn fmt<W: fmt::Write>(&self, f: &mut fmt::Formatter<W>) -> fmt::Result {
-        match self.0 {
+        match self.error {
             EventError::NotABinlogFile => f.write_str("this isn't a binlog file"),
             EventError::Encrypted => f.write_str(
                 "the file is encrypted: turn off binlog_encryption, or encrypt_binlog of MariaDB",
             ),
-            EventError::Cut(missing) => write!(f, "the event is cut: {missing} bytes are missing"),
+            EventError::Cut(missing) => self.write_cut(f, missing),
             EventError::RowsData(row, fault) => write!(f, "row {row} can't be read: {fault}"),
             EventError::NotSupported(0x28) => f.write_str(
                 "the transaction is compressed: turn off binlog_transaction_compression",
@@ -85,6 +102,8 @@ impl fmt::Display for Sentence {
 pub struct Told<'a> {
     /// The path of the file, as it was given.
     pub path: &'a str,
+    /// How many bytes the file has, if that is known.
+    pub len: Option<u64>,
     pub failure: &'a Failure,
 }
 
@@ -94,7 +113,10 @@ impl<'a> fmt::Display for Told<'a> {
         match self.failure {
             Failure::File(error) => {
                 let position = error.position;
-                let sentence = Sentence(error.error);
+                let sentence = Sentence {
+                    error: error.error,
+                    there: self.len.and_then(|len| len.checked_sub(position)),
+                };
                 write!(f, "changes: {path} at {position}: {sentence}")
             }
             Failure::NoEvent(position) => {

@@ -93,7 +93,7 @@ fn one_file<'r>(
     let file = file_name(path);
     let mut out = rt.stdout();
     if path == "-" {
-        notes.begin(arguments.is_progress.then(|| Meter::new(rt, None)));
+        notes.begin(None, arguments.is_progress.then(|| Meter::new(rt, None)));
         let reader = BufReader::new(rt.alloc(), rt.stdin())?;
         return Ok(run(
             rt.alloc(),
@@ -108,7 +108,8 @@ fn one_file<'r>(
     }
     match open(rt, path) {
         Ok((opened, len)) => {
-            notes.begin(arguments.is_progress.then(|| Meter::new(rt, Some(len))));
+            let len = Some(len);
+            notes.begin(len, arguments.is_progress.then(|| Meter::new(rt, len)));
             let reader = BufReader::new(rt.alloc(), opened)?;
             Ok(run(
                 rt.alloc(),

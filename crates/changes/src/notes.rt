@@ -27,6 +27,8 @@ pub struct Notes<'c, E, K> {
     told: BTreeSet<TableName>,
     // A file has one table for each id.
     seen: BTreeSet<u64>,
+    // How many bytes the file has, if that is known.
+    len: Option<u64>,
     meter: Option<Meter<'c, K>>,
 }
 
@@ -39,19 +41,26 @@ impl<'c, E: Write + Drop, K: Clock> Notes<'c, E, K> {
             is_quiet,
             told: BTreeSet::new(alloc),
             seen: BTreeSet::new(alloc),
+            len: None,
             meter: None,
         }
     }
 
-    /// Begins the notes of a file, with a meter if progress is to be told.
-    pub fn begin(&mut self, meter: Option<Meter<'c, K>>) {
+    /// Begins the notes of a file of so many bytes, if that is known, with a meter if progress is to be
+    /// told.
+    pub fn begin(&mut self, len: Option<u64>, meter: Option<Meter<'c, K>>) {
         self.seen.clear();
+        self.len = len;
         self.meter = meter;
     }
 
     /// Tells why the reading of a file ended early.
     pub fn tell(&mut self, path: &str, failure: &Failure) {
-        let told = Told { path, failure };
+        let told = Told {
+            path,
+            len: self.len,
+            failure,
+        };
         let _written = writeln!(self.err, "{told}");
     }
 

@@ -1,11 +1,18 @@
 -- Bytes as JSON.
-use Rattle.std.proofs.Common.{◌≡◌, ℕ, ℤ, List, Bool, true, false, refl, sym, ap, ◌∙◌, Bor}
+use Rattle.std.proofs.Common.{◌≡◌, ◌<◌, ◌^◌, ◌≢◌, ℕ, ℤ, [], List, Bool, true, false, refl, sym, ap, subst, ◌∙◌, arith, Bor}
 use Rattle.std.specs.Prelude.{Option, Some, None, Result, Ok, Err, MatchResult, decimal, codes, if◌then◌else◌, IsUtf8}
+use Rattle.std.specs.Bool.{Decides}
+use Rattle.std.specs.Fmt.{digits}
 use Rattle.std.specs.Option.{option_map}
 use Rattle.std.specs.Result.{result_ok}
 use Rattle.std.specs.Str.{bytes_eq, is_utf8}
-use Rattle.std.proofs.lemmas.Str.{is_utf8-from_IsUtf8, IsUtf8-from_is_utf8}
-use Rattle.json.specs.Json.{Json, number}
+use Rattle.std.proofs.lemmas.Fmt.{decimal_injective, IsAscii-decimal}
+use Rattle.std.proofs.lemmas.Slice.Eq.{bytes_eq-Decides}
+use Rattle.std.proofs.lemmas.Str.{is_utf8-from_IsUtf8, IsUtf8-from_is_utf8, IsUtf8-from_ascii}
+use Rattle.json.specs.Json.{Json, number, string}
+use Rattle.json.specs.Word.{after_number}
+use Rattle.json.proofs.Printed.Decimals.{IsNumber-decimal}
+use Rattle.binlog_base.specs.Values.{Bytes}
 use Rattle.row_json.specs.declared.charset.Charset.{Charset}
 use Rattle.row_json.specs.declared.charset.Charset.TheVariants.{Utf8mb4}
 use Rattle.row_json.specs.declared.kind.Kind.{Kind}
@@ -13,7 +20,7 @@ use Rattle.row_json.specs.declared.kind.Kind.TheVariants as kind
 use Rattle.row_json.specs.Charsets.{text_in}
 use Rattle.row_json.specs.Columns.{Column}
 use Rattle.std.specs.Fmt.{signed_decimal}
-use Rattle.row_json.specs.Values.{number_or_bytes, year_json, base64_json, IsBytesJson, IsIntJson}
+use Rattle.row_json.specs.Values.{number_or_bytes, is_whole, year_json, base64_json, string_or, text_json, with_sign, IsBytesJson, IsIntJson, IsPlainJson, IsValueJson}
 
 not_utf8 : (bytes : List ℕ) (b : Bool) → is_utf8 bytes ≡ b → (IsUtf8 bytes → ⊥) → b ≡ false
 not_utf8 bytes true e h = absurd (h (IsUtf8-from_is_utf8 bytes e))
@@ -30,6 +37,49 @@ zero_year bytes e = sym (ap (λ (b : Bool). if b then number (decimal 0) else nu
 
 pub later_year : (bytes : List ℕ) (text : Option (List ℕ)) → bytes_eq bytes (codes "1900") ≡ false → text ≡ text_in Utf8mb4 bytes → number_or_bytes bytes text ≡ year_json bytes
 later_year bytes text e is = ap (number_or_bytes bytes) is ∙ sym (ap (λ (b : Bool). if b then number (decimal 0) else number_or_bytes bytes (text_in Utf8mb4 bytes)) e)
+
+-- ---- years as numbers
+
+digits_1900 : decimal 1900 ≡ codes "1900"
+unfolding digits
+digits_1900 = refl
+
+not_so : {P : Type 0} (b : Bool) → Decides b P → (P → ⊥) → b ≡ false
+not_so true is other = absurd (other (is.0 refl))
+not_so false is other = refl
+
+pub year_0 : number (decimal 0) ≡ year_json (decimal 1900)
+year_0 = ap year_json (sym digits_1900)
+
+pub year_number : (y : ℕ) → y < 2 ^ 16 → y ≢ 1900 → number (decimal y) ≡ year_json (decimal y)
+year_number y fits other =
+    let ds = decimal y in
+    let differs : bytes_eq ds (codes "1900") ≡ false = not_so (bytes_eq ds (codes "1900")) (bytes_eq-Decides ds (codes "1900")) (λ e. other (decimal_injective y 1900 (omega arith) (omega arith) (e ∙ sym digits_1900))) in
+    let text : Some ds ≡ text_in Utf8mb4 ds = sym (ap (λ (b : Bool). if b then Some ds else None) (is_utf8-from_IsUtf8 ds (IsUtf8-from_ascii ds (IsAscii-decimal y (omega arith))))) in
+    let is : after_number ds ≡ Some [] = IsNumber-decimal y (omega arith) in
+    sym (ap (λ (o : Option (List ℕ)). if is_whole o then number ds else string ds) is) ∙ later_year ds (Some ds) differs text
+
+-- ---- by kinds
+
+-- bytes mean no old TIME, so they have no sign
+value_of_bytes : (c : Column) (k : Kind) (bytes : List ℕ) (j : Json) → IsBytesJson c c.kind bytes j → IsPlainJson c (with_sign k (Bytes bytes)) j
+value_of_bytes c kind.Plain bytes j is = is
+value_of_bytes c kind.Year bytes j is = is
+value_of_bytes c kind.Bits bytes j is = is
+value_of_bytes c kind.Date bytes j is = is
+value_of_bytes c (kind.Datetime d) bytes j is = is
+value_of_bytes c (kind.Timestamp d) bytes j is = is
+value_of_bytes c (kind.Time d) bytes j is = is
+value_of_bytes c kind.OldTime bytes j is = is
+value_of_bytes c kind.Enum bytes j is = is
+value_of_bytes c kind.Set bytes j is = is
+value_of_bytes c (kind.Text s) bytes j is = is
+
+-- text in UTF-8
+pub text_value : (c : Column) (bytes : List ℕ) (j : Json) → c.kind ≡ kind.Text Utf8mb4 → IsUtf8 bytes → j ≡ string bytes → IsValueJson c (Bytes bytes) j
+text_value c bytes j is utf8 e =
+    let text : string bytes ≡ text_json Utf8mb4 bytes = sym (ap (λ (b : Bool). string_or bytes (if b then Some bytes else None)) (is_utf8-from_IsUtf8 bytes utf8)) in
+    value_of_bytes c c.kind bytes j (subst (λ (k : Kind). IsBytesJson c k bytes j) (sym is) (e ∙ text))
 
 -- bytes of a kind that has no bytes
 pub other_bytes : (c : Column) (k : Kind) (bytes : List ℕ) (j : Json) → ((s : Charset) → k ≡ kind.Text s → ⊥) → (k ≡ kind.Year → ⊥) → (k ≡ kind.Bits → ⊥) → (k ≡ kind.Set → ⊥) → ((d : ℕ) → k ≡ kind.Timestamp d → ⊥) →

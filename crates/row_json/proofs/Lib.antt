@@ -1,6 +1,5 @@
 -- The proofs of this crate.
 pub mod Steps
-pub mod Texts
 pub mod Floats
 pub mod Bytes
 pub mod Trees
@@ -13,6 +12,8 @@ pub mod Faults
 pub mod Years
 pub mod Depths
 pub mod Pairs
+pub mod Digits
+pub mod Timestamps
 pub mod Objects
 pub mod Lines
 pub mod Shown

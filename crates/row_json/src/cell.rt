@@ -1,8 +1,7 @@
 //! Plain values as JSON.
 #![tactic(auto, using(crate::proofs::Steps::stays))]
 
-ghost use Rattle.std.specs.Prelude.{◌≡◌, OnOk, ◌++◌, ◌≢◌, Some, IfErr, decimal};
-ghost use Rattle.std.specs.String.{string_bytes};
+ghost use Rattle.std.specs.Prelude.{◌≡◌, ◌≢◌, [], OnOk, Some, IfErr, decimal};
 ghost use Rattle.json.specs.Json.{string};
 ghost use Rattle.json.specs.Tree.{json_tokens};
 ghost use Rattle.binlog_base.specs.Values.{plain_of, Bytes};
@@ -20,12 +19,12 @@ ghost use Rattle.row_json.specs.Wrote.{Wrote, Adds, AddsSome};
 use crate::charset::Charset;
 use crate::document::write_document;
 use crate::float::{write_double, write_float};
-use crate::instant::{push_timestamp, timestamp_in};
+use crate::instant::{instant_of, push_timestamp, timestamp_in};
 use crate::kind::Kind;
 use crate::number::{write_bits, write_enum, write_set};
 use crate::table::ColumnJson;
-use crate::text::{write_base64, write_text, write_year};
-use crate::time::{Clock, Day, push_date, push_datetime, push_time, short_date};
+use crate::text::{write_base64, write_text, write_year, write_year_number};
+use crate::time::{Clock, Day, TimeText};
 use binlog_base::below::{ColumnType, Value};
 use binlog_base::fault::Fault;
 use binlog_values::decimal::{MAX_TEXT, PackedDecimal};
@@ -37,7 +36,6 @@ use std::alloc::{AllocError, Global};
 
 // Writes a timestamp.
 fn write_timestamp(
-    text: &mut String,
     out: &mut Writer,
     decimals: u8,
     seconds: u32,
@@ -47,9 +45,9 @@ fn write_timestamp(
         (IsTimestampJson decimals seconds microseconds) out.old out.new) }
     ensures stays { AddsSome out.old out.new }
 {
-    text.clear();
-    push_timestamp(text, decimals, seconds, microseconds)?;
-    out.string(text.as_str())
+    let mut time = TimeText::new();
+    push_timestamp(&mut time, decimals, seconds, microseconds);
+    out.string(time.as_str())
 }
 
 // Writes a timestamp, given by its text.
@@ -64,13 +62,7 @@ fn write_timestamp_text(
     ensures stays { AddsSome out.old out.new }
 {
     match timestamp_in(bytes) {
-        Some((seconds, microseconds)) => write_timestamp(
-            text,
-            out,
-            decimals,
-            seconds,
-            microseconds,
-        ),
+        Some((seconds, microseconds)) => write_timestamp(out, decimals, seconds, microseconds),
         None => write_text(text, out, Charset::Utf8mb4, bytes),
     }
 }
@@ -98,12 +90,7 @@ fn write_bytes(
 
 // Writes a signed number by the kind of its column. The numbers of timestamps and of ENUM values have
 // no sign.
-fn write_int(
-    text: &mut String,
-    out: &mut Writer,
-    column: &ColumnJson,
-    number: i64,
-) -> Result<(), AllocError>
+fn write_int(out: &mut Writer, column: &ColumnJson, number: i64) -> Result<(), AllocError>
     ensures written { OnOk result (Wrote
         (IsIntJson column.now column.now.kind number) out.old out.new) }
     ensures stays { AddsSome out.old out.new }
@@ -111,66 +98,53 @@ fn write_int(
     match column.kind() {
         Kind::Timestamp(decimals) => {
             let seconds = (number.unsigned_abs() % (1 << 32)) as u32;
-            write_timestamp(text, out, decimals, seconds, 0)
+            write_timestamp(out, decimals, seconds, 0)
         }
         Kind::Enum => write_enum(out, column.names(), number.unsigned_abs()),
         _ => out.i64(number),
     }
 }
 
-// Appends a date, with a time of day unless the column has dates alone.
-fn push_date_of(text: &mut String, kind: Kind, date: Day, clock: Clock) -> Result<(), AllocError>
-    ensures { OnOk result (string_bytes text.new ≡ string_bytes text.old
-        ++ date_by kind date.year date.month date.day clock.hours clock.minutes clock.seconds
-        clock.microseconds) }
+// Makes the text of a date, with a time of day unless the column has dates alone.
+#[inline(always)]
+fn push_date_of(text: &mut TimeText, kind: Kind, date: Day, clock: Clock)
+    requires { text.old ≡ [] }
+    ensures { text.new ≡ date_by kind date.year date.month date.day
+        clock.hours clock.minutes clock.seconds clock.microseconds }
 {
     match kind {
-        Kind::Date => push_date(text, date),
-        Kind::Datetime(decimals) => push_datetime(text, decimals, date, ' ', clock),
-        _ => push_datetime(text, 0, date, ' ', clock),
+        Kind::Date => text.push_date(date),
+        Kind::Datetime(decimals) => text.push_datetime(decimals, date, b' ', clock),
+        _ => text.push_datetime(0, date, b' ', clock),
     }
 }
 
 // Writes a date by the kind of its column.
-fn write_date(
-    text: &mut String,
-    out: &mut Writer,
-    kind: Kind,
-    date: Day,
-    clock: Clock,
-) -> Result<(), AllocError>
+fn write_date(out: &mut Writer, kind: Kind, date: Day, clock: Clock) -> Result<(), AllocError>
     ensures written { OnOk result (Adds out.old out.new (json_tokens (string (date_by kind date.year
         date.month date.day clock.hours clock.minutes clock.seconds clock.microseconds)))) }
     ensures stays { AddsSome out.old out.new }
 {
-    let mut room = [0; 19];
-    if let Some(short) = short_date(kind, date, clock, &mut room) {
-        return out.string(short);
-    }
-    text.clear();
-    push_date_of(text, kind, date, clock)?;
+    let mut text = TimeText::new();
+    push_date_of(&mut text, kind, date, clock);
     out.string(text.as_str())
 }
 
-// Appends a time, with the decimals of its column.
-fn push_time_of(
-    text: &mut String,
-    kind: Kind,
-    is_negative: bool,
-    clock: Clock,
-) -> Result<(), AllocError>
-    ensures { OnOk result (string_bytes text.new ≡ string_bytes text.old
-        ++ time_by kind is_negative clock.hours clock.minutes clock.seconds clock.microseconds) }
+// Makes the text of a time, with the decimals of its column.
+#[inline(always)]
+fn push_time_of(text: &mut TimeText, kind: Kind, is_negative: bool, clock: Clock)
+    requires { text.old ≡ [] }
+    ensures { text.new
+        ≡ time_by kind is_negative clock.hours clock.minutes clock.seconds clock.microseconds }
 {
     match kind {
-        Kind::Time(decimals) => push_time(text, decimals, is_negative, clock),
-        _ => push_time(text, 0, is_negative, clock),
+        Kind::Time(decimals) => text.push_time(decimals, is_negative, clock),
+        _ => text.push_time(0, is_negative, clock),
     }
 }
 
 // Writes a time by the kind of its column.
 fn write_time(
-    text: &mut String,
     out: &mut Writer,
     kind: Kind,
     is_negative: bool,
@@ -180,8 +154,8 @@ fn write_time(
         clock.hours clock.minutes clock.seconds clock.microseconds)))) }
     ensures stays { AddsSome out.old out.new }
 {
-    text.clear();
-    push_time_of(text, kind, is_negative, clock)?;
+    let mut text = TimeText::new();
+    push_time_of(&mut text, kind, is_negative, clock);
     out.string(text.as_str())
 }
 
@@ -200,7 +174,7 @@ fn write_plain(
     match value {
         Value::NULL => out.null(),
         Value::Bytes(bytes) => write_bytes(text, out, column, bytes),
-        Value::Int(number) => write_int(text, out, column, *number),
+        Value::Int(number) => write_int(out, column, *number),
         Value::UInt(number) => out.u64(*number),
         Value::Float(bits) => write_float(out, *bits),
         Value::Double(bits) => write_double(out, *bits),
@@ -216,7 +190,7 @@ fn write_plain(
                 seconds: *seconds,
                 microseconds: *microseconds,
             };
-            write_date(text, out, column.kind(), date, clock)
+            write_date(out, column.kind(), date, clock)
         }
         Value::Time(is_negative, days, hours, minutes, seconds, microseconds) => {
             let clock = Clock {
@@ -225,7 +199,7 @@ fn write_plain(
                 seconds: *seconds,
                 microseconds: *microseconds,
             };
-            write_time(text, out, column.kind(), *is_negative, clock)
+            write_time(out, column.kind(), *is_negative, clock)
         }
     }
 }
@@ -277,8 +251,13 @@ fn write_lent_year(
         (IsValueJson column.now (Bytes (decimal year.0))) out.old out.new) }
     ensures stays { AddsSome out.old out.new }
 {
-    let mut room = [0; MAX_YEAR_TEXT];
-    write_lent_bytes(text, out, column, year.text_in(&mut room).as_bytes())
+    match column.kind() {
+        Kind::Year => write_year_number(out, year.0),
+        _ => {
+            let mut room = [0; MAX_YEAR_TEXT];
+            write_lent_bytes(text, out, column, year.text_in(&mut room).as_bytes())
+        }
+    }
 }
 
 // Writes a timestamp by the kind of its column.
@@ -294,6 +273,14 @@ fn write_lent_timestamp(
         out.old out.new) }
     ensures stays { AddsSome out.old out.new }
 {
+    if let Kind::Timestamp(decimals) = column.kind() {
+        if let Some((seconds, microseconds)) = instant_of(
+            timestamp.seconds,
+            timestamp.microseconds,
+        ) {
+            return write_timestamp(out, decimals, seconds, microseconds);
+        }
+    }
     let mut room = [0; MAX_TIMESTAMP_TEXT];
     write_lent_bytes(text, out, column, timestamp.text_in(&mut room).as_bytes())
 }
@@ -311,7 +298,11 @@ fn write_decimal(
     ensures stays { AddsSome out.old out.new }
 {
     let mut room = [0; MAX_TEXT];
-    write_lent_bytes(text, out, column, decimal.text_in(&mut room).as_bytes())
+    let number = decimal.text_in(&mut room);
+    match column.kind() {
+        Kind::Text(Charset::Utf8mb4) => out.string(number),
+        _ => write_lent_bytes(text, out, column, number.as_bytes()),
+    }
 }
 
 /// Writes a cell of a column; null for diffs. `text` is room for making texts.

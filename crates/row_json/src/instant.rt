@@ -1,23 +1,17 @@
 //! Seconds since 1970: their text, and how they are read of the text of a TIMESTAMP2.
 
-ghost use Rattle.std.specs.Prelude.{◌≡◌, ◌<◌, ◌≤◌, ◌^◌, ◌++◌, true, length, List, ℕ, OnOk, IfSome, Some, position, ◌==◌};
+ghost use Rattle.std.specs.Prelude.{◌≡◌, ◌<◌, ◌≤◌, ◌^◌, [], true, length, IfSome, Some, position, ◌==◌};
 ghost use Rattle.std.specs.List.{list_all};
-ghost use Rattle.std.specs.String.{string_bytes};
+ghost use Rattle.binlog_cells.specs.Cells.{timestamp_text};
 ghost use Rattle.row_json.specs.Times.{is_digit, digits_value, number_in, seconds_in, timestamp_by, timestamp_in, IsInstantText, IsTimestampText};
 
-use crate::time::{Clock, Day, push_datetime};
+use crate::time::{Clock, Day, TimeText};
 use jiff_core::civil::Date;
-use std::alloc::AllocError;
 
-// Appends the time in UTC so many seconds after 1970 began, as YYYY-MM-DDTHH:MM:SS, the fraction, Z.
-fn push_instant(
-    text: &mut String,
-    decimals: u8,
-    seconds: u32,
-    microseconds: u32,
-) -> Result<(), AllocError>
-    ensures { OnOk result ((time : List ℕ) × IsInstantText decimals seconds microseconds time
-        × (string_bytes text.new ≡ string_bytes text.old ++ time)) }
+// Makes the text of the time in UTC so many seconds after 1970 began, as YYYY-MM-DDTHH:MM:SS, the fraction, Z.
+fn push_instant(text: &mut TimeText, decimals: u8, seconds: u32, microseconds: u32)
+    requires { text.old ≡ [] }
+    ensures { IsInstantText decimals seconds microseconds text.new }
 {
     // They are there: the last day is in 2106, and the first in 1970.
     let Ok(date) = Date::from_unix_epoch_day(i64::from(seconds / 86400)) else {
@@ -37,20 +31,15 @@ fn push_instant(
         seconds: (seconds % 60) as u8,
         microseconds,
     };
-    push_datetime(text, decimals, day, 'T', clock)?;
-    text.push('Z')
+    text.push_datetime(decimals, day, b'T', clock);
+    text.push(b'Z');
 }
 
-/// Appends a timestamp: a time in UTC, or zeros without a zone for 0 seconds without a fraction, which
+/// Makes the text of a timestamp: a time in UTC, or zeros without a zone for 0 seconds without a fraction, which
 /// MySQL shows for no time.
-pub(crate) fn push_timestamp(
-    text: &mut String,
-    decimals: u8,
-    seconds: u32,
-    microseconds: u32,
-) -> Result<(), AllocError>
-    ensures { OnOk result ((time : List ℕ) × IsTimestampText decimals seconds microseconds time
-        × (string_bytes text.new ≡ string_bytes text.old ++ time)) }
+pub(crate) fn push_timestamp(text: &mut TimeText, decimals: u8, seconds: u32, microseconds: u32)
+    requires { text.old ≡ [] }
+    ensures { IsTimestampText decimals seconds microseconds text.new }
 {
     if seconds == 0 && microseconds == 0 {
         let day = Day {
@@ -64,9 +53,9 @@ pub(crate) fn push_timestamp(
             seconds: 0,
             microseconds: 0,
         };
-        push_datetime(text, decimals, day, ' ', clock)
+        text.push_datetime(decimals, day, b' ', clock);
     } else {
-        push_instant(text, decimals, seconds, microseconds)
+        push_instant(text, decimals, seconds, microseconds);
     }
 }
 
@@ -154,5 +143,19 @@ pub(crate) fn timestamp_in(text: &[u8]) -> Option<(u32, u32)>
             None => None,
             Some(seconds) => Some((seconds, 0)),
         },
+    }
+}
+
+/// Returns the seconds and microseconds that a timestamp's text, of which they are both sides, is read
+/// as. `None` if the microseconds aren't between 0 and 999999.
+#[inline(always)]
+pub(crate) fn instant_of(seconds: i32, microseconds: i32) -> Option<(u32, u32)>
+    ensures { IfSome result (λ t. timestamp_in (timestamp_text (seconds, microseconds)) ≡ Some t) }
+{
+    let fraction = microseconds.cast_unsigned();
+    if fraction < 1_000_000 {
+        Some((seconds.cast_unsigned(), fraction))
+    } else {
+        None
     }
 }

@@ -1,7 +1,7 @@
 //! Bytes as JSON: text, numbers in bytes, and names.
 #![tactic(auto, using(crate::proofs::Steps::stays))]
 
-ghost use Rattle.std.specs.Prelude.{OnOk, ◌<◌};
+ghost use Rattle.std.specs.Prelude.{OnOk, decimal};
 ghost use Rattle.json.specs.Tree.{json_tokens};
 ghost use Rattle.row_json.specs.Values.{base64_json, text_json, number_or_string, year_json};
 ghost use Rattle.row_json.specs.Wrote.{Adds, AddsSome};
@@ -72,5 +72,17 @@ pub(crate) fn write_year(text: &mut String, out: &mut Writer, year: &[u8]) -> Re
     match str_in(Charset::Utf8mb4, year) {
         Some(year) => write_number_or_string(out, year),
         None => write_base64(text, out, year),
+    }
+}
+
+/// Writes a year as `write_year` writes its text.
+pub(crate) fn write_year_number(out: &mut Writer, year: u16) -> Result<(), AllocError>
+    ensures written { OnOk result (Adds out.old out.new (json_tokens (year_json (decimal year)))) }
+    ensures stays { AddsSome out.old out.new }
+{
+    if year == 1900 {
+        out.u64(0)
+    } else {
+        out.u64(u64::from(year))
     }
 }

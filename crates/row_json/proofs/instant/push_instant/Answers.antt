@@ -1,10 +1,9 @@
-use Rattle.std.proofs.Common.{◌≡◌, ◌/◌, ◌%◌, ℕ, ℤ, pos, ◌++◌, rules, arith, refl, ap, subst, ◌∙◌}
+use Rattle.std.proofs.Common.{◌≡◌, ◌/◌, ◌%◌, ℕ, ℤ, pos, List, ◌++◌, rules, arith, refl, ap, subst, ◌∙◌}
+use Rattle.std.specs.Prelude.{codes}
 use Rattle.jiff_core.specs.Calendar.{IsCivilDate, days_from_civil}
-use Rattle.row_json.specs.Times.{datetime_text, IsInstantText}
-use Rattle.std.specs.String.{string_bytes}
+use Rattle.row_json.specs.Times.{datetime_text}
 use Rattle.std.proofs.lemmas.Int.{ints, to_z-of_z}
 use Rattle.std.proofs.lemmas.Grind.{common_steps}
-use Rattle.row_json.proofs.Texts.{with_zone}
 use Rattle.row_json.proofs.Years.{year_of_day, year_fits}
 use Rattle.row_json.proofs.instant.push_instant.Goals as goal
 
@@ -15,17 +14,16 @@ returns c =
     let a = c.args in
     let y : d.year ≡ pos year = first_of (search rules, search (rules, to_z-of_z), grind (arith, common_steps, ints)) in
     let day : days_from_civil d.year d.month d.day ≡ pos (a.seconds / 86400) = c.in-Ok.ensures.value ∙ first_of (search (rules, to_z-of_z), search rules, grind (arith, common_steps, ints)) in
-    let hours = a.seconds / 3600 % 24 in
-    let text = datetime_text a.decimals year d.month d.day 84 hours (a.seconds / 60 % 60) (a.seconds % 60) a.microseconds in
-    with_zone c.push.result _ _ _ text _ (IsInstantText a.decimals a.seconds a.microseconds) (c.in_ok-push_datetime.ensures ∙ ap (λ (h : ℕ). string_bytes a.text.now ++ datetime_text a.decimals year d.month d.day 84 h (a.seconds / 60 % 60) (a.seconds % 60) a.microseconds) c.from-2.ensures) (c.push.ensures.ascii (omega arith)) c.push.ensures.bytes
-    (record {
+    record {
       year = year;
       month = d.month;
       day = d.day;
       civil = subst (λ (z : ℤ). IsCivilDate z d.month d.day) y (d.year_in, d.month_in, d.day_in);
       days = subst (λ (z : ℤ). days_from_civil z d.month d.day ≡ pos (a.seconds / 86400)) y day;
-      is = refl;
-    })
+      is = c.push.ensures ∙ ap (λ (l : List ℕ). l ++ codes "Z") (c.push_datetime.ensures.text
+          ∙ (ap (λ (l : List ℕ). l ++ datetime_text a.decimals year d.month d.day 84 c.from-2.result (a.seconds / 60 % 60) (a.seconds % 60) a.microseconds) c.requires
+          ∙ ap (λ (h : ℕ). datetime_text a.decimals year d.month d.day 84 h (a.seconds / 60 % 60) (a.seconds % 60) a.microseconds) c.from-2.ensures));
+    }
 
 pub unreachable-requires-in_default-try_from : goal.unreachable-requires-in_default-try_from
 unreachable-requires-in_default-try_from c =

@@ -1,5 +1,5 @@
 use Rattle.row_json.proofs.Pairs.{pair_is}
 use Rattle.row_json.proofs.time.pair_of.Goals as goal
 
-pub returns : goal.returns
-returns c = pair_is c.args.number c.requires
+pub returns-clause-digits : goal.returns-clause-digits
+returns-clause-digits c = pair_is c.args.number c.requires

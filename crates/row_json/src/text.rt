@@ -1,8 +1,12 @@
 //! Bytes as JSON: text, numbers in bytes, and names.
 #![tactic(auto, using(crate::proofs::Steps::stays))]
 
-ghost use Rattle.std.specs.Prelude.{OnOk, decimal};
+ghost use Rattle.std.specs.Prelude.{◌≡◌, ◌≤◌, length, OnOk, codes, decimal};
+ghost use Rattle.base64.specs.Engines.{standard};
+ghost use Rattle.base64.specs.GeneralPurpose.{encode_of};
+ghost use Rattle.json.specs.Json.{member, no_members, object, string};
 ghost use Rattle.json.specs.Tree.{json_tokens};
+ghost use Rattle.row_json.specs.declared.text.TheConstants.{SHORT, SHORT_ENCODING};
 ghost use Rattle.row_json.specs.Values.{base64_json, text_json, number_or_string, year_json};
 ghost use Rattle.row_json.specs.Wrote.{Adds, AddsSome};
 
@@ -10,6 +14,37 @@ use crate::charset::{Charset, push_latin1, str_in};
 use base64::engine::general_purpose::STANDARD;
 use json::{Writer, is_number};
 use std::alloc::AllocError;
+use std::str;
+
+// How many bytes are encoded without the text that is kept.
+const SHORT: usize = 96;
+
+// How many bytes their encoding has at most.
+const SHORT_ENCODING: usize = 128;
+
+// Makes the encoding of a few bytes in a room.
+#[inline(always)]
+fn encode_short<'r>(bytes: &[u8], room: &'r mut [u8; SHORT_ENCODING]) -> &'r str
+    requires { length bytes.now ≤ SHORT }
+    ensures { result.now ≡ encode_of standard bytes.now }
+{
+    let Ok(len) = STANDARD.encode_slice(bytes, room) else {
+        unreachable!()
+    };
+    unsafe { str::from_utf8_unchecked(&room[..len]) }
+}
+
+// Writes `{"base64":".."}`, with this encoding.
+fn write_encoding(out: &mut Writer, encoding: &str) -> Result<(), AllocError>
+    ensures written { OnOk result (Adds out.old out.new
+        (json_tokens (object (member (codes "base64") (string encoding.now) no_members)))) }
+    ensures stays { AddsSome out.old out.new }
+{
+    out.begin_object()?;
+    out.key("base64")?;
+    out.string(encoding)?;
+    out.end_object()
+}
 
 /// Writes `{"base64":".."}`.
 pub(crate) fn write_base64(
@@ -20,12 +55,13 @@ pub(crate) fn write_base64(
     ensures written { OnOk result (Adds out.old out.new (json_tokens (base64_json bytes.now))) }
     ensures stays { AddsSome out.old out.new }
 {
+    if bytes.len() <= SHORT {
+        let mut room = [0; SHORT_ENCODING];
+        return write_encoding(out, encode_short(bytes, &mut room));
+    }
     text.clear();
     STANDARD.encode_string(bytes, text)?;
-    out.begin_object()?;
-    out.key("base64")?;
-    out.string(text.as_str())?;
-    out.end_object()
+    write_encoding(out, text.as_str())
 }
 
 /// Writes bytes as a string if they are text of their character set, and else in base64.

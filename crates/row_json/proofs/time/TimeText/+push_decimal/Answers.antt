@@ -1,4 +1,4 @@
-use Rattle.std.proofs.Common.{◌≡◌, ℕ, ◌+◌, ◌/◌, ◌%◌, ◌<◌, ◌≤◌, List, [], ◌∷◌, ◌++◌, length, sym, ap, ◌∙◌, arith, append_assoc}
+use Rattle.std.proofs.Common.{ℕ, ◌/◌, ◌%◌, List, ◌++◌, sym, ap, ◌∙◌, arith, append_assoc}
 use Rattle.std.specs.Prelude.{decimal}
 use Rattle.std.proofs.lemmas.List.{length-append}
 use Rattle.row_json.proofs.Digits.{digit_length, last_digit, more_length}

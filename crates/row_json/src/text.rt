@@ -46,6 +46,18 @@ fn write_encoding(out: &mut Writer, encoding: &str) -> Result<(), AllocError>
     out.end_object()
 }
 
+// Writes `{"base64":".."}` of many bytes. Not inlined, so that few bytes need no second engine, which is
+// made anew where it is used.
+#[inline(never)]
+fn write_long_base64(text: &mut String, out: &mut Writer, bytes: &[u8]) -> Result<(), AllocError>
+    ensures written { OnOk result (Adds out.old out.new (json_tokens (base64_json bytes.now))) }
+    ensures stays { AddsSome out.old out.new }
+{
+    text.clear();
+    STANDARD.encode_string(bytes, text)?;
+    write_encoding(out, text.as_str())
+}
+
 /// Writes `{"base64":".."}`.
 pub(crate) fn write_base64(
     text: &mut String,
@@ -59,9 +71,7 @@ pub(crate) fn write_base64(
         let mut room = [0; SHORT_ENCODING];
         return write_encoding(out, encode_short(bytes, &mut room));
     }
-    text.clear();
-    STANDARD.encode_string(bytes, text)?;
-    write_encoding(out, text.as_str())
+    write_long_base64(text, out, bytes)
 }
 
 /// Writes bytes as a string if they are text of their character set, and else in base64.

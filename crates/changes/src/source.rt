@@ -1,9 +1,10 @@
 //! Where a row that changed comes from.
+#![tactic(auto, using(row_json::proofs::Steps::stays))]
 
 ghost use Rattle.std.specs.Prelude.{◌≡◌, ◌*◌, [], ◌∷◌, decimal, OnOk};
 ghost use Rattle.std.specs.Option.{option_map};
 ghost use Rattle.json.specs.Json.{string, number};
-ghost use Rattle.row_json.specs.Wrote.{WroteMembers};
+ghost use Rattle.row_json.specs.Wrote.{AddsSome, WroteMembers};
 ghost use Rattle.changes.specs.Origins.{text_or_null};
 ghost use Rattle.changes.specs.Sources.{fields_of, source_at};
 
@@ -31,7 +32,9 @@ pub struct Source<'a> {
 
 // Writes a member that is a string.
 fn write_string(out: &mut Writer, name: &str, text: &str) -> Result<(), AllocError>
-    ensures { OnOk result (WroteMembers (λ ms. ms ≡ (name.now, string text.now) ∷ []) out.old out.new) }
+    ensures written { OnOk result
+        (WroteMembers (λ ms. ms ≡ (name.now, string text.now) ∷ []) out.old out.new) }
+    ensures stays { AddsSome out.old out.new }
 {
     out.key(name)?;
     out.string(text)
@@ -39,7 +42,9 @@ fn write_string(out: &mut Writer, name: &str, text: &str) -> Result<(), AllocErr
 
 // Writes a member that is a number.
 fn write_number(out: &mut Writer, name: &str, n: u64) -> Result<(), AllocError>
-    ensures { OnOk result (WroteMembers (λ ms. ms ≡ (name.now, number (decimal n)) ∷ []) out.old out.new) }
+    ensures written { OnOk result
+        (WroteMembers (λ ms. ms ≡ (name.now, number (decimal n)) ∷ []) out.old out.new) }
+    ensures stays { AddsSome out.old out.new }
 {
     out.key(name)?;
     out.u64(n)
@@ -47,8 +52,9 @@ fn write_number(out: &mut Writer, name: &str, n: u64) -> Result<(), AllocError>
 
 // Writes a member that is a string, or null.
 fn write_option(out: &mut Writer, name: &str, text: Option<&str>) -> Result<(), AllocError>
-    ensures { OnOk result (WroteMembers (λ ms. ms
+    ensures written { OnOk result (WroteMembers (λ ms. ms
         ≡ (name.now, text_or_null (option_map (λ t. t.now) text.entry)) ∷ []) out.old out.new) }
+    ensures stays { AddsSome out.old out.new }
 {
     out.key(name)?;
     match text {
@@ -101,7 +107,8 @@ impl<'a> Source<'a> {
 
     // Writes the members of the object.
     fn write_members(&self, out: &mut Writer) -> Result<(), AllocError>
-        ensures { OnOk result (WroteMembers (λ ms. ms ≡ fields_of self.now) out.old out.new) }
+        ensures written { OnOk result (WroteMembers (λ ms. ms ≡ fields_of self.now) out.old out.new) }
+        ensures stays { AddsSome out.old out.new }
     {
         write_string(out, "file", self.file)?;
         write_number(out, "pos", self.origin.position)?;

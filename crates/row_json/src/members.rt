@@ -1,7 +1,8 @@
 //! Members that a caller adds to the object of a pair.
+#![tactic(auto, using(crate::proofs::Steps::stays))]
 
 ghost use Rattle.std.specs.Prelude.{◌≡◌, List, [], OnOk};
-ghost use Rattle.row_json.specs.Wrote.{Named, Fits, WroteMembers};
+ghost use Rattle.row_json.specs.Wrote.{AddsSome, Named, Fits, WroteMembers};
 
 use json::Writer;
 use std::alloc::AllocError;
@@ -13,9 +14,10 @@ pub trait Members {
     ghost members: { Self → List Named };
 
     /// Writes the members, each by `key` and then the calls that write its value. Fails if memory is
-    /// refused.
+    /// refused: then what was written before stays, and a part of the members may come after it.
     fn write(&self, out: &mut Writer) -> Result<(), AllocError>
-        ensures { OnOk result (WroteMembers (λ ms. ms ≡ members self.now) out.old out.new) };
+        ensures written { OnOk result (WroteMembers (λ ms. ms ≡ members self.now) out.old out.new) }
+        ensures stays { AddsSome out.old out.new };
 
     /// An object of the members nests at most 128 levels, so that a line with them reads back.
     ghost fits: { (x : Self) → Fits (members x) };

@@ -158,6 +158,7 @@ pub(crate) fn write_images<P: Images, M: Members>(
     ensures err { IfErr result (λ e. e ≢ Fault.Memory
         → IsFaultOfPair table.now event.now (P.pair pair.now) e) }
     ensures sound { OnOk result (HasNone (IsFaultOfPair table.now event.now (P.pair pair.now))) }
+    ensures stays { AddsSome out.old out.new }
 {
     begin_pair(out, pair)?;
     members.write(out)?;
@@ -216,7 +217,8 @@ pub fn write_pair(
 
 /// Writes a pair of rows as `write_pair` does, with members of the caller's between `op` and `before`.
 ///
-/// The error is the one of `write_pair`. A part of the object may then have been written.
+/// The error is the one of `write_pair`. Then what was written before stays, and a part of the object
+/// may come after it.
 pub fn write_pair_with<M: Members>(
     alloc: Global,
     text: &mut String,
@@ -230,6 +232,7 @@ pub fn write_pair_with<M: Members>(
         (IsPairJson table.now event.now (M.members members.now) pair.now) out.old out.new) }
     ensures err { IfErr result (λ e. e ≢ Fault.Memory → IsFaultOfPair table.now event.now pair.now e) }
     ensures sound { OnOk result (HasNone (IsFaultOfPair table.now event.now pair.now)) }
+    ensures stays { AddsSome out.old out.new }
 {
     write_images(alloc, text, out, table, event, pair, members)
 }

@@ -560,6 +560,7 @@ impl Members for Source {
 
     ghost fits = { Prim.search (rules, arith) };
 
+    #[tactic(auto, using(row_json::proofs::Steps::stays))]
     fn write(&self, out: &mut Writer) -> Result<(), AllocError> {
         out.key("source")?;
         out.begin_object()?;

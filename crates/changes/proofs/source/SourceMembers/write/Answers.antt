@@ -9,9 +9,9 @@ use Rattle.row_json.proofs.Columns.{one_member}
 use Rattle.changes.specs.Sources.{fields_of}
 use Rattle.changes.proofs.source.SourceMembers.write.Goals as goal
 
-pub returns : goal.returns
-returns c =
-    let m = c.in_ok-write_members.ensures in
+pub returns-clause-written : goal.returns-clause-written
+returns-clause-written c =
+    let m = c.in_ok-write_members.ensures.written in
     let fields = fields_of c.args.self.now in
     let name : Adds c.args.out.now c.key.new.self (token.key (codes "source") ∷ []) = record { before = c.key.ensures.room.0; tokens = c.in_ok-key.ensures.ok } in
     let begun : Adds c.key.new.self c.begin_object.new.self (token.begin_object ∷ []) = record { before = c.begin_object.ensures.room.0; tokens = c.in_ok-begin_object.ensures.ok } in

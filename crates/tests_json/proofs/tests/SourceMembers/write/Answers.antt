@@ -5,8 +5,8 @@ use Rattle.row_json.specs.Wrote.{Adds}
 use Rattle.row_json.proofs.Steps.{adds_both}
 use Rattle.tests_json.proofs.tests.SourceMembers.write.Goals as goal
 
-pub returns : goal.returns
-returns c =
+pub returns-clause-written : goal.returns-clause-written
+returns-clause-written c =
     let source = c.args.self.now in
     let name : Adds c.args.out.now c.key.new.self (token.key (codes "source") ∷ []) = record { before = c.key.ensures.room.0; tokens = c.in_ok-key.ensures.ok } in
     let begun : Adds c.key.new.self c.begin_object.new.self (token.begin_object ∷ []) = record { before = c.begin_object.ensures.room.0; tokens = c.in_ok-begin_object.ensures.ok } in

@@ -8,7 +8,8 @@ ghost use Rattle.row_json.specs.Times.{is_digit, digits_value, number_in, second
 use crate::time::{Clock, Day, TimeText};
 use jiff_core::civil::Date;
 
-// Makes the text of the time in UTC so many seconds after 1970 began, as YYYY-MM-DDTHH:MM:SS, the fraction, Z.
+// Makes the text of the time in UTC so many seconds after 1970 began, as YYYY-MM-DDTHH:MM:SS, the
+// fraction, Z.
 fn push_instant(text: &mut TimeText, decimals: u8, seconds: u32, microseconds: u32)
     requires { text.old ≡ [] }
     ensures { IsInstantText decimals seconds microseconds text.new }
@@ -146,8 +147,8 @@ pub(crate) fn timestamp_in(text: &[u8]) -> Option<(u32, u32)>
     }
 }
 
-/// Returns the seconds and microseconds that a timestamp's text, of which they are both sides, is read
-/// as. `None` if the microseconds aren't between 0 and 999999.
+/// Returns what the text of a timestamp is read as, without making the text. `None` if the microseconds
+/// aren't between 0 and 999999.
 #[inline(always)]
 pub(crate) fn instant_of(seconds: i32, microseconds: i32) -> Option<(u32, u32)>
     ensures { IfSome result (λ t. timestamp_in (timestamp_text (seconds, microseconds)) ≡ Some t) }

@@ -99,7 +99,7 @@ impl TimeText {
         unsafe { str::from_utf8_unchecked(&self.room[..self.len]) }
     }
 
-    // Appends an ASCII character.
+    /// Appends an ASCII character.
     #[inline(always)]
     pub(crate) fn push(&mut self, character: u8)
         requires fits { length self.old < ROOM }

@@ -1,5 +1,6 @@
 -- The proofs of this program.
 pub mod Names
+pub mod Pushed
 pub mod Counted
 pub mod Members
 pub mod Outputs

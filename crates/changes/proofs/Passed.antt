@@ -43,17 +43,17 @@ same_gtid : (old : Option (List ℕ)) (o : OtherEvent) → is_asked seen_types o
 same_gtid old o not =
     let t = o.header.event_type in
     let l0 = right_false (is_some (rows_type t)) _ not in
-    let l1 = right_false (nat_eq 0x02 t) _ l0 in
-    let description = turned 0x0F t (left_false (nat_eq 0x0F t) _ l1) in
-    let l2 = right_false (nat_eq 0x0F t) _ l1 in
-    let l3 = right_false (nat_eq 0x12 t) _ l2 in
-    let gtid = turned 0x21 t (left_false (nat_eq 0x21 t) _ l3) in
-    let l4 = right_false (nat_eq 0x21 t) _ l3 in
-    let anonymous = turned 0x22 t (left_false (nat_eq 0x22 t) _ l4) in
-    let l5 = right_false (nat_eq 0x22 t) _ l4 in
-    let tagged = turned 0x2A t (left_false (nat_eq 0x2A t) _ l5) in
-    let l6 = right_false (nat_eq 0x2A t) _ l5 in
-    let mariadb = turned 0xA2 t (left_false (nat_eq 0xA2 t) _ l6) in
+    let mariadb = turned 0xA2 t (left_false (nat_eq 0xA2 t) _ l0) in
+    let l1 = right_false (nat_eq 0xA2 t) _ l0 in
+    let gtid = turned 0x21 t (left_false (nat_eq 0x21 t) _ l1) in
+    let l2 = right_false (nat_eq 0x21 t) _ l1 in
+    let l3 = right_false (nat_eq 0x02 t) _ l2 in
+    let description = turned 0x0F t (left_false (nat_eq 0x0F t) _ l3) in
+    let l4 = right_false (nat_eq 0x0F t) _ l3 in
+    let l5 = right_false (nat_eq 0x12 t) _ l4 in
+    let anonymous = turned 0x22 t (left_false (nat_eq 0x22 t) _ l5) in
+    let l6 = right_false (nat_eq 0x22 t) _ l5 in
+    let tagged = turned 0x2A t (left_false (nat_eq 0x2A t) _ l6) in
     stays_as (nat_eq t 0x21) (nat_eq t 0xA2) (nat_eq t 0x0F) (nat_eq t 0x22) (nat_eq t 0x2A) (mysql_gtid o.body) (mariadb_gtid o.header.server_id o.body) None old gtid mariadb description anonymous tagged
 
 -- ---- their lines

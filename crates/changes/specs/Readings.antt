@@ -17,7 +17,7 @@ pub record Stays {S C : Type 0} (old new : SourceChanges S C) : Type 0 where
 -- The types of the events that are looked at beside rows events: those after which another GTID may be in
 -- force, and those with statements.
 abbrev pub seen_types : List ℕ
-seen_types = 0x02 ∷ 0x0F ∷ 0x12 ∷ 0x21 ∷ 0x22 ∷ 0x2A ∷ 0xA2 ∷ 0xA5 ∷ []
+seen_types = 0xA2 ∷ 0x21 ∷ 0x02 ∷ 0x0F ∷ 0x12 ∷ 0x22 ∷ 0x2A ∷ 0xA5 ∷ []
 
 -- no event is passed over where each is looked at
 abbrev pub Passes : Bool → Spot → Spot → Type 0

@@ -1,6 +1,6 @@
 //! The global transaction id of the events of a transaction.
 
-ghost use Rattle.std.specs.Prelude.{◌≡◌, ◌++◌, length, codes, decimal, IfOk, OnOk, None};
+ghost use Rattle.std.specs.Prelude.{◌≡◌, ◌<◌, ◌++◌, length, codes, decimal, IfOk, OnOk, None};
 ghost use Rattle.std.specs.Option.{option_map};
 ghost use Rattle.std.specs.String.{string_bytes};
 ghost use Rattle.changes.specs.Gtids.{part_text, uuid_text, mysql_gtid, mariadb_gtid, gtid_after};
@@ -44,10 +44,21 @@ impl Model for Gtid {
     ghost view = { λ g. if g.is_there then Some (string_bytes g.text) else None };
 }
 
-// Adds a number in decimal.
+// Adds a digit.
+fn push_digit(text: &mut String, digit: u8) -> Result<(), AllocError>
+    requires { digit < 10 }
+    ensures { OnOk result (string_bytes text.new ≡ string_bytes text.old ++ decimal digit) }
+{
+    text.push(char::from(b'0' + digit))
+}
+
+// Adds a number in decimal. Most domains and many servers have numbers of one digit.
 fn push_number(text: &mut String, number: u64) -> Result<(), AllocError>
     ensures { OnOk result (string_bytes text.new ≡ string_bytes text.old ++ decimal number) }
 {
+    if number < 10 {
+        return push_digit(text, number as u8);
+    }
     let mut room = Buffer::new();
     text.push_str(room.format(number))
 }
@@ -57,7 +68,7 @@ fn push_next(text: &mut String, number: u64) -> Result<(), AllocError>
     ensures { OnOk result (string_bytes text.new
         ≡ string_bytes text.old ++ (codes "-" ++ decimal number)) }
 {
-    text.push_str("-")?;
+    text.push('-')?;
     push_number(text, number)
 }
 

@@ -25,8 +25,9 @@ pub struct Notes<'c, E, K> {
     err: E,
     is_quiet: bool,
     told: BTreeSet<TableName>,
-    // A file has one table for each id.
+    // The ids of tables that were looked at, and the last of them: a file has one table for each id.
     seen: BTreeSet<u64>,
+    last: Option<u64>,
     // How many bytes the file has, if that is known.
     len: Option<u64>,
     meter: Option<Meter<'c, K>>,
@@ -41,6 +42,7 @@ impl<'c, E: Write + Drop, K: Clock> Notes<'c, E, K> {
             is_quiet,
             told: BTreeSet::new(alloc),
             seen: BTreeSet::new(alloc),
+            last: None,
             len: None,
             meter: None,
         }
@@ -50,6 +52,7 @@ impl<'c, E: Write + Drop, K: Clock> Notes<'c, E, K> {
     /// told.
     pub fn begin(&mut self, len: Option<u64>, meter: Option<Meter<'c, K>>) {
         self.seen.clear();
+        self.last = None;
         self.len = len;
         self.meter = meter;
     }
@@ -102,11 +105,13 @@ impl<'c, E: Write + Drop, K: Clock> Notes<'c, E, K> {
 
     // Tells once for each table that its event has no signs although it has columns of numbers.
     fn see_table(&mut self, table: &TableMapEvent<'_>) -> Result<(), AllocError> {
-        if self.is_quiet || self.seen.contains(&table.table_id()) {
+        let id = table.table_id();
+        if self.is_quiet || self.last == Some(id) || self.seen.contains(&id) {
             return Ok(());
         }
+        self.last = Some(id);
         if self.seen.len() < MOST_IDS {
-            self.seen.insert(table.table_id())?;
+            self.seen.insert(id)?;
         }
         self.tell_signs(table)
     }

@@ -329,7 +329,7 @@ fn add_rows(
 
 // The types of the events that are looked at beside rows events: those after which another GTID may be
 // in force, and those with statements.
-const SEEN: [u8; 8] = [0x02, 0x0F, 0x12, 0x21, 0x22, 0x2A, 0xA2, 0xA5];
+const SEEN: [u8; 8] = [0xA2, 0x21, 0x02, 0x0F, 0x12, 0x22, 0x2A, 0xA5];
 
 // Reads the next event into a buffer: each one, or only those that are looked at.
 fn next_event<'f, 'b, S: Bytes + Drop>(

@@ -7,12 +7,13 @@ PROGRAM is the built program (crates/changes/out/changes). Each FILE is a `.bin.
 `.jsonl.gz` beside it: a line for each rows event in order, with `pos` (where the event begins), `time`, `server_id`, `gtid`, `db`, `table`,
 `op` and `lines` (its rows, in the form of the program `rows`).
 
-- `--text` prints these lines, each after its place, and nothing else.
+- `--text` prints these lines, each after its place, and nothing else (none of the files has a negative TIME of the old format in its
+  `.jsonl.gz` without its sign).
 - Each line of JSON, read by Python's `json`, is that of a plain decoding of the file (that of scripts/json_rows.py), with its source.
 - Standard input gives the same as the file.
 - `--table` gives the lines of that table, for each table, and `--database` and `--op` those of theirs; `--count` gives their numbers.
 - `--start-position` and `--stop-position` at each rows event give the lines from it on, and before it.
-- A copy that is cut in its last event gives the lines before it and one message; so does one with a byte changed, if it has checksums. `--count`
+- A copy that is cut in one of its last events gives the lines before it and one message; so does one with a byte changed, if it has checksums. `--count`
   gives the numbers of these lines.
 - A copy whose event lacks the last byte of its last row gives the lines before that row, the row's number in the message, and with `--count` the
   numbers of these lines.
@@ -156,6 +157,7 @@ def check_damage(program, path, rows, lines, data, folder):
         if sums:
             damaged.write_bytes(data[: end - 5] + bytes([data[end - 5] ^ 1]) + data[end - 4:])
             check(run(program, str(damaged), status=1) == lines[: before[at]], f"damage at {end - 5} differs")
+            check_count(program, damaged, by_line[: before[at]], status=1)
 
 
 def ends_with_cell(line):

@@ -35,7 +35,7 @@ texts values = map (λ v. v.now) values
 abbrev pub values_of : Found → List ℕ → List (List ℕ)
 values_of f name = unwrap_or (option_map raw_values (matched_of f name)) []
 
--- a flag is given or it isn't
+-- whether the flag of this name is given, by the one text that `clap` has for it
 pub record IsFlag (f : Found) (name : List ℕ) (is : Bool) : Type 0 where
   pub none : one_text f name ≡ None → is ≡ false
   pub given : one_text f name ≡ Some (codes "true") → is ≡ true

@@ -1,5 +1,5 @@
 -- Which rows of a file are counted. It is a module of its own because Settings is a type of the code.
-use Rattle.std.specs.Prelude.{◌≡◌, ◌⊎◌, ℕ, true, List, [], ◌∷◌, ◌++◌, length, Option, Some, None}
+use Rattle.std.specs.Prelude.{◌≡◌, ◌⊎◌, ℕ, true, List, [], ◌∷◌, ◌++◌, length, Option, Some, None, ◌==◌, if◌then◌else◌}
 use Rattle.mysql_binlog_rows.specs.Images.{Pair, pair}
 use Rattle.mysql_binlog_rows.specs.Cover.{Covers}
 use Rattle.binlog_file.specs.Events.{Event, glance_of, is_binlog}
@@ -21,9 +21,10 @@ use Rattle.changes.specs.Failures.{IsNotOfFile, EndsAtRow, EndsAtEvent, EndsAtHe
 
 -- ---- the rows of an event
 
+-- so many rows of a table, if there are any and their operation is known
 abbrev pub counted_by : Option Operation → Name → ℕ → List Counted
 counted_by None name n = []
-counted_by (Some o) name n = record { name = name; operation = o; rows = n } ∷ []
+counted_by (Some o) name n = if n == 0 then [] else record { name = name; operation = o; rows = n } ∷ []
 
 -- so many rows of an event, whose operation is known: no other is wanted
 abbrev pub counted_in : LentChange → ℕ → List Counted
@@ -34,8 +35,8 @@ abbrev pub AreEventRows : LentEvent → List Counted → Type 0
 AreEventRows (lent.Other o) xs = xs ≡ []
 AreEventRows (lent.Rows c) xs = (ps : List Pair) × Covers (pair c.table c.rows) c.left ps None × (xs ≡ counted_in c (length ps))
 
--- The first rows of such an event, up to a failure. None of them are counted if it is no error of the file,
--- because memory was refused.
+-- The first rows of such an event, up to a failure. Of a failure that is none of the file's, as refused memory, it
+-- may also be none.
 abbrev pub AreFirstEventRows : Failure → LentEvent → List Counted → Type 0
 AreFirstEventRows why (lent.Other o) xs = (xs ≡ []) × IsNotOfFile why
 AreFirstEventRows why (lent.Rows c) xs =

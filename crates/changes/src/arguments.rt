@@ -150,11 +150,13 @@ impl<'a> Arguments<'a> {
     /// Returns the arguments that were found.
     pub fn of(matches: &'a ArgMatches<'_>) -> Arguments<'a>
         ensures found { AreArguments (found_of matches.now) result }
-        ensures start { (t : List ℕ) → one_text (found_of matches.now) (codes "start-position") ≡ Some t
+        ensures start { (t : List ℕ)
+            → one_text (found_of matches.now) (codes "start-position") ≡ Some t
             → ReadsOne ⟦<u64 as FromStr>⟧.from_str_gives t result.positions.start }
         ensures no_start { one_text (found_of matches.now) (codes "start-position") ≡ None
             → result.positions.start ≡ None }
-        ensures stop { (t : List ℕ) → one_text (found_of matches.now) (codes "stop-position") ≡ Some t
+        ensures stop { (t : List ℕ)
+            → one_text (found_of matches.now) (codes "stop-position") ≡ Some t
             → ReadsOne ⟦<u64 as FromStr>⟧.from_str_gives t result.positions.stop }
         ensures no_stop { one_text (found_of matches.now) (codes "stop-position") ≡ None
             → result.positions.stop ≡ None }

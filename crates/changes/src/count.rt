@@ -123,7 +123,8 @@ impl Counts {
         rows: u64,
     ) -> Result<(), AllocError>
         ensures added { OnOk result (CountsMore
-            (record { name = name_of name; operation = operation; rows = rows } ∷ []) self.old self.new) }
+            (record { name = name_of name; operation = operation; rows = rows } ∷ [])
+            self.old self.new) }
         ensures kept { OnErr result (CountsMore [] self.old self.new) }
     {
         let counted = self.tables.get(&name).copied();
@@ -136,6 +137,7 @@ impl Counts {
         self.tables.insert(name, changed)?;
         Ok(())
     }
+
     /// Writes the numbers as a table: a line for each table, in the order of their names, and a line of
     /// sums. A line before that has the rows of the tables that aren't counted apart, if there are any.
     pub fn print<O: Write>(&self, out: &mut O) -> io::Result<()>

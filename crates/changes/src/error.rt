@@ -64,6 +64,11 @@ impl Sentence {
     // Writes that so many bytes of the event are missing.
     fn write_cut<W: fmt::Write>(&self, f: &mut fmt::Formatter<W>, missing: u64) -> fmt::Result {
         match self.there {
+            // What is missing of a header that is cut is told up to the header's end.
+            Some(there) if there < 19 => write!(
+                f,
+                "the event is cut: {there} of the 19 bytes of its header are there"
+            ),
             Some(there) => {
                 let all = there.saturating_add(missing);
                 write!(f, "the event is cut: {there} of {all} bytes are there")

@@ -267,9 +267,9 @@ fn write_text_rows<'f, S: Bytes + Drop, O: Write>(
     ensures lines { OnOk result (WritesRows (λ row p line. line ≡ place.now ++ signed_line_text p)
         change.entry (O.contents out.old) lines.old.bytes.items (O.contents out.new)
         lines.new.bytes.items) }
-    ensures first { IfErr result (λ why. WritesFirstRows why (λ row p line. line ≡ place.now ++ signed_line_text p)
-        change.entry (O.contents out.old) lines.old.bytes.items (O.contents out.new)
-        lines.new.bytes.items) }
+    ensures first { IfErr result (λ why. WritesFirstRows why
+        (λ row p line. line ≡ place.now ++ signed_line_text p) change.entry (O.contents out.old)
+        lines.old.bytes.items (O.contents out.new) lines.new.bytes.items) }
     ensures stays { OnOk result (Stays changes.old changes.new) }
 {
     let mut change = change;
@@ -310,7 +310,8 @@ fn count_rows<'f, S: Bytes + Drop>(
     (count, None)
 }
 
-// Adds so many rows of a table to the counts. If what changed them isn't known, nothing is counted.
+// Adds so many rows of a table to the counts. If there are none, or what changed them isn't known,
+// which is so of no event that is wanted, nothing is counted.
 fn add_rows(
     counts: &mut Counts,
     name: TableName,
@@ -321,14 +322,17 @@ fn add_rows(
         counts.old counts.new) }
     ensures kept { OnErr result (CountsMore [] counts.old counts.new) }
 {
-    match operation {
-        Some(operation) => counts.add(name, operation, rows),
-        None => Ok(()),
+    let Some(operation) = operation else {
+        return Ok(());
+    };
+    if rows == 0 {
+        return Ok(());
     }
+    counts.add(name, operation, rows)
 }
 
 // The types of the events that are looked at beside rows events: those after which another GTID may be
-// in force, and those with statements.
+// in force, and those with statements. Those that come most are first.
 const SEEN: [u8; 8] = [0xA2, 0x21, 0x02, 0x0F, 0x12, 0x22, 0x2A, 0xA5];
 
 // Reads the next event into a buffer: each one, or only those that are looked at.

@@ -107,7 +107,8 @@ impl<'a> Source<'a> {
 
     // Writes the members of the object.
     fn write_members(&self, out: &mut Writer) -> Result<(), AllocError>
-        ensures written { OnOk result (WroteMembers (λ ms. ms ≡ fields_of self.now) out.old out.new) }
+        ensures written { OnOk result
+            (WroteMembers (λ ms. ms ≡ fields_of self.now) out.old out.new) }
         ensures stays { AddsSome out.old out.new }
     {
         write_string(out, "file", self.file)?;

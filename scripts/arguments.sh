@@ -94,6 +94,13 @@ lines_of 0 4 '          12           13            9  (all)' --count f
 lines_of 0 3 '           0            2            0  (all)' --count --op u --table db_F.pk_auto f
 case_of 0 'the server logged no signs' f
 
+head -c 700 f >cut
+case_of 1 'changes: cut at 595: the event is cut: 105 of 184 bytes are there' cut
+head -c 600 f >cut
+case_of 1 'changes: cut at 595: the event is cut: 5 of the 19 bytes of its header are there' cut
+status=0
+"$program" - <cut >out 2>err || status=$?
+judge 'a cut event of standard input' 1 'changes: - at 595: the event is cut: 14 bytes are missing'
 status=0
 "$program" - <f >out 2>err || status=$?
 judge '- as standard input' 0 '{"op":"c","source":{"file":"-","pos":964,"row":0'

@@ -456,8 +456,19 @@ fn strings_are_refused(rt: HostRuntime) {
             refuses::<Skip<1>>(&[], Fault::UnexpectedEof),
             (lenenc_int_len(250), lenenc_int_len(251)) == (1, 3),
             ParseBuf(&[9]).parse::<Skip<1>>(()).is_ok(),
+        ])
+    );
+}
+
+#[test]
+fn sizes_of_values(rt: HostRuntime) {
+    assert!(rt;
+        all(&[
             <Skip<1> as MyDeserialize>::SIZE.is_none(),
             <RawInt<BeU24> as MyDeserialize>::SIZE == Some(3),
+            <RawInt<LenEnc> as MyDeserialize>::SIZE.is_none(),
+            <Const<ColumnType, U8> as MyDeserialize>::SIZE == Some(1),
+            <RawFlags<ColumnFlags, LeU16> as MyDeserialize>::SIZE == Some(2),
         ])
     );
 }

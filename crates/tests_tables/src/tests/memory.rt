@@ -12,8 +12,9 @@ use binlog_base::below::{
 use binlog_base::fault::Fault;
 use binlog_base::misc::my_time_packed_from_binary;
 use binlog_table::table_map::optional::{
-    ColumnCharsets, DefaultCharset, IterSetStrValues, ListOf, NonDefaultCharset,
-    PrimaryKeyWithPrefix, SetStrValues, SetsStrValues,
+    ColumnCharsets, ColumnNames, DefaultCharset, GeometryTypes, IterSetStrValues, ListOf,
+    NonDefaultCharset, NonDefaultCharsets, PrimaryKeyWithPrefix, PrimaryKeysWithPrefix,
+    SetStrValues, SetsStrValues, SimplePrimaryKey, TableColumns, VectorDimensionalities,
 };
 use binlog_table::table_map::{TableId, TableMapEvent};
 use std::alloc::{AllocError, Global};
@@ -24,6 +25,30 @@ use std::test::Fail;
 fn nothing_for_times(rt: HostRuntime) {
     let mut bytes: &[u8] = &[0x81, 0x90, 0];
     assert!(rt; my_time_packed_from_binary(&mut bytes, 0) == Ok(0x1_9000 << 24));
+}
+
+/// The table d.t of `a`, an unsigned LONG and key column, and `b`, a VARCHAR of the character set 33.
+const TWO_NAMED: &[u8] = b"\x01\0\0\0\0\0\x01\0\x01d\0\x01t\0\x02\x03\x0f\x02\x0a\0\x02\
+    \x01\x01\x80\x04\x04\x01a\x01b\x08\x01\0\x02\x01\x21";
+
+/// Returns whether a table has four fields of optional metadata and two columns, in nine steps.
+fn has_fields_and_columns(table: &TableMapEvent<'_>) -> bool {
+    let mut columns = TableColumns::new(table);
+    table.iter_optional_meta().all(|field| field.is_ok())
+        && table.iter_optional_meta().count() == 4
+        && columns.skip_columns(2).is_ok()
+        && columns.steps() == 9
+}
+
+/// Returns whether the bytes are such a table.
+fn is_walked(bytes: &[u8]) -> Result<bool, Fault> {
+    let table: TableMapEvent<'_> = ParseBuf(bytes).parse(8)?;
+    Ok(has_fields_and_columns(&table))
+}
+
+#[test]
+fn nothing_for_tables(rt: HostRuntime) {
+    assert!(rt; is_walked(TWO_NAMED) == Ok(true));
 }
 
 /// Returns whether a buffer that held `old` holds it still, followed by a beginning of the bytes.
@@ -77,6 +102,21 @@ fn written_fields(rt: HostRuntime) -> Result<(), Fail> {
             && is_rewritten::<NonDefaultCharset>(alloc, (), &[1, 0x21])?
             && is_rewritten::<PrimaryKeyWithPrefix>(alloc, (), &[2, 10])?
             && is_rewritten::<SetStrValues<'_>>(alloc, alloc, b"\x02\x01a\x01b")?
+    );
+    Ok(())
+}
+
+#[test]
+fn written_lists(rt: HostRuntime) -> Result<(), Fail> {
+    let alloc = rt.alloc();
+    assert!(rt;
+        is_rewritten::<ColumnNames<'_>>(alloc, (), b"\x01a")?
+            && is_rewritten::<NonDefaultCharsets<'_>>(alloc, (), &[1, 0x21])?
+            && is_rewritten::<VectorDimensionalities<'_>>(alloc, (), &[3])?
+            && is_rewritten::<SimplePrimaryKey<'_>>(alloc, (), &[1, 0])?
+            && is_rewritten::<PrimaryKeysWithPrefix<'_>>(alloc, (), &[2, 10])?
+            && is_rewritten::<GeometryTypes<'_>>(alloc, (), &[1, 2])?
+            && is_rewritten::<SetsStrValues<'_>>(alloc, (), b"\x01\x01a")?
     );
     Ok(())
 }

@@ -46,8 +46,7 @@ fn is_set(item: &Item<'_>, bytes: &[u8]) -> bool {
 }
 
 /// Returns whether the items are this fault, and then the column name `a` alone.
-fn are_fault_and_name(metadata: &[u8], fault: Fault) -> bool {
-    let mut items = items(metadata);
+fn are_fault_and_name(mut items: OptionalMetadataIter<'_>, fault: Fault) -> bool {
     is_fault(&items.next(), fault) && is_name_a(&items.next()) && items.next().is_none()
 }
 
@@ -55,15 +54,17 @@ fn are_fault_and_name(metadata: &[u8], fault: Fault) -> bool {
 fn faults_and_names(rt: HostRuntime) {
     assert!(rt;
         all(&[
-            are_fault_and_name(&[1, 2, 0x80, 0, 4, 2, 1, 0x61], Fault::BytesRemaining),
-            are_fault_and_name(&[1, 0, 4, 2, 1, 0x61], Fault::UnexpectedEof),
+            are_fault_and_name(
+                items(&[1, 2, 0x80, 0, 4, 2, 1, 0x61]),
+                Fault::BytesRemaining
+            ),
+            are_fault_and_name(items(&[1, 0, 4, 2, 1, 0x61]), Fault::UnexpectedEof),
         ])
     );
 }
 
 /// Returns whether the items are this fault alone.
-fn are_fault(metadata: &[u8], fault: Fault) -> bool {
-    let mut items = items(metadata);
+fn are_fault(mut items: OptionalMetadataIter<'_>, fault: Fault) -> bool {
     is_fault(&items.next(), fault) && items.next().is_none()
 }
 
@@ -80,9 +81,9 @@ fn fields_of_unknown_kinds(rt: HostRuntime) {
             around.next().is_none(),
             items(&[0x0e, 0]).next().is_none(),
             // One that is cut, or has a bad length.
-            are_fault(&[0x0e, 5, 0x61], Fault::UnexpectedEof),
-            are_fault(&[0x0e], Fault::UnexpectedEof),
-            are_fault(&[0x0e, 0xfb], Fault::BadLenEnc),
+            are_fault(items(&[0x0e, 5, 0x61]), Fault::UnexpectedEof),
+            are_fault(items(&[0x0e]), Fault::UnexpectedEof),
+            are_fault(items(&[0x0e, 0xfb]), Fault::BadLenEnc),
         ])
     );
 }
@@ -149,6 +150,44 @@ fn has_sign(bytes: &[u8]) -> Result<bool, Fault> {
 #[test]
 fn fields_of_an_event(rt: HostRuntime) {
     assert!(rt; has_sign(SIGNED) == Ok(true));
+}
+
+/// The table d.t of a LONG and a VARCHAR column, with two bytes for the sign of the first, and then
+/// the name `a`.
+const TWO_SIGNS: &[u8] = b"\x01\0\0\0\0\0\x01\0\x01d\0\x01t\0\x02\x03\x0f\x02\x0a\0\x02\
+    \x01\x02\x80\0\x04\x02\x01a";
+/// The same after a field of no known kind.
+const UNKNOWN_FIRST: &[u8] = b"\x01\0\0\0\0\0\x01\0\x01d\0\x01t\0\x02\x03\x0f\x02\x0a\0\x02\
+    \x0e\x01\xff\x01\x02\x80\0\x04\x02\x01a";
+/// The table with a field of names that is cut.
+const CUT_NAMES: &[u8] =
+    b"\x01\0\0\0\0\0\x01\0\x01d\0\x01t\0\x02\x03\x0f\x02\x0a\0\x02\x04\x05a";
+/// The table with a field of no known kind that is cut.
+const CUT_UNKNOWN: &[u8] =
+    b"\x01\0\0\0\0\0\x01\0\x01d\0\x01t\0\x02\x03\x0f\x02\x0a\0\x02\x0e\x05a";
+
+/// Returns whether the fields of a table are this fault, and then the name `a` alone.
+fn has_fault_and_name(bytes: &[u8], fault: Fault) -> Result<bool, Fault> {
+    let table: TableMapEvent<'_> = ParseBuf(bytes).parse(8)?;
+    Ok(are_fault_and_name(table.iter_optional_meta(), fault))
+}
+
+/// Returns whether the fields of a table are this fault alone.
+fn has_fault(bytes: &[u8], fault: Fault) -> Result<bool, Fault> {
+    let table: TableMapEvent<'_> = ParseBuf(bytes).parse(8)?;
+    Ok(are_fault(table.iter_optional_meta(), fault))
+}
+
+#[test]
+fn faulty_fields_of_an_event(rt: HostRuntime) {
+    assert!(rt;
+        all(&[
+            has_fault_and_name(TWO_SIGNS, Fault::BytesRemaining) == Ok(true),
+            has_fault_and_name(UNKNOWN_FIRST, Fault::BytesRemaining) == Ok(true),
+            has_fault(CUT_NAMES, Fault::UnexpectedEof) == Ok(true),
+            has_fault(CUT_UNKNOWN, Fault::UnexpectedEof) == Ok(true),
+        ])
+    );
 }
 
 #[test]

@@ -104,8 +104,9 @@ fn cut_events(rt: HostRuntime) {
     }
 }
 
-/// Tables d.t whose counts are out of range, with their faults.
-const HOSTILE: [(&[u8], Fault); 5] = [
+/// Tables d.t whose counts are out of range, with their faults. In the last three all that follows
+/// the count of columns is there.
+const HOSTILE: [(&[u8], Fault); 8] = [
     (b"\x01\0\0\0\0\0\x01\0\x01d\0\x01t\0\xfb", Fault::BadLenEnc),
     (
         b"\x01\0\0\0\0\0\x01\0\x01d\0\x01t\0\xfe\xff\xff\xff\xff\xff\xff\xff\xff",
@@ -121,6 +122,18 @@ const HOSTILE: [(&[u8], Fault); 5] = [
     ),
     (
         b"\x01\0\0\0\0\0\x01\0\x01d\0\x01t\0\x01\x03\xfe\xff\xff\xff\xff\xff\xff\xff\xff",
+        Fault::UnexpectedEof,
+    ),
+    (
+        b"\x01\0\0\0\0\0\x01\0\x01d\0\x01t\0\xfb\x03\x0f\x02\x0a\0\x02",
+        Fault::BadLenEnc,
+    ),
+    (
+        b"\x01\0\0\0\0\0\x01\0\x01d\0\x01t\0\xff\x03\x0f\x02\x0a\0\x02",
+        Fault::BadLenEnc,
+    ),
+    (
+        b"\x01\0\0\0\0\0\x01\0\x01d\0\x01t\0\x07\x03\x0f\x02\x0a\0\x02",
         Fault::UnexpectedEof,
     ),
 ];

@@ -230,7 +230,7 @@ fn write_keys(room: &mut InlineText<128>, object: &ComplexValue<'_, Small, Objec
 }
 
 /// Returns whether the keys of the object have this text.
-fn has_keys(bytes: &[u8], text: &str) -> bool {
+pub(super) fn has_keys(bytes: &[u8], text: &str) -> bool {
     let mut room = InlineText::new();
     match object(bytes) {
         Some(object) => write_keys(&mut room, &object).is_ok() && room.as_str() == text,
@@ -241,7 +241,7 @@ fn has_keys(bytes: &[u8], text: &str) -> bool {
 /// An object of the key `a` and the literal null, and the same with a key inside the entries.
 const NULL: &[u8] = b"\0\x01\0\x0c\0\x0b\0\x01\0\x04\0\0a";
 
-const BAD_KEY: &[u8] = b"\0\x01\0\x0c\0\x0a\0\x01\0\x04\0\0a";
+pub(super) const BAD_KEY: &[u8] = b"\0\x01\0\x0c\0\x0a\0\x01\0\x04\0\0a";
 /// An object whose key is empty, at its end.
 const EMPTY_KEY: &[u8] = b"\0\x01\0\x0b\0\x0b\0\0\0\x05\x01\0";
 /// An object whose first key is inside the entries.

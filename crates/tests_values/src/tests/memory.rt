@@ -6,7 +6,7 @@
 
 ghost use Rattle.std.specs.Prelude.{◌≤◌};
 
-use super::jsonb::{has_element, has_key_a};
+use super::jsonb::{BAD_KEY, has_element, has_key_a, has_keys};
 use super::lent::{self, OBJECT};
 use super::trees;
 use binlog_base::below::{
@@ -41,6 +41,8 @@ fn nothing_for_json(rt: HostRuntime) -> Result<(), Fail> {
         has_element(&[2, 2, 0, 10, 0, 5, 1, 0, 5, 2, 0], 1, "I16 2")
             && has_element(trees::OVERLAPPING, 1, "Bool true")
             && has_key_a(OBJECT)
+            && has_keys(BAD_KEY, "Jsonb(InvalidKeyOffsetPointer);")
+            && is_scalar(rt.alloc(), &[])?
             && is_scalar(rt.alloc(), &[4, 1])?
             && is_scalar(rt.alloc(), &[5, 7, 0])?
     );

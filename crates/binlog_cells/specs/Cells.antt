@@ -1,5 +1,5 @@
 -- The bytes of a cell in the rows data, by the column's type and metadata.
-use Rattle.std.specs.Prelude.{ℕ, ◌+◌, ◌-◌, ◌*◌, ◌/◌, ◌%◌, ◌==◌, pos, Bool, false, List, [], ◌∷◌, nat_lt, if◌then◌else◌, Option, Some, Result, Ok, Err, ℤ, ◌++◌, length, replicate, codes, unsigned_abs}
+use Rattle.std.specs.Prelude.{ℕ, ◌+◌, ◌-◌, ◌*◌, ◌/◌, ◌%◌, ◌==◌, pos, Bool, false, List, [], ◌∷◌, nat_lt, ◌&&◌, if◌then◌else◌, Option, Some, Result, Ok, Err, ℤ, ◌++◌, length, replicate, codes, unsigned_abs}
 use Rattle.std.specs.Int.{is_negative}
 use Rattle.std.specs.Ordering.{int_eq}
 use Rattle.std.specs.Fmt.{decimal, signed_decimal, sign_text}
@@ -7,10 +7,9 @@ use Rattle.binlog_base.specs.declared.below.columns.column_type.ColumnType.{Colu
 use Rattle.binlog_base.specs.declared.fault.Fault.{Fault}
 use Rattle.binlog_base.specs.declared.below.columns.column_type.ColumnType.TheVariants as column
 use Rattle.binlog_base.specs.declared.fault.Fault.TheVariants.{MissingMetadata, Unhandled, UnknownBlob, UnknownEnum, YearRange}
-use Rattle.binlog_base.specs.Format.{Format, ◌>>=◌, take_bytes, no_bytes, refusal, check, sequence, inside, map_value, choice}
+use Rattle.binlog_base.specs.Format.{Format, take_bytes, no_bytes, refusal, sequence, inside, map_value, choice}
 use Rattle.binlog_base.specs.Items.{repeated}
 use Rattle.binlog_base.specs.declared.below.columns.value.Value.{Value}
-use Rattle.binlog_base.specs.Tables.{from_table}
 use Rattle.binlog_base.specs.Numbers.{little_endian, signed_little_endian}
 use Rattle.binlog_base.specs.ColumnTypes.{column_type_of}
 use Rattle.binlog_base.specs.Values.{PlainValue, Bytes, Int, UInt, Float, Double, Date, Time, plain_of}
@@ -20,12 +19,6 @@ use Rattle.binlog_values.specs.DecimalText.{decimal_text}
 use Rattle.binlog_values.specs.JsonbValues.{JsonbValue, json}
 use Rattle.binlog_values.specs.JsonbViews.{view_of}
 use Rattle.binlog_values.specs.JsonDiffs.{Diff, diff}
-use Rattle.binlog_cells.specs.declared.value.form.Width.{Width}
-use Rattle.binlog_cells.specs.declared.value.form.PlainForm.{PlainForm}
-use Rattle.binlog_cells.specs.declared.value.form.PlainForm.TheVariants as form
-use Rattle.binlog_cells.specs.declared.value.form.Form.{Form}
-use Rattle.binlog_cells.specs.declared.value.form.Form.TheVariants as way
-use Rattle.binlog_cells.specs.declared.value.form.Width.TheVariants as width
 use Rattle.binlog_cells.specs.declared.value.BinlogValue.{BinlogValue}
 use Rattle.binlog_cells.specs.declared.value.BinlogValue.TheVariants as binlog
 use Rattle.binlog_cells.specs.declared.value.BinlogValueToValueError.{BinlogValueToValueError}
@@ -161,9 +154,9 @@ text w = sequence (little_endian w) take_bytes
 unfoldable pub text_cell : ℕ → Format PlainValue
 text_cell w = map_value (text w) Bytes
 
--- the length of a cell takes one byte if the greatest length is below 256, else two
-abbrev pub length_width : ℕ → Width
-length_width most = if nat_lt most 256 then width.One else width.Two
+-- in how many bytes the length of a cell is: one if the greatest length is below 256, else two
+abbrev pub length_bytes : ℕ → ℕ
+length_bytes most = if nat_lt most 256 then 1 else 2
 
 -- VARCHAR and VAR_STRING: the greatest length, from the two bytes of metadata
 abbrev pub varchar_length : ℕ → ℕ → ℕ
@@ -179,123 +172,19 @@ string_length m0 m1 = if m0 == 0 then m1 * 256 else (3 - m0 / 16 % 4) * 256 + m1
 abbrev pub bit_bytes : ℕ → ℕ → ℕ
 bit_bytes m0 m1 = (m1 * 8 + m0 + 7) / 8
 
--- ENUM: the number of the value, as a little-endian number of w bytes
+-- the BLOB types, GEOMETRY, VECTOR: the length has m0 bytes, one to four; else UnknownBlob
+abbrev pub blob_cell : ℕ → Format PlainValue
+blob_cell m0 = choice (nat_lt 0 m0 && nat_lt m0 5) (text_cell m0) (refusal UnknownBlob)
+
+-- the number of an ENUM value, as a little-endian number of w bytes
 unfoldable pub variant_cell : ℕ → Format PlainValue
 variant_cell w = map_value (little_endian w) int_value
 
--- ---- how the cells of a column are read
+-- ENUM: the number of the value has m1 bytes, one or two; else UnknownEnum
+abbrev pub enum_cell : ℕ → Format PlainValue
+enum_cell m1 = choice (nat_lt 0 m1 && nat_lt m1 3) (variant_cell m1) (refusal UnknownEnum)
 
--- the number of bytes of a width
-abbrev pub bytes_in : Width → ℕ
-bytes_in width.One = 1
-bytes_in width.Two = 2
-bytes_in width.Three = 3
-bytes_in width.Four = 4
-
--- the bytes of a plain value that is read in this way
-unfoldable pub plain_by : PlainForm → Format PlainValue
-plain_by (form.Integer w unsigned) = integer (bytes_in w) unsigned
-plain_by (form.LongInteger unsigned) = long_integer unsigned
-plain_by form.Float = float_bits
-plain_by form.Double = double_bits
-plain_by form.Timestamp = timestamp_cell
-plain_by form.Time = time_cell
-plain_by form.Datetime = datetime_cell
-plain_by form.Year = year_cell
-plain_by form.Date = date_cell
-plain_by (form.Timestamp2 decimals) = timestamp2_cell decimals
-plain_by (form.Datetime2 decimals) = datetime2_cell decimals
-plain_by (form.Time2 decimals) = time2_cell decimals
-plain_by (form.Decimal precision scale) = decimal_cell precision scale
-plain_by (form.Fixed n) = fixed_bytes n
-plain_by (form.Text w) = text_cell (bytes_in w)
-plain_by (form.Variant w) = variant_cell (bytes_in w)
-
--- the first byte of the metadata; MissingMetadata where there is none
-abbrev pub first_byte : List ℕ → Result ℕ Fault
-first_byte [] = Err MissingMetadata
-first_byte (m0 ∷ more) = Ok m0
-
--- the first two bytes of the metadata; MissingMetadata where there are fewer
-abbrev pub first_two : List ℕ → Result (ℕ × ℕ) Fault
-first_two [] = Err MissingMetadata
-first_two (m0 ∷ []) = Err MissingMetadata
-first_two (m0 ∷ m1 ∷ more) = Ok (m0, m1)
-
--- in how many bytes the length of a BLOB may be
-abbrev pub blob_widths : List (ℕ × Width)
-blob_widths = (1, width.One) ∷ (2, width.Two) ∷ (3, width.Three) ∷ (4, width.Four) ∷ []
-
--- BLOB types, GEOMETRY, VECTOR: the length has one to four bytes, as the metadata says; else
--- UnknownBlob
-abbrev pub blob_form : ℕ → Result PlainForm Fault
-blob_form m0 = from_table blob_widths (λ n. UnknownBlob) m0 >>= λ w. Ok (form.Text w)
-
--- in how many bytes the number of an ENUM value may be
-abbrev pub variant_widths : List (ℕ × Width)
-variant_widths = (1, width.One) ∷ (2, width.Two) ∷ []
-
--- ENUM: the number has one or two bytes, as the metadata says; else UnknownEnum
-abbrev pub variant_form : ℕ → Result PlainForm Fault
-variant_form m1 = from_table variant_widths (λ n. UnknownEnum) m1 >>= λ w. Ok (form.Variant w)
-
--- how cells are read if their type needs two bytes of metadata; Unhandled for all other types
-abbrev pub two_form : ColumnType → List ℕ → Result PlainForm Fault
-two_form column.MYSQL_TYPE_BIT metadata = first_two metadata >>= λ m. Ok (form.Fixed (bit_bytes m.0 m.1))
-two_form column.MYSQL_TYPE_SET metadata = first_two metadata >>= λ m. Ok (form.Fixed m.1)
-two_form column.MYSQL_TYPE_ENUM metadata = first_two metadata >>= λ m. variant_form m.1
-two_form column.MYSQL_TYPE_VARCHAR metadata = first_two metadata >>= λ m. Ok (form.Text (length_width (varchar_length m.0 m.1)))
-two_form column.MYSQL_TYPE_VAR_STRING metadata = first_two metadata >>= λ m. Ok (form.Text (length_width (varchar_length m.0 m.1)))
-two_form column.MYSQL_TYPE_STRING metadata = first_two metadata >>= λ m. Ok (form.Text (length_width (string_length m.0 m.1)))
-two_form column.MYSQL_TYPE_NEWDECIMAL metadata = first_two metadata >>= λ m. Ok (form.Decimal m.0 m.1)
-two_form _ metadata = Err Unhandled
-
--- How the cells of a column that is neither an array nor JSON are read, by the column's type and
--- metadata and by whether its numbers are unsigned; or the fault that comes for every cell.
-unfoldable pub plain_form : ColumnType → List ℕ → Bool → Result PlainForm Fault
-plain_form column.MYSQL_TYPE_TINY metadata unsigned = Ok (form.Integer width.One unsigned)
-plain_form column.MYSQL_TYPE_SHORT metadata unsigned = Ok (form.Integer width.Two unsigned)
-plain_form column.MYSQL_TYPE_INT24 metadata unsigned = Ok (form.Integer width.Three unsigned)
-plain_form column.MYSQL_TYPE_LONG metadata unsigned = Ok (form.Integer width.Four unsigned)
-plain_form column.MYSQL_TYPE_LONGLONG metadata unsigned = Ok (form.LongInteger unsigned)
-plain_form column.MYSQL_TYPE_FLOAT metadata unsigned = Ok form.Float
-plain_form column.MYSQL_TYPE_DOUBLE metadata unsigned = Ok form.Double
-plain_form column.MYSQL_TYPE_TIMESTAMP metadata unsigned = Ok form.Timestamp
-plain_form column.MYSQL_TYPE_TIME metadata unsigned = Ok form.Time
-plain_form column.MYSQL_TYPE_DATETIME metadata unsigned = Ok form.Datetime
-plain_form column.MYSQL_TYPE_YEAR metadata unsigned = Ok form.Year
-plain_form column.MYSQL_TYPE_NEWDATE metadata unsigned = Ok form.Date
-plain_form column.MYSQL_TYPE_TINY_BLOB metadata unsigned = first_byte metadata >>= blob_form
-plain_form column.MYSQL_TYPE_MEDIUM_BLOB metadata unsigned = first_byte metadata >>= blob_form
-plain_form column.MYSQL_TYPE_LONG_BLOB metadata unsigned = first_byte metadata >>= blob_form
-plain_form column.MYSQL_TYPE_BLOB metadata unsigned = first_byte metadata >>= blob_form
-plain_form column.MYSQL_TYPE_GEOMETRY metadata unsigned = first_byte metadata >>= blob_form
-plain_form column.MYSQL_TYPE_VECTOR metadata unsigned = first_byte metadata >>= blob_form
-plain_form column.MYSQL_TYPE_TIMESTAMP2 metadata unsigned = first_byte metadata >>= λ m0. Ok (form.Timestamp2 m0)
-plain_form column.MYSQL_TYPE_DATETIME2 metadata unsigned = first_byte metadata >>= λ m0. Ok (form.Datetime2 m0)
-plain_form column.MYSQL_TYPE_TIME2 metadata unsigned = first_byte metadata >>= λ m0. Ok (form.Time2 m0)
-plain_form type metadata unsigned = two_form type metadata
-
--- how the cells of a column that isn't an array are read
-abbrev pub element_form : ColumnType → List ℕ → Bool → Result Form Fault
-element_form column.MYSQL_TYPE_JSON metadata unsigned = Ok way.Json
-element_form type metadata unsigned = plain_form type metadata unsigned >>= λ f. Ok (way.Plain f)
-
--- how the cells of an array of a type are read; Unhandled if that type is an array or unknown
-abbrev pub typed_form : Result ColumnType Fault → List ℕ → Bool → Result Form Fault
-typed_form (Ok type) metadata unsigned = element_form type metadata unsigned
-typed_form (Err e) metadata unsigned = Err Unhandled
-
--- TYPED_ARRAY: as a cell of the type that the first byte of the metadata names, with all of the
--- metadata
-abbrev pub array_form : List ℕ → Bool → Result Form Fault
-array_form metadata unsigned = first_byte metadata >>= λ m0. typed_form (column_type_of m0) metadata unsigned
-
--- how the cells of a column are read, by its type, its metadata and whether its numbers are
--- unsigned; or the fault that comes for every cell
-abbrev pub form_of : ColumnType → List ℕ → Bool → Result Form Fault
-form_of column.MYSQL_TYPE_TYPED_ARRAY metadata unsigned = array_form metadata unsigned
-form_of type metadata unsigned = element_form type metadata unsigned
+-- ---- JSON
 
 -- JSON: a length of four bytes, and in as many bytes a value of binary JSON; diffs up to the end,
 -- if the cell is partial
@@ -304,14 +193,68 @@ json_cell partial =
     sequence (little_endian 4) (λ n.
     choice partial (map_value (inside n (repeated diff)) DiffsCell) (map_value (inside n json) JsonCell))
 
--- the bytes of a cell that is read in this way, partial or not
-unfoldable pub cell_by : Bool → Form → Format Cell
-cell_by partial (way.Plain f) = map_value (plain_by f) PlainCell
-cell_by partial way.Json = json_cell partial
+-- ---- the cells of a column
 
--- the bytes of a cell of a column of this type and metadata, signed or unsigned, partial or not
+-- by the first byte of the metadata; MissingMetadata where there is none
+abbrev pub with_first : {A : Type 0} → List ℕ → (ℕ → Format A) → Format A
+with_first [] f = refusal MissingMetadata
+with_first (m0 ∷ more) f = f m0
+
+-- by the first two bytes of the metadata; MissingMetadata where there are fewer
+abbrev pub with_two : {A : Type 0} → List ℕ → (ℕ → ℕ → Format A) → Format A
+with_two [] f = refusal MissingMetadata
+with_two (m0 ∷ []) f = refusal MissingMetadata
+with_two (m0 ∷ m1 ∷ more) f = f m0 m1
+
+-- The bytes of a plain value, by the type and metadata of its column and by whether numbers are
+-- unsigned. All types that have no line here are Unhandled.
+unfoldable pub plain_cell : ColumnType → List ℕ → Bool → Format PlainValue
+plain_cell column.MYSQL_TYPE_TINY metadata unsigned = integer 1 unsigned
+plain_cell column.MYSQL_TYPE_SHORT metadata unsigned = integer 2 unsigned
+plain_cell column.MYSQL_TYPE_INT24 metadata unsigned = integer 3 unsigned
+plain_cell column.MYSQL_TYPE_LONG metadata unsigned = integer 4 unsigned
+plain_cell column.MYSQL_TYPE_LONGLONG metadata unsigned = long_integer unsigned
+plain_cell column.MYSQL_TYPE_FLOAT metadata unsigned = float_bits
+plain_cell column.MYSQL_TYPE_DOUBLE metadata unsigned = double_bits
+plain_cell column.MYSQL_TYPE_TIMESTAMP metadata unsigned = timestamp_cell
+plain_cell column.MYSQL_TYPE_TIME metadata unsigned = time_cell
+plain_cell column.MYSQL_TYPE_DATETIME metadata unsigned = datetime_cell
+plain_cell column.MYSQL_TYPE_YEAR metadata unsigned = year_cell
+plain_cell column.MYSQL_TYPE_NEWDATE metadata unsigned = date_cell
+plain_cell column.MYSQL_TYPE_TIMESTAMP2 metadata unsigned = with_first metadata timestamp2_cell
+plain_cell column.MYSQL_TYPE_DATETIME2 metadata unsigned = with_first metadata datetime2_cell
+plain_cell column.MYSQL_TYPE_TIME2 metadata unsigned = with_first metadata time2_cell
+plain_cell column.MYSQL_TYPE_NEWDECIMAL metadata unsigned = with_two metadata decimal_cell
+plain_cell column.MYSQL_TYPE_BIT metadata unsigned = with_two metadata (λ m0 m1. fixed_bytes (bit_bytes m0 m1))
+plain_cell column.MYSQL_TYPE_SET metadata unsigned = with_two metadata (λ m0 m1. fixed_bytes m1)
+plain_cell column.MYSQL_TYPE_ENUM metadata unsigned = with_two metadata (λ m0 m1. enum_cell m1)
+plain_cell column.MYSQL_TYPE_TINY_BLOB metadata unsigned = with_first metadata blob_cell
+plain_cell column.MYSQL_TYPE_MEDIUM_BLOB metadata unsigned = with_first metadata blob_cell
+plain_cell column.MYSQL_TYPE_LONG_BLOB metadata unsigned = with_first metadata blob_cell
+plain_cell column.MYSQL_TYPE_BLOB metadata unsigned = with_first metadata blob_cell
+plain_cell column.MYSQL_TYPE_GEOMETRY metadata unsigned = with_first metadata blob_cell
+plain_cell column.MYSQL_TYPE_VECTOR metadata unsigned = with_first metadata blob_cell
+plain_cell column.MYSQL_TYPE_VARCHAR metadata unsigned = with_two metadata (λ m0 m1. text_cell (length_bytes (varchar_length m0 m1)))
+plain_cell column.MYSQL_TYPE_VAR_STRING metadata unsigned = with_two metadata (λ m0 m1. text_cell (length_bytes (varchar_length m0 m1)))
+plain_cell column.MYSQL_TYPE_STRING metadata unsigned = with_two metadata (λ m0 m1. text_cell (length_bytes (string_length m0 m1)))
+plain_cell _ metadata unsigned = refusal Unhandled
+
+-- the bytes of a cell of a column that isn't an array; only JSON cells can be partial
+abbrev pub element_cell : ColumnType → List ℕ → Bool → Bool → Format Cell
+element_cell column.MYSQL_TYPE_JSON metadata unsigned partial = json_cell partial
+element_cell type metadata unsigned partial = map_value (plain_cell type metadata unsigned) PlainCell
+
+-- a cell of an array of this type, or of a number that is no type's
+abbrev pub inner_cell : Result ColumnType Fault → List ℕ → Bool → Bool → Format Cell
+inner_cell (Ok type) metadata unsigned partial = element_cell type metadata unsigned partial
+inner_cell (Err e) metadata unsigned partial = refusal Unhandled
+
+-- The bytes of a cell of a column of this type and metadata, signed or unsigned, partial or not. A
+-- TYPED_ARRAY has cells of the type that the first byte of its metadata names, which may not be
+-- TYPED_ARRAY again, with all of the metadata.
 unfoldable pub cell : ColumnType → List ℕ → Bool → Bool → Format Cell
-cell type metadata unsigned partial = sequence (check (form_of type metadata unsigned)) (cell_by partial)
+cell column.MYSQL_TYPE_TYPED_ARRAY metadata unsigned partial = with_first metadata (λ m0. inner_cell (column_type_of m0) metadata unsigned partial)
+cell type metadata unsigned partial = element_cell type metadata unsigned partial
 
 -- these values, and then that of a cell
 unfoldable pub one_more : List (Option Cell) → Format Cell → Format (List (Option Cell))

@@ -1,5 +1,6 @@
 -- The definitions that the contracts of this crate use.
 pub mod Cells
+pub mod Forms
 pub mod Pieces
 pub mod LentCells
 pub mod OldTimes

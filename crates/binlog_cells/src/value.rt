@@ -19,7 +19,8 @@ ghost use Rattle.std.specs.Ordering.{on};
 ghost use Rattle.std.specs.Cmp.{on_per, partial_equiv_from_equiv};
 ghost use Rattle.binlog_base.specs.Format.{ParsesAs, OrMemory};
 ghost use Rattle.binlog_base.specs.Values.{plain_of};
-ghost use Rattle.binlog_cells.specs.Cells.{Cell, cell_of, plain_by, cell, to_plain, plain_result};
+ghost use Rattle.binlog_cells.specs.Cells.{Cell, cell_of, cell, to_plain, plain_result};
+ghost use Rattle.binlog_cells.specs.Forms.{cell_by_form, plain_by};
 ghost use Rattle.binlog_cells.specs.Lemmas.Cells.{exact_cell};
 ghost use Rattle.binlog_cells.specs.LentCells.{lent_cell};
 ghost use Rattle.binlog_cells.specs.Equality.{same_cell};
@@ -145,7 +146,7 @@ impl<'a> TryFrom<BinlogValue<'a>> for Value {
 // Whatever makes a `Value` is inlined, so that its fields stay in registers until they are put where
 // the cell belongs.
 #[inline(always)]
-#[tactic(auto, unfolding(crate::specs::Cells::plain_by))]
+#[tactic(auto, unfolding(crate::specs::Forms::plain_by))]
 pub fn read_plain(alloc: Global, form: PlainForm, buf: &mut ParseBuf<'_>) -> Result<Value, Fault>
     ensures { OrMemory result (ParsesAs plain_of (plain_by form) result buf.old.0.now buf.new.0.now) }
 {
@@ -179,7 +180,7 @@ pub fn read_plain(alloc: Global, form: PlainForm, buf: &mut ParseBuf<'_>) -> Res
 }
 
 // Reads the cell of a column of this type and metadata.
-#[tactic(auto, unfolding(crate::specs::Cells::cell, crate::specs::Cells::cell_by))]
+#[tactic(auto, unfolding(crate::specs::Forms::cell_by_form, crate::specs::Forms::cell_by))]
 fn read_cell<'de>(
     alloc: Global,
     column_type: ColumnType,
@@ -188,8 +189,8 @@ fn read_cell<'de>(
     partial: bool,
     buf: &mut ParseBuf<'de>,
 ) -> Result<BinlogValue<'de>, Fault>
-    ensures { OrMemory result (ParsesAs cell_of (cell column_type metadata.now unsigned partial) result
-        buf.old.0.now buf.new.0.now) }
+    ensures { OrMemory result (ParsesAs cell_of
+        (cell_by_form column_type metadata.now unsigned partial) result buf.old.0.now buf.new.0.now) }
 {
     match form_of(column_type, metadata, unsigned)? {
         Form::Plain(form) => Ok(BinlogValue::Value(read_plain(alloc, form, buf)?)),

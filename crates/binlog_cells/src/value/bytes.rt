@@ -2,7 +2,8 @@
 
 ghost use Rattle.binlog_base.specs.Format.{ParsesAs};
 ghost use Rattle.binlog_base.specs.Values.{Bytes};
-ghost use Rattle.binlog_cells.specs.Cells.{fixed_bytes, text, text_cell, bytes_in};
+ghost use Rattle.binlog_cells.specs.Cells.{fixed_bytes, text, text_cell};
+ghost use Rattle.binlog_cells.specs.Forms.{bytes_in};
 
 use super::form::Width;
 use super::numbers::read_unsigned;

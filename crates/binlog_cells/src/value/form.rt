@@ -1,7 +1,8 @@
 //! Finds out how the cells of a column are read, from the column's type and metadata.
 
 ghost use Rattle.std.specs.Prelude.{◌≡◌, ◌≤◌};
-ghost use Rattle.binlog_cells.specs.Cells.{bytes_in, first_byte, first_two, length_width, varchar_length, string_length, bit_bytes, blob_form, variant_form, two_form, plain_form, element_form, array_form, form_of};
+ghost use Rattle.binlog_cells.specs.Cells.{varchar_length, string_length, bit_bytes};
+ghost use Rattle.binlog_cells.specs.Forms.{bytes_in, first_byte, first_two, length_width, blob_form, variant_form, two_form, plain_form, element_form, array_form, form_of};
 
 use binlog_base::below::{ColumnType, Constant};
 use binlog_base::fault::Fault;
@@ -149,7 +150,7 @@ fn variant_form(width: u8) -> Result<PlainForm, Fault>
 }
 
 // Returns how the cells of a column are read that is neither an array nor JSON.
-#[tactic(auto, unfolding(crate::specs::Cells::plain_form))]
+#[tactic(auto, unfolding(crate::specs::Forms::plain_form))]
 fn plain_form(column_type: ColumnType, metadata: &[u8], unsigned: bool) -> Result<PlainForm, Fault>
     ensures { result ≡ plain_form column_type metadata.now unsigned }
 {

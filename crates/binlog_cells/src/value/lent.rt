@@ -7,7 +7,8 @@ ghost use Rattle.std.specs.Cmp.{on_per, partial_equiv_from_equiv};
 ghost use Rattle.binlog_base.specs.Format.{ParsesAs, map_value};
 ghost use Rattle.binlog_cells.specs.Pieces.{date_of, time_of};
 ghost use Rattle.binlog_base.specs.Values.{Bytes, plain_of};
-ghost use Rattle.binlog_cells.specs.Cells.{PlainCell, cell_of, decimal_cell, json_cell, one_more, plain_by, year_text};
+ghost use Rattle.binlog_cells.specs.Cells.{PlainCell, cell_of, decimal_cell, json_cell, one_more, year_text};
+ghost use Rattle.binlog_cells.specs.Forms.{plain_by};
 ghost use Rattle.binlog_cells.specs.LentCells.{lent_cell, lent_values};
 ghost use Rattle.binlog_cells.specs.OldTimes.{signed_old_cell};
 ghost use Rattle.binlog_cells.specs.Equality.{same_cell};
@@ -236,7 +237,7 @@ pub fn put_cell<'a>(cells: &mut Vec<LentCell<'a>>, cell: LentCell<'a>)
 /// room for it.
 // Each form puts its own cell, so that it is written once.
 #[inline(always)]
-#[tactic(auto, unfolding(crate::specs::Cells::plain_by, crate::specs::Cells::one_more))]
+#[tactic(auto, unfolding(crate::specs::Forms::plain_by, crate::specs::Cells::one_more))]
 pub fn put_plain<'a>(
     form: PlainForm,
     cells: &mut Vec<LentCell<'a>>,

@@ -4,7 +4,8 @@ ghost use Rattle.std.specs.Prelude.{◌≡◌, true, false};
 ghost use Rattle.binlog_base.specs.Format.{Parses, ParsesAs};
 ghost use Rattle.binlog_base.specs.Numbers.{little_endian, signed_little_endian};
 ghost use Rattle.binlog_base.specs.Values.{Int, UInt, Float, Double};
-ghost use Rattle.binlog_cells.specs.Cells.{integer, long_integer, float_bits, double_bits, variant_cell, bytes_in};
+ghost use Rattle.binlog_cells.specs.Cells.{integer, long_integer, float_bits, double_bits, variant_cell};
+ghost use Rattle.binlog_cells.specs.Forms.{bytes_in};
 
 use super::form::Width;
 use binlog_base::below::{

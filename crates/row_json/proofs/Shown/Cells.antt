@@ -39,7 +39,9 @@ use Rattle.std.specs.Prelude.{◌&&◌, slice_index_or, Some}
 use Rattle.binlog_values.specs.JsonbValues.{JsonbValue}
 use Rattle.binlog_values.specs.JsonDiffs.{Diff}
 use Rattle.row_json.specs.ShownRows.{IsWholeCellOf, AreCellsOfOneColumn}
-use Rattle.binlog_cells.specs.Cells.{Cell, PlainCell, JsonCell, DiffsCell, cell, cell_by, json_cell, form_of, element_form, typed_form, plain_form, plain_by, integer, long_integer, float_bits, double_bits, timestamp_cell, time_cell, datetime_cell, year_cell, date_cell, timestamp2_cell, datetime2_cell, time2_cell, decimal_cell, fixed_bytes, text, text_cell, variant_cell, bytes_in, timestamp_text, places_text, int_value, time_of_digits, date_of_bits, year_text, date_of_digits}
+use Rattle.binlog_cells.specs.Cells.{Cell, PlainCell, JsonCell, DiffsCell, cell, json_cell, integer, long_integer, float_bits, double_bits, timestamp_cell, time_cell, datetime_cell, year_cell, date_cell, timestamp2_cell, datetime2_cell, time2_cell, decimal_cell, fixed_bytes, text, text_cell, variant_cell, timestamp_text, places_text, int_value, time_of_digits, date_of_bits, year_text, date_of_digits}
+use Rattle.binlog_cells.specs.Forms.{cell_by, cell_by_form, form_of, element_form, typed_form, plain_form, plain_by, bytes_in}
+use Rattle.binlog_cells.specs.Lemmas.Forms.{spelled_by_form}
 use Rattle.binlog_table.specs.TableColumns as table
 use Rattle.mysql_binlog_rows.specs.Images.{nullable_cell, is_partial, is_json}
 use Rattle.row_json.specs.declared.kind.Kind.{Kind}
@@ -447,8 +449,10 @@ not_plain true x n v s = cc (s.5.1)
 not_plain false x n v s = cc (s.5.1)
 
 read_by : (type : ColumnType) (metadata : List ℕ) (unsigned partial : Bool) (x : List ℕ) (v : PlainValue) → AreBytes x → (cell type metadata unsigned partial).spells x (PlainCell v) → ReadBy type metadata unsigned v
-unfolding cell cell_by json_cell
-read_by type metadata unsigned partial x v all s = by s.0 s.2 s.4.1 (after s.1 s.2 (subst AreBytes s.3 all)) s.5
+unfolding cell_by_form cell_by json_cell
+read_by type metadata unsigned partial x v all spelled =
+    let s = spelled_by_form type metadata unsigned partial x (PlainCell v) spelled in
+    by s.0 s.2 s.4.1 (after s.1 s.2 (subst AreBytes s.3 all)) s.5
   where
     by : (f : Form) (z : List ℕ) → form_of type metadata unsigned ≡ Ok f → AreBytes z → (cell_by partial f).spells z (PlainCell v) → ReadBy type metadata unsigned v
     by (way.Plain f) z is are t =
@@ -546,7 +550,7 @@ not_json x n false d e s = cc (s.5.1)
 
 -- a document is read by the form of documents
 json_read : (t : table.Column) (d : JsonbValue) → IsWholeCellOf t (JsonCell d) → form_of t.column_type (unwrap_or t.metadata []) t.unsigned ≡ Ok way.Json
-unfolding nullable_cell cell cell_by json_cell
+unfolding nullable_cell cell_by_form cell_by json_cell
 json_read t d whole = by whole.is_null whole.spelled
   where
     by_form_of : (f : Form) (partial : Bool) (z : List ℕ) → form_of t.column_type (unwrap_or t.metadata []) t.unsigned ≡ Ok f → (cell_by partial f).spells z (JsonCell d) → form_of t.column_type (unwrap_or t.metadata []) t.unsigned ≡ Ok way.Json
@@ -555,11 +559,13 @@ json_read t d whole = by whole.is_null whole.spelled
 
     by : (p : Bool) → (nullable_cell p [] t).spells whole.bytes (JsonCell d) → form_of t.column_type (unwrap_or t.metadata []) t.unsigned ≡ Ok way.Json
     by true s = absurd (cc (s.1))
-    by false s = by_form_of s.0 (is_partial [] t) s.2 s.4.1 s.5
+    by false spelled =
+        let s = spelled_by_form t.column_type (unwrap_or t.metadata []) t.unsigned (is_partial [] t) whole.bytes (JsonCell d) spelled in
+        by_form_of s.0 (is_partial [] t) s.2 s.4.1 s.5
 
 -- there are no diffs
 no_diffs : (t : table.Column) (d : List Diff) → IsWholeCellOf t (DiffsCell d) → ⊥
-unfolding nullable_cell cell cell_by json_cell
+unfolding nullable_cell cell_by_form cell_by json_cell
 no_diffs t d whole = by whole.is_null whole.spelled
   where
     by_form_of : (f : Form) (partial : Bool) (z : List ℕ) → partial ≡ false → (cell_by partial f).spells z (DiffsCell d) → ⊥
@@ -568,7 +574,9 @@ no_diffs t d whole = by whole.is_null whole.spelled
 
     by : (p : Bool) → (nullable_cell p [] t).spells whole.bytes (DiffsCell d) → ⊥
     by true s = cc (s.1)
-    by false s = by_form_of s.0 (is_partial [] t) s.2 (not_partial (is_json t.column_type) t.json_place) s.5
+    by false spelled =
+        let s = spelled_by_form t.column_type (unwrap_or t.metadata []) t.unsigned (is_partial [] t) whole.bytes (DiffsCell d) spelled in
+        by_form_of s.0 (is_partial [] t) s.2 (not_partial (is_json t.column_type) t.json_place) s.5
 
 plain_of_cell : (t : table.Column) (v : PlainValue) → IsWholeCellOf t (PlainCell v) → IsCellOf t v
 plain_of_cell t v cell = record { is_null = cell.is_null; partials = []; bytes = cell.bytes; are = cell.are; spelled = cell.spelled }

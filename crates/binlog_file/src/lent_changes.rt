@@ -40,7 +40,7 @@ pub struct LentChange<'a> {
 impl<'a> Model for LentChange<'a> {
     ghost use Rattle.std.specs.Prelude.{◌<◌, ◌+◌, ◌^◌, length};
     ghost use Rattle.std.specs.Arc.{arc_value};
-    ghost use Rattle.mysql_binlog_rows.specs.Rows.{Reads};
+    ghost use Rattle.mysql_binlog_rows.specs.Rows.{GivesPairsOf};
     ghost use Rattle.binlog_file.specs.LentChanges as Spec;
 
     ghost Value = { Spec.LentChange };
@@ -53,7 +53,7 @@ impl<'a> Model for LentChange<'a> {
       count = c.count;
     } };
 
-    ghost invariant = { λ c. Reads (arc_value c.table) c.rows c.pairs.plans
+    ghost invariant = { λ c. GivesPairsOf (arc_value c.table) c.rows c.pairs
         × (c.count + length c.pairs.left < 2 ^ 64) };
 }
 

@@ -5,7 +5,7 @@ ghost use Rattle.std.specs.Arc.{arc_value};
 ghost use Rattle.binlog_base.specs.declared.fault.Fault.TheVariants as Fault;
 ghost use Rattle.mysql_binlog_rows.specs.Images.{pair};
 ghost use Rattle.mysql_binlog_rows.specs.Cover.{Covers};
-ghost use Rattle.mysql_binlog_rows.specs.Rows.{Reads};
+ghost use Rattle.mysql_binlog_rows.specs.Rows.{GivesPairsOf};
 ghost use Rattle.binlog_kept.specs.StoredPlans as Spec;
 
 use crate::generations::{Found, Generations, Weighed};
@@ -185,7 +185,7 @@ impl RecentPlans {
     ) -> Result<RowsEventRows<'d>, Fault>
         requires place { place < self.old }
         requires data { rows_data.now ≡ rows.now.rows_data }
-        ensures reads { IfOk result (λ r. Reads (arc_value table.now) rows.now r.plans) }
+        ensures reads { IfOk result (λ r. GivesPairsOf (arc_value table.now) rows.now r) }
         ensures left { IfOk result (λ r. r.left ≡ rows.now.rows_data) }
         ensures err { IfErr result (λ e. e ≡ Fault.Memory) }
     {
@@ -297,7 +297,7 @@ impl KeptPlans {
         rows_data: &'d [u8],
     ) -> Result<Option<RowsEventRows<'d>>, Fault>
         requires data { rows_data.now ≡ rows.now.rows_data }
-        ensures reads { IfOk result (λ o. IfSome o (λ r. Reads table.now rows.now r.plans)) }
+        ensures reads { IfOk result (λ o. IfSome o (λ r. GivesPairsOf table.now rows.now r)) }
         ensures left { IfOk result (λ o. IfSome o (λ r. r.left ≡ rows.now.rows_data)) }
         ensures err { IfErr result (λ e. e ≡ Fault.Memory) }
         ensures most { self.new.stored.most ≡ self.old.stored.most }
@@ -324,7 +324,7 @@ impl KeptPlans {
         rows_data: &'d [u8],
     ) -> Result<RowsEventRows<'d>, Fault>
         requires data { rows_data.now ≡ rows.now.rows_data }
-        ensures reads { IfOk result (λ r. Reads (arc_value table.now) rows.now r.plans) }
+        ensures reads { IfOk result (λ r. GivesPairsOf (arc_value table.now) rows.now r) }
         ensures left { IfOk result (λ r. r.left ≡ rows.now.rows_data) }
         ensures err { IfErr result (λ e. e ≡ Fault.Memory) }
         ensures most { self.new.stored.most ≡ self.old.stored.most }

@@ -12,7 +12,8 @@ use Rattle.mysql_binlog_rows.specs.RowsEventWritten.{IsRowsEvent}
 use Rattle.mysql_binlog_rows.specs.Images.{has_options}
 use Rattle.mysql_binlog_rows.specs.Plans as Spec
 use Rattle.mysql_binlog_rows.specs.Plans.{Plan, Plans, planned_then, first_column, after_first, planned_from, unless_refused, plan_of, plans_by, plans_of, walked_in, walked_apart, same_columns, slot_count, planned_pair}
-use Rattle.mysql_binlog_rows.specs.Rows.{Made, Rows, Reads, IsOf, most_steps, made_by}
+use Rattle.mysql_binlog_rows.specs.Rows.{Made, Rows, IsOf, most_steps, made_by}
+use Rattle.mysql_binlog_rows.specs.Plans.{Reads}
 use Rattle.mysql_binlog_rows.specs.Kept.{Planned, Serves, plans_kept}
 use Rattle.mysql_binlog_rows.proofs.PlanReads.{plans_read, slots_least}
 

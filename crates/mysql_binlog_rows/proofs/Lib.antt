@@ -7,6 +7,7 @@ pub mod PlanReads
 pub mod AlikePlans
 pub mod Nexts
 pub mod Pairs
+pub mod Items
 pub mod Runs
 pub mod Equality
 pub mod NotPlain

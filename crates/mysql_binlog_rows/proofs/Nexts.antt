@@ -1,12 +1,13 @@
 -- What `next` gives where bytes are left, by what reading a pair from them gave.
-use Rattle.std.proofs.Common.{rules, arith, ◌≡◌, ◌≢◌, ◌<◌, ℕ, true, false, List, [], length, Option, Some, Result, Ok, Err, refl, ap}
+use Rattle.std.proofs.Common.{rules, arith, ◌≡◌, ◌≢◌, ◌<◌, ℕ, true, false, List, [], length, Option, Some, Result, Ok, Err, refl, sym, ap, subst}
 use Rattle.std.specs.Prelude.{◌==◌}
 use Rattle.binlog_base.specs.declared.fault.Fault.{Fault}
 use Rattle.binlog_base.specs.declared.fault.Fault.TheVariants.{Memory}
 use Rattle.binlog_table.specs.TableMap.{TableMap}
 use Rattle.mysql_binlog_rows.specs.RowsEvent.{RowsEvent}
 use Rattle.mysql_binlog_rows.specs.Images.{Pair, pair}
-use Rattle.mysql_binlog_rows.specs.Rows.{Rows, Reads, PairGives, NextGives}
+use Rattle.mysql_binlog_rows.specs.Rows.{Rows, PairGives, NextGives}
+use Rattle.mysql_binlog_rows.specs.Plans.{Plans, Reads}
 use Rattle.mysql_binlog_rows.specs.declared.rows_event.rows.Columns.{Columns}
 use Rattle.mysql_binlog_rows.specs.Columns.{plans_in, is_planned, steps_in, most_in, PlansKept}
 
@@ -34,6 +35,7 @@ pair_given old new x rest p some kept made shrinks gave = record {
   };
   shrinks = shrinks;
   item = λ t e reads. (some, gave t e reads);
+  stays = λ t e reads. subst (λ (p : Plans). Reads t e p) (sym kept.plans) reads;
 }
 
 abbrev failed : Fault → Option (Result Pair Fault)
@@ -50,4 +52,5 @@ fault_given old new x e some kept made gave = record {
   };
   shrinks = (some, refl);
   item = λ t v reads. (some, refl, gave t v reads);
+  stays = λ t v reads. subst (λ (p : Plans). Reads t v p) (sym kept.plans) reads;
 }

@@ -17,8 +17,10 @@ use Rattle.binlog_table.specs.TableColumns.{Column, column_at, column_then, colu
 use Rattle.binlog_table.specs.Lemmas.TableColumns.{no_column}
 use Rattle.mysql_binlog_rows.specs.RowsEvent.{RowsEvent, image_columns, has_before, has_after}
 use Rattle.mysql_binlog_rows.specs.RowsEventWritten.{IsRowsEvent}
-use Rattle.binlog_cells.specs.Cells.{Cell, cell}
-use Rattle.mysql_binlog_rows.specs.Images.{BinlogRow, row_column, row_of, is_json, nullable_cell, cells, options_of, image, maybe_image, has_options, pair}
+use Rattle.binlog_cells.specs.Cells.{Cell}
+use Rattle.binlog_cells.specs.Forms.{cell_by_form}
+use Rattle.binlog_cells.specs.Lemmas.Forms.{reads_by_form}
+use Rattle.mysql_binlog_rows.specs.Images.{BinlogRow, row_column, row_of, is_json, is_partial, nullable_cell, cells, options_of, image, maybe_image, has_options, pair}
 use Rattle.mysql_binlog_rows.specs.Plans.{Planned, slot_of, nothing_then, planned_then, first_column, after_first, planned_from, unless_refused, plan_of, plans_of, walked_in, slot_count, slot_cell, slot_cells, planned_image, planned_maybe, planned_pair}
 use Rattle.mysql_binlog_rows.specs.Rows.{IsDescribed, columns_in}
 use Rattle.mysql_binlog_rows.proofs.SamePlan.{after_least}
@@ -65,8 +67,8 @@ as_row read = read >>= λ r. Ok (row_of r.0, r.1)
 abbrev by_plan : List Bool → Planned → List Bool → List ℕ → RowRead
 by_plan bs k nulls x = with_columns k.columns ((slot_cells bs k.slots k.fault nulls).parse x)
 
-abbrev by_table : TableMap → List Bool → ℕ → List Bool → List Bool → List ℕ → RowRead
-by_table t bs i present nulls x = as_row ((cells t bs i present nulls).parse x)
+abbrev by_table : TableMap → List Bool → List Bool → ℕ → ℕ → List Bool → List ℕ → RowRead
+by_table t bs nulls i k present x = as_row ((cells t bs nulls i k present).parse x)
 
 -- a row with a column and its cell in front
 abbrev grow : ColumnView → Cell → RowRead → RowRead
@@ -92,49 +94,63 @@ partial_by true bs k = refl
 partial_by false bs k = refl
 
 same_cell : (is_null : Bool) (bs : List Bool) (c : Column) (x : List ℕ) → (slot_cell is_null bs (slot_of c)).parse x ≡ (nullable_cell is_null bs c).parse x
-unfolding slot_cell nullable_cell cell
-same_cell is_null bs c x = rw (partial_by (is_json c.column_type) bs c.json_place) refl
+unfolding slot_cell nullable_cell cell_by_form
+same_cell true bs c x = refl
+same_cell false bs c x =
+    rw (partial_by (is_json c.column_type) bs c.json_place)
+    (reads_by_form c.column_type (unwrap_or c.metadata []) c.unsigned (is_partial bs c) x)
 
-column_reads : (t : TableMap) (bs : List Bool) (i : ℕ) (c : Column) (present : Bool) (others : Planned) (ps nulls : List Bool) (x : List ℕ) → column_at t i ≡ Ok c
-    → ((ns : List Bool) (y : List ℕ) → by_plan bs others ns y ≡ by_table t bs (suc i) ps ns y)
-    → by_plan bs (planned_then t i (Ok c) present others) nulls x ≡ by_table t bs i (present ∷ ps) nulls x
+-- the null bits that are left after the first k
+first_left : (k : ℕ) (nulls : List Bool) → slice_index_or (drop k nulls) 0 false ≡ slice_index_or nulls k false
+first_left zero nulls = refl
+first_left (suc k) [] = refl
+first_left (suc k) (b ∷ nulls) = first_left k nulls
+
+one_less : (k : ℕ) (nulls : List Bool) → drop 1 (drop k nulls) ≡ drop (suc k) nulls
+one_less zero nulls = refl
+one_less (suc k) [] = refl
+one_less (suc k) (b ∷ nulls) = one_less k nulls
+
+column_reads : (t : TableMap) (bs nulls : List Bool) (i k : ℕ) (c : Column) (present : Bool) (others : Planned) (ps : List Bool) (x : List ℕ) → column_at t i ≡ Ok c
+    → ((j : ℕ) (y : List ℕ) → by_plan bs others (drop j nulls) y ≡ by_table t bs nulls (suc i) j ps y)
+    → by_plan bs (planned_then t i (Ok c) present others) (drop k nulls) x ≡ by_table t bs nulls i k (present ∷ ps) x
 unfolding slot_cells cells
-column_reads t bs i c true others ps nulls x is h =
-    rw (is, same_cell (slice_index_or nulls 0 false) bs c x)
-    (grow_both ((nullable_cell (slice_index_or nulls 0 false) bs c).parse x) (slot_cells bs others.slots others.fault (drop 1 nulls)).parse (cells t bs (suc i) ps (drop 1 nulls)).parse (row_column t i c) others.columns (h (drop 1 nulls)))
-column_reads t bs i c false others ps nulls x is h = rw is (h nulls x)
+column_reads t bs nulls i k c true others ps x is h =
+    rw (is, first_left k nulls, one_less k nulls, same_cell (slice_index_or nulls k false) bs c x)
+    (grow_both ((nullable_cell (slice_index_or nulls k false) bs c).parse x) (slot_cells bs others.slots others.fault (drop (suc k) nulls)).parse (cells t bs nulls (suc i) (suc k) ps).parse (row_column t i c) others.columns (h (suc k)))
+column_reads t bs nulls i k c false others ps x is h = rw is (h k x)
 
-fault_reads : (t : TableMap) (bs : List Bool) (i : ℕ) (e : Fault) (present : Bool) (others : Planned) (ps nulls : List Bool) (x : List ℕ) → column_at t i ≡ Err e
-    → by_plan bs (planned_then t i (Err e) present others) nulls x ≡ by_table t bs i (present ∷ ps) nulls x
+fault_reads : (t : TableMap) (bs nulls : List Bool) (i k : ℕ) (e : Fault) (present : Bool) (others : Planned) (ps : List Bool) (x : List ℕ) → column_at t i ≡ Err e
+    → by_plan bs (planned_then t i (Err e) present others) (drop k nulls) x ≡ by_table t bs nulls i k (present ∷ ps) x
 unfolding slot_cells cells
-fault_reads t bs i e present others ps nulls x is = rw is refl
+fault_reads t bs nulls i k e present others ps x is = rw is refl
 
-one_reads : (t : TableMap) (bs : List Bool) (i : ℕ) (r : Result Column Fault) (present : Bool) (others : Planned) (ps nulls : List Bool) (x : List ℕ) → column_at t i ≡ r
-    → ((c : Column) → r ≡ Ok c → (ns : List Bool) (y : List ℕ) → by_plan bs others ns y ≡ by_table t bs (suc i) ps ns y)
-    → by_plan bs (planned_then t i r present others) nulls x ≡ by_table t bs i (present ∷ ps) nulls x
-one_reads t bs i (Ok c) present others ps nulls x is h = column_reads t bs i c present others ps nulls x is (h c refl)
-one_reads t bs i (Err e) present others ps nulls x is h = fault_reads t bs i e present others ps nulls x is
+one_reads : (t : TableMap) (bs nulls : List Bool) (i k : ℕ) (r : Result Column Fault) (present : Bool) (others : Planned) (ps : List Bool) (x : List ℕ) → column_at t i ≡ r
+    → ((c : Column) → r ≡ Ok c → (j : ℕ) (y : List ℕ) → by_plan bs others (drop j nulls) y ≡ by_table t bs nulls (suc i) j ps y)
+    → by_plan bs (planned_then t i r present others) (drop k nulls) x ≡ by_table t bs nulls i k (present ∷ ps) x
+one_reads t bs nulls i k (Ok c) present others ps x is h = column_reads t bs nulls i k c present others ps x is (h c refl)
+one_reads t bs nulls i k (Err e) present others ps x is h = fault_reads t bs nulls i k e present others ps x is
 
-none_reads : (t : TableMap) (bs : List Bool) (i : ℕ) (nulls : List Bool) (x : List ℕ) → by_plan bs (nothing_then None) nulls x ≡ by_table t bs i [] nulls x
+none_reads : (t : TableMap) (bs nulls : List Bool) (i k : ℕ) (x : List ℕ) → by_plan bs (nothing_then None) (drop k nulls) x ≡ by_table t bs nulls i k [] x
 unfolding slot_cells cells
-none_reads t bs i nulls x = refl
+none_reads t bs nulls i k x = refl
 
 -- the walk after a column, if there is one
-rest_reads : (t : TableMap) (bs : List Bool) (i n : ℕ) (f : ℕ → Result Column Fault) (ps : List Bool) → i + n ≡ length t.types → ((j : ℕ) → f j ≡ column_at t (i + j))
-    → ((m : ℕ) (g : ℕ → Result Column Fault) → suc i + m ≡ length t.types → ((j : ℕ) → g j ≡ column_at t (suc i + j)) → (ns : List Bool) (y : List ℕ) → by_plan bs (planned_from t (suc i) (columns_by g m) ps) ns y ≡ by_table t bs (suc i) ps ns y)
-    → (c : Column) → first_column (columns_by f n) ≡ Ok c → (ns : List Bool) (y : List ℕ) → by_plan bs (planned_from t (suc i) (after_first (columns_by f n)) ps) ns y ≡ by_table t bs (suc i) ps ns y
-rest_reads t bs i zero f ps whole each h c is ns y = absurd cc
-rest_reads t bs i (suc n) f ps whole each h c is ns y =
+rest_reads : (t : TableMap) (bs nulls : List Bool) (i n : ℕ) (f : ℕ → Result Column Fault) (ps : List Bool) → i + n ≡ length t.types → ((j : ℕ) → f j ≡ column_at t (i + j))
+    → ((m : ℕ) (g : ℕ → Result Column Fault) → suc i + m ≡ length t.types → ((j : ℕ) → g j ≡ column_at t (suc i + j)) → (k : ℕ) (y : List ℕ) → by_plan bs (planned_from t (suc i) (columns_by g m) ps) (drop k nulls) y ≡ by_table t bs nulls (suc i) k ps y)
+    → (c : Column) → first_column (columns_by f n) ≡ Ok c → (k : ℕ) (y : List ℕ) → by_plan bs (planned_from t (suc i) (after_first (columns_by f n)) ps) (drop k nulls) y ≡ by_table t bs nulls (suc i) k ps y
+rest_reads t bs nulls i zero f ps whole each h c is k y = absurd cc
+rest_reads t bs nulls i (suc n) f ps whole each h c is k y =
     let here : f 0 ≡ Ok c = sym (by_first (f 0) (columns_by (λ j. f (suc j)) n)) ∙ is in
-    ap (λ (walk : List (Result Column Fault)). by_plan bs (planned_from t (suc i) walk ps) ns y) (after_by f n c here)
-    ∙ h n (λ j. f (suc j)) (omega (arith, whole)) (each_later t i f each) ns y
+    ap (λ (walk : List (Result Column Fault)). by_plan bs (planned_from t (suc i) walk ps) (drop k nulls) y) (after_by f n c here)
+    ∙ h n (λ j. f (suc j)) (omega (arith, whole)) (each_later t i f each) k y
 
-cells_read : (t : TableMap) (bs ps : List Bool) (i n : ℕ) (f : ℕ → Result Column Fault) → i + n ≡ length t.types → ((j : ℕ) → f j ≡ column_at t (i + j))
-    → (nulls : List Bool) (x : List ℕ) → by_plan bs (planned_from t i (columns_by f n) ps) nulls x ≡ by_table t bs i ps nulls x
-cells_read t bs [] i n f whole each nulls x = none_reads t bs i nulls x
-cells_read t bs (p ∷ ps) i n f whole each nulls x =
-    one_reads t bs i (first_column (columns_by f n)) p (planned_from t (suc i) (after_first (columns_by f n)) ps) ps nulls x (sym (first_is t i n f whole each))
-    (rest_reads t bs i n f ps whole each (λ m g w e. cells_read t bs ps (suc i) m g w e))
+cells_read : (t : TableMap) (bs nulls ps : List Bool) (i n : ℕ) (f : ℕ → Result Column Fault) → i + n ≡ length t.types → ((j : ℕ) → f j ≡ column_at t (i + j))
+    → (k : ℕ) (x : List ℕ) → by_plan bs (planned_from t i (columns_by f n) ps) (drop k nulls) x ≡ by_table t bs nulls i k ps x
+cells_read t bs nulls [] i n f whole each k x = none_reads t bs nulls i k x
+cells_read t bs nulls (p ∷ ps) i n f whole each k x =
+    one_reads t bs nulls i k (first_column (columns_by f n)) p (planned_from t (suc i) (after_first (columns_by f n)) ps) ps x (sym (first_is t i n f whole each))
+    (rest_reads t bs nulls i n f ps whole each (λ m g w e. cells_read t bs nulls ps (suc i) m g w e))
 
 -- ---- images and pairs
 
@@ -146,9 +162,9 @@ from_zero t j = ap (column_at t) (omega arith)
 
 fields_read : (t : TableMap) (bs : List Bool) (fault : Option Fault) (ps nulls : List Bool) (x : List ℕ)
     → by_plan bs (unless_refused fault (planned_from t 0 (unless_faulty fault (columns_by (column_at t) (length t.types))) ps)) nulls x
-    ≡ checked (unless fault nulls) x >>= λ r. by_table t bs 0 ps r.0 r.1
+    ≡ checked (unless fault nulls) x >>= λ r. by_table t bs r.0 0 0 ps r.1
 unfolding slot_cells
-fields_read t bs None ps nulls x = cells_read t bs ps 0 (length t.types) (column_at t) (omega arith) (from_zero t) nulls x
+fields_read t bs None ps nulls x = cells_read t bs nulls ps 0 (length t.types) (column_at t) (omega arith) (from_zero t) 0 x
 fields_read t bs (Some e) ps nulls x = refl
 
 pub image_reads : (t : TableMap) (o : Bool) (ps : List Bool) (x : List ℕ) → (planned_image o (plan_of t ps)).parse x ≡ (image t o ps).parse x

@@ -1,5 +1,5 @@
 -- The images of rows in a rows event, and the pairs of images.
-use Rattle.std.specs.Prelude.{ℕ, suc, ◌+◌, ◌%◌, ◌==◌, ◌&&◌, Bool, true, false, List, [], ◌∷◌, ◌++◌, map, Option, Some, None, drop, slice_index_or, unwrap_or, codes}
+use Rattle.std.specs.Prelude.{ℕ, suc, ◌+◌, ◌%◌, ◌==◌, ◌&&◌, Bool, true, false, List, [], ◌∷◌, ◌++◌, map, Option, Some, None, slice_index_or, unwrap_or, codes}
 use Rattle.std.specs.Fmt.{decimal}
 use Rattle.binlog_base.specs.declared.bits.BitOrder.TheVariants.{LeastSignificantFirst}
 use Rattle.binlog_base.specs.declared.below.columns.column_type.ColumnType.{ColumnType}
@@ -63,14 +63,15 @@ nullable_cell is_null partials c = choice is_null (no_bytes (PlainCell Null)) (c
 
 -- The columns of the event from index i on, with a bit for each that says whether it is in the
 -- image. Each has a type, a character set, a name and a key flag without a fault; and then its cell
--- if it is in the image. `nulls` has one bit for each cell still to come.
-unfoldable pub cells : TableMap → List Bool → ℕ → List Bool → List Bool → Format (List (ColumnView × Cell))
-cells t partials i [] nulls = no_bytes []
-cells t partials i (present ∷ others) nulls =
+-- if it is in the image. `nulls` are the null bits of the image, and `before` is how many columns
+-- before these are in the image: the next one that is has the null bit of this index.
+unfoldable pub cells : TableMap → List Bool → List Bool → ℕ → ℕ → List Bool → Format (List (ColumnView × Cell))
+cells t partials nulls i before [] = no_bytes []
+cells t partials nulls i before (present ∷ others) =
     sequence (check (column_at t i)) (λ column.
     choice present
-    (sequence (nullable_cell (slice_index_or nulls 0 false) partials column) (λ value. map_value (cells t partials (suc i) others (drop 1 nulls)) (λ more. (row_column t i column, value) ∷ more)))
-    (cells t partials (suc i) others nulls))
+    (sequence (nullable_cell (slice_index_or nulls before false) partials column) (λ value. map_value (cells t partials nulls (suc i) (suc before) others) (λ more. (row_column t i column, value) ∷ more)))
+    (cells t partials nulls (suc i) before others))
 
 -- The options of an image: a length-encoded number; and if its lowest bit is set, which is
 -- PARTIAL_JSON_UPDATES, one partial bit for each of `json_columns` JSON columns.
@@ -89,7 +90,7 @@ image t has_options present =
     sequence (options_of t has_options) (λ partials.
     sequence (bit_list LeastSignificantFirst (count_set present)) (λ nulls.
     sequence (check (unless (field_fault t) nulls)) (λ nulls.
-    map_value (cells t partials 0 present nulls) row_of)))
+    map_value (cells t partials nulls 0 0 present) row_of)))
 
 -- ---- pairs
 

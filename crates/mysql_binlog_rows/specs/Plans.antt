@@ -1,5 +1,5 @@
 -- What an iterator over pairs keeps of a table map event, and how it reads images by that.
-use Rattle.std.specs.Prelude.{ℕ, suc, Bool, true, false, List, [], ◌∷◌, drop, slice_index_or, unwrap_or, Option, Some, None, Result, Ok, Err, ◌+◌, if◌then◌else◌}
+use Rattle.std.specs.Prelude.{◌≡◌, ℕ, suc, Bool, true, false, List, [], ◌∷◌, drop, slice_index_or, unwrap_or, Option, Some, None, Result, Ok, Err, ◌+◌, if◌then◌else◌}
 use Rattle.std.specs.Bool.{beq}
 use Rattle.std.specs.Cmp.Lexicographic.{pointwise}
 use Rattle.std.specs.Option.{option_map}
@@ -16,8 +16,9 @@ use Rattle.binlog_table.specs.Extracted.{field_fault}
 use Rattle.binlog_table.specs.TableColumns.{Column, table_columns}
 use Rattle.binlog_cells.specs.declared.value.form.Form.{Form}
 use Rattle.mysql_binlog_rows.specs.RowsEvent.{RowsEvent, image_columns}
-use Rattle.binlog_cells.specs.Cells.{Cell, PlainCell, form_of, cell_by}
-use Rattle.mysql_binlog_rows.specs.Images.{BinlogRow, Pair, default_name, row_flags, row_column, is_json, partial_bits, has_options}
+use Rattle.binlog_cells.specs.Cells.{Cell, PlainCell}
+use Rattle.binlog_cells.specs.Forms.{form_of, cell_by}
+use Rattle.mysql_binlog_rows.specs.Images.{BinlogRow, Pair, default_name, row_flags, row_column, is_json, partial_bits, has_options, pair}
 
 -- ---- what is kept
 
@@ -174,3 +175,7 @@ planned_maybe options (Some p) = map_value (planned_image options p) Some
 -- a pair of images, read by the plans
 unfoldable pub planned_pair : Plans → Format Pair
 planned_pair p = sequence (planned_maybe false p.before) (λ before. map_value (planned_maybe p.has_options p.after) (λ after. (before, after)))
+
+-- by these plans, pairs of these events are read
+abbrev pub Reads : TableMap → RowsEvent → Plans → Type 0
+Reads t e plans = (x : List ℕ) → (planned_pair plans).parse x ≡ (pair t e).parse x

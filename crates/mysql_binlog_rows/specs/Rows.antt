@@ -1,5 +1,5 @@
 -- The iterator over the pairs of a rows event, and what a call of its `next` returns.
-use Rattle.std.specs.Prelude.{◌≡◌, ◌≢◌, ℕ, ◌<◌, ◌≤◌, ◌+◌, ◌*◌, Bool, true, false, List, [], ◌++◌, length, Option, Some, None, Result, Ok, Err}
+use Rattle.std.specs.Prelude.{◌≡◌, ◌≢◌, ℕ, ◌<◌, ◌≤◌, ◌+◌, ◌*◌, Bool, true, false, List, [], ◌∷◌, ◌++◌, length, Option, Some, None, Result, Ok, Err}
 use denote.Ref.{Bor}
 use Rattle.binlog_base.specs.declared.fault.Fault.{Fault}
 use Rattle.binlog_base.specs.declared.fault.Fault.TheVariants.{Memory}
@@ -9,7 +9,7 @@ use Rattle.binlog_table.specs.Extracted.{field_fault}
 use Rattle.binlog_table.specs.TableColumns.{Column, column_at}
 use Rattle.mysql_binlog_rows.specs.RowsEvent.{RowsEvent}
 use Rattle.mysql_binlog_rows.specs.Images.{Pair, pair}
-use Rattle.mysql_binlog_rows.specs.Plans.{Plans, plans_of, planned_pair, slot_count}
+use Rattle.mysql_binlog_rows.specs.Plans.{Plans, Reads, plans_of, slot_count}
 use Rattle.mysql_binlog_rows.specs.Cover.{IsPair, NoPair, RestFault}
 
 -- The state of the iterator: how pairs are read, and the bytes that are left; whether the plans are
@@ -63,15 +63,16 @@ pub record IsDescribed (t : TableMap) (n : ℕ) : Type 0 where
   pub fields : field_fault t ≡ None
   pub columns : (i : ℕ) → i < n → (c : Column) × (column_at t i ≡ Ok c)
 
--- by these plans, pairs of these events are read
-abbrev pub Reads : TableMap → RowsEvent → Plans → Type 0
-Reads t e plans = (x : List ℕ) → (planned_pair plans).parse x ≡ (pair t e).parse x
+-- This is an iterator over the pairs of these two events. How it reads them stands in Plans, which a
+-- caller needn't look at: what holds before a call of `next` holds after it (NextGives).
+abbrev pub GivesPairsOf : TableMap → RowsEvent → Rows → Type 0
+GivesPairsOf t e r = Reads t e r.plans
 
--- This is an iterator over the pairs of these two events. It makes at most two steps for each
--- column of the event and for each byte of the optional metadata, and at least one for each column
--- if no column has a fault.
+-- The same, of an iterator whose plans are made for these two events. It makes at most two steps for
+-- each column of the event and for each byte of the optional metadata, and at least one for each
+-- column if no column has a fault.
 pub record IsOf (t : TableMap) (e : RowsEvent) (r : Rows) : Type 0 where
-  pub reads : Reads t e r.plans
+  pub reads : GivesPairsOf t e r
   pub most : r.most_steps ≤ most_steps t e
   pub least : IsDescribed t e.num_columns → e.num_columns ≤ slot_count r.plans
 
@@ -108,10 +109,18 @@ pub record PlansOnce (s : Rows) (r : Option (Result Pair Fault)) (t : Rows) : Ty
   pub made : s.left ≢ [] → r ≢ Some (Err Memory) → t.is_planned ≡ true
   pub most : t.most_steps ≤ s.most_steps
 
--- What a call of `next` does: r is its result, and s and t are the states before and after it. For
--- all events whose pairs the plans read, the item is the pair at the start of the bytes, or the
--- fault there; none where no bytes are left.
+-- What a call of `next` does: r is its result, and s and t are the states before and after it. Of an
+-- iterator over the pairs of two events the item is the pair at the start of the bytes, or the fault
+-- there; none where no bytes are left. It is an iterator over their pairs after the call too.
 pub record NextGives (s : Rows) (r : Option (Result Pair Fault)) (t : Rows) : Type 0 where
   pub plans : PlansOnce s r t
   pub shrinks : Shrinks s.left r t.left
-  pub item : (table : TableMap) (event : RowsEvent) → Reads table event s.plans → ItemGives (pair table event) s.left r t.left
+  pub item : (table : TableMap) (event : RowsEvent) → GivesPairsOf table event s → ItemGives (pair table event) s.left r t.left
+  pub stays : (table : TableMap) (event : RowsEvent) → GivesPairsOf table event s → GivesPairsOf table event t
+
+-- the items of calls of `next`, one after the other from this state on: these pairs, and then this
+-- fault, or none and no bytes
+abbrev pub AreItems : Rows → List Pair → Option Fault → Type 0
+AreItems s [] None = (t : Rows) × NextGives s None t
+AreItems s [] (Some e) = (t : Rows) × NextGives s (Some (Err e)) t
+AreItems s (p ∷ ps) end = (t : Rows) × NextGives s (Some (Ok p)) t × AreItems t ps end

@@ -1,7 +1,7 @@
 //! Proved facts about pairs of rows and about cells, each written as the contract of a function
 //! that does nothing.
 
-ghost use Rattle.mysql_binlog_rows.specs.Laws.{OneListOfPairs, NoProperPrefix, OneCover};
+ghost use Rattle.mysql_binlog_rows.specs.Laws.{OneListOfPairs, NoProperPrefix, OneCover, ItemsAreTheCover};
 ghost use Rattle.binlog_cells.specs.OldTimes.{OldTimesHaveSigns};
 ghost use Rattle.mysql_binlog_rows.specs.RowsEventWritten.{WrittenEventsSpellThemselves, ReadEventsKeepExtraData, WrittenEventsReadBack};
 
@@ -14,6 +14,13 @@ pub fn pairs_are_unambiguous()
     ensures one_list { OneListOfPairs }
     ensures no_proper_prefix { NoProperPrefix }
     ensures one_cover { OneCover }
+{}
+
+/// States that the items of an iterator over the pairs of two events, one call of `next` or of
+/// `next_lent` after the other, are the pairs that cover the bytes that are left, up to the first
+/// place where no pair stands, and the one fault there, unless memory was refused.
+pub fn items_are_the_cover()
+    ensures { ItemsAreTheCover }
 {}
 
 /// States that a TIME of the format before fractional seconds is read without a sign. With the sign

@@ -7,7 +7,7 @@ ghost use Rattle.binlog_table.specs.TableMap.{TableMap};
 ghost use Rattle.mysql_binlog_rows.specs.RowsEvent.{RowsEvent as Event};
 ghost use Rattle.mysql_binlog_rows.specs.Images.{Pair, pair};
 ghost use Rattle.mysql_binlog_rows.specs.Cover.{Covers};
-ghost use Rattle.mysql_binlog_rows.specs.Rows.{Reads};
+ghost use Rattle.mysql_binlog_rows.specs.Rows.{GivesPairsOf};
 ghost use Rattle.mysql_binlog_rows.specs.Decodes.{Input, input, Decodes};
 ghost use Rattle.row_lines.specs.Lines.{lines_text};
 ghost use Rattle.rows.specs.Words.{AreArguments};
@@ -88,7 +88,7 @@ fn print_fault<O: Write>(out: &mut O, fault: Fault) -> io::Result<()> {
 // Returns the lines of the pairs of rows that an iterator gives, up to its first fault. The error is
 // `Memory`.
 fn lines_of(alloc: Global, rows: RowsEventRows<'_>) -> Result<Lines, Fault>
-    ensures { (t : TableMap) (e : Event) → Reads t e rows.entry.plans
+    ensures { (t : TableMap) (e : Event) → GivesPairsOf t e rows.entry
         → IfOk result (λ l. (pairs : List Pair) × Covers (pair t e) rows.entry.left pairs l.fault
         × (l.text.items ≡ lines_text pairs)) }
 {

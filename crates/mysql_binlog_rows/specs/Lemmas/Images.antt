@@ -1,5 +1,5 @@
 -- Reading images and pairs is exact: the bytes alone decide what is read or which fault comes.
-use Rattle.std.specs.Prelude.{ℕ, suc, ◌%◌, ◌==◌, Bool, false, List, [], ◌∷◌, drop, slice_index_or, unwrap_or, Option, Some, None, Err}
+use Rattle.std.specs.Prelude.{ℕ, suc, ◌%◌, ◌==◌, Bool, false, List, [], ◌∷◌, slice_index_or, unwrap_or, Option, Some, None, Err}
 use Rattle.std.proofs.Common.{◌≡◌, refl, subst}
 use Rattle.binlog_base.specs.declared.bits.BitOrder.TheVariants.{LeastSignificantFirst}
 use Rattle.binlog_base.specs.declared.fault.Fault.{Fault}
@@ -22,14 +22,14 @@ exact_nullable_cell : (is_null : Bool) (partials : List Bool) (c : Column) → I
 unfolding nullable_cell
 exact_nullable_cell is_null partials c = exact_choice is_null _ _ (exact_no_bytes _) (exact_cell c.column_type (unwrap_or c.metadata []) c.unsigned (is_partial partials c))
 
-exact_cells : (t : TableMap) (partials : List Bool) (i : ℕ) (present nulls : List Bool) → IsExact (cells t partials i present nulls)
+exact_cells : (t : TableMap) (partials nulls : List Bool) (i before : ℕ) (present : List Bool) → IsExact (cells t partials nulls i before present)
 unfolding cells
-exact_cells t partials i [] nulls = exact_no_bytes []
-exact_cells t partials i (present ∷ others) nulls =
+exact_cells t partials nulls i before [] = exact_no_bytes []
+exact_cells t partials nulls i before (present ∷ others) =
     exact_sequence _ _ (exact_check (column_at t i) (column_fault_of_bytes t i)) (λ column.
     exact_choice present _ _
-    (exact_sequence _ _ (exact_nullable_cell (slice_index_or nulls 0 false) partials column) (λ value. exact_map_value _ _ (exact_cells t partials (suc i) others (drop 1 nulls))))
-    (exact_cells t partials (suc i) others nulls))
+    (exact_sequence _ _ (exact_nullable_cell (slice_index_or nulls before false) partials column) (λ value. exact_map_value _ _ (exact_cells t partials nulls (suc i) (suc before) others)))
+    (exact_cells t partials nulls (suc i) before others))
 
 unless_of_bytes : {A : Type 0} (fault : Option Fault) (x : A) → ((e : Fault) → fault ≡ Some e → IsOfBytes e) → (e : Fault) → unless fault x ≡ Err e → IsOfBytes e
 unless_of_bytes None x h e is = absurd cc
@@ -46,7 +46,7 @@ exact_image t has_options present =
     exact_sequence _ _ (exact_choice has_options _ _ (exact_partial_bits (json_count t.types)) (exact_no_bytes [])) (λ partials.
     exact_sequence _ _ (exact_bit_list LeastSignificantFirst _) (λ nulls.
     exact_sequence _ _ (exact_check (unless (field_fault t) nulls) (unless_of_bytes (field_fault t) nulls (field_fault_of_bytes t))) (λ nulls.
-    exact_map_value _ _ (exact_cells t partials 0 present nulls))))
+    exact_map_value _ _ (exact_cells t partials nulls 0 0 present))))
 
 exact_maybe : (t : TableMap) (has_options : Bool) (present : Option (List Bool)) → IsExact (maybe_image t has_options present)
 exact_maybe t has_options None = exact_no_bytes None

@@ -473,7 +473,7 @@ fn add_json(
 
 // Adds NULL if the null bit is set, and reads the cell and adds it otherwise. There is room for it.
 #[inline(always)]
-#[tactic(auto, unfolding(crate::specs::Plans::slot_cell, binlog_cells::specs::Cells::cell_by, binlog_cells::specs::Cells::one_more))]
+#[tactic(auto, unfolding(crate::specs::Plans::slot_cell, binlog_cells::specs::Forms::cell_by, binlog_cells::specs::Cells::one_more))]
 fn add_nullable_cell(
     alloc: Global,
     slot: &Slot,
@@ -532,7 +532,7 @@ fn read_lent_cells<'b>(
 // Puts NULL at the end of the cells if the null bit is set, and reads the cell otherwise. There is
 // room for it.
 #[inline(always)]
-#[tactic(auto, unfolding(crate::specs::Plans::slot_cell, binlog_cells::specs::Cells::cell_by, binlog_cells::specs::Cells::one_more))]
+#[tactic(auto, unfolding(crate::specs::Plans::slot_cell, binlog_cells::specs::Forms::cell_by, binlog_cells::specs::Cells::one_more))]
 fn put_lent_cell<'b>(
     slot: &Slot,
     partials: &BitView<'_>,

@@ -8,7 +8,8 @@ ghost use Rattle.binlog_base.specs.declared.fault.Fault.TheVariants as Fault;
 ghost use Rattle.binlog_table.specs.TableMap.{TableMap};
 ghost use Rattle.mysql_binlog_rows.specs.RowsEvent.{RowsEvent as Event, bitmap_length};
 ghost use Rattle.mysql_binlog_rows.specs.RowsEventWritten.{IsRowsEvent};
-ghost use Rattle.mysql_binlog_rows.specs.Rows.{Reads, IsOf, plans_of_events};
+ghost use Rattle.mysql_binlog_rows.specs.Rows.{plans_of_events};
+ghost use Rattle.mysql_binlog_rows.specs.Plans.{Reads};
 ghost use Rattle.mysql_binlog_rows.specs.Kept.{Serves, KeptServes, kept_bytes, told_bytes};
 ghost use Rattle.mysql_binlog_rows.specs.Memory.{in_usize};
 
@@ -251,7 +252,7 @@ impl Default for KeptPlan {
 }
 
 impl<'a> RowsEvent<'a> {
-    ghost use Rattle.mysql_binlog_rows.specs.Rows.{IsOf, Reads};
+    ghost use Rattle.mysql_binlog_rows.specs.Rows.{IsOf, GivesPairsOf};
 
     // Returns an iterator over the pairs of rows, as `lent_rows_by` does. `shared` is the same table
     // map event as `table`, if the caller shares it.
@@ -265,7 +266,7 @@ impl<'a> RowsEvent<'a> {
     ) -> Result<RowsEventRows<'d>, Fault>
         requires data { rows_data.now ≡ self.now.rows_data }
         requires shared { IfSome shared (λ t. arc_value t.now ≡ table.now) }
-        ensures reads { IfOk result (λ r. Reads table.now self.now r.plans) }
+        ensures reads { IfOk result (λ r. GivesPairsOf table.now self.now r) }
         ensures left { IfOk result (λ r. r.left ≡ self.now.rows_data) }
         ensures planned { IfOk result (λ r. r.is_planned ≡ true) }
         ensures again { KeptServes kept.old table.now self.now → IfOk result (λ r. r.steps ≡ 0) }
@@ -303,7 +304,7 @@ impl<'a> RowsEvent<'a> {
         table: &TableMapEvent<'_>,
         kept: &mut KeptPlan,
     ) -> Result<RowsEventRows<'b>, Fault>
-        ensures reads { IfOk result (λ r. Reads table.now self.now r.plans) }
+        ensures reads { IfOk result (λ r. GivesPairsOf table.now self.now r) }
         ensures left { IfOk result (λ r. r.left ≡ self.now.rows_data) }
         ensures planned { IfOk result (λ r. r.is_planned ≡ true) }
         ensures again { KeptServes kept.old table.now self.now → IfOk result (λ r. r.steps ≡ 0) }
@@ -323,7 +324,7 @@ impl<'a> RowsEvent<'a> {
         table: &Arc<TableMapEvent<'static>>,
         kept: &mut KeptPlan,
     ) -> Result<RowsEventRows<'b>, Fault>
-        ensures reads { IfOk result (λ r. Reads (arc_value table.now) self.now r.plans) }
+        ensures reads { IfOk result (λ r. GivesPairsOf (arc_value table.now) self.now r) }
         ensures left { IfOk result (λ r. r.left ≡ self.now.rows_data) }
         ensures planned { IfOk result (λ r. r.is_planned ≡ true) }
         ensures again { KeptServes kept.old (arc_value table.now) self.now
@@ -344,7 +345,7 @@ impl<'a> RowsEvent<'a> {
         table: &TableMapEvent<'_>,
         kept: &KeptPlan,
     ) -> Result<Option<RowsEventRows<'b>>, Fault>
-        ensures reads { IfOk result (λ o. IfSome o (λ r. Reads table.now self.now r.plans)) }
+        ensures reads { IfOk result (λ o. IfSome o (λ r. GivesPairsOf table.now self.now r)) }
         ensures left { IfOk result (λ o. IfSome o (λ r. r.left ≡ self.now.rows_data)) }
         ensures planned { IfOk result (λ o. IfSome o (λ r. r.is_planned ≡ true)) }
         ensures again { IfOk result (λ o. IfSome o (λ r. r.steps ≡ 0)) }
@@ -365,7 +366,7 @@ impl<'a> RowsEvent<'a> {
         kept: &mut KeptPlan,
     ) -> Result<RowsEventRows<'d>, Fault>
         requires { rows_data.now ≡ self.now.rows_data }
-        ensures reads { IfOk result (λ r. Reads table.now self.now r.plans) }
+        ensures reads { IfOk result (λ r. GivesPairsOf table.now self.now r) }
         ensures left { IfOk result (λ r. r.left ≡ self.now.rows_data) }
         ensures planned { IfOk result (λ r. r.is_planned ≡ true) }
         ensures again { KeptServes kept.old table.now self.now → IfOk result (λ r. r.steps ≡ 0) }
@@ -388,7 +389,7 @@ impl<'a> RowsEvent<'a> {
         kept: &mut KeptPlan,
     ) -> Result<RowsEventRows<'d>, Fault>
         requires { rows_data.now ≡ self.now.rows_data }
-        ensures reads { IfOk result (λ r. Reads (arc_value table.now) self.now r.plans) }
+        ensures reads { IfOk result (λ r. GivesPairsOf (arc_value table.now) self.now r) }
         ensures left { IfOk result (λ r. r.left ≡ self.now.rows_data) }
         ensures planned { IfOk result (λ r. r.is_planned ≡ true) }
         ensures again { KeptServes kept.old (arc_value table.now) self.now
@@ -411,7 +412,7 @@ impl<'a> RowsEvent<'a> {
         kept: &KeptPlan,
     ) -> Result<Option<RowsEventRows<'d>>, Fault>
         requires { rows_data.now ≡ self.now.rows_data }
-        ensures reads { IfOk result (λ o. IfSome o (λ r. Reads table.now self.now r.plans)) }
+        ensures reads { IfOk result (λ o. IfSome o (λ r. GivesPairsOf table.now self.now r)) }
         ensures left { IfOk result (λ o. IfSome o (λ r. r.left ≡ self.now.rows_data)) }
         ensures planned { IfOk result (λ o. IfSome o (λ r. r.is_planned ≡ true)) }
         ensures again { IfOk result (λ o. IfSome o (λ r. r.steps ≡ 0)) }

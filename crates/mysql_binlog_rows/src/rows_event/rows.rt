@@ -10,7 +10,8 @@ ghost use Rattle.mysql_binlog_rows.specs.Images.{has_options, pair};
 ghost use Rattle.mysql_binlog_rows.specs.Plans.{plan_of, walked_in, walked_apart, slot_count, same_columns, planned_maybe, planned_pair};
 ghost use Rattle.mysql_binlog_rows.specs.After.{after_in, is_same, walked_after};
 ghost use Rattle.mysql_binlog_rows.specs.Memory.{in_usize, maybe_bytes, plans_bytes};
-ghost use Rattle.mysql_binlog_rows.specs.Rows.{Reads, PairGives, at_rest, columns_in, plans_of_events, most_of_events};
+ghost use Rattle.mysql_binlog_rows.specs.Rows.{PairGives, at_rest, columns_in, plans_of_events, most_of_events};
+ghost use Rattle.mysql_binlog_rows.specs.Plans.{Reads};
 ghost use Rattle.mysql_binlog_rows.specs.Columns.{plans_in, is_planned, PlansKept};
 
 mod lent;

@@ -1,7 +1,8 @@
 use Rattle.std.proofs.Common.{sym, subst}
 use Rattle.mysql_binlog_rows.specs.declared.rows_event.rows.Columns.{Columns}
 use Rattle.mysql_binlog_rows.specs.Plans.{Plans}
-use Rattle.mysql_binlog_rows.specs.Rows.{Made, Reads}
+use Rattle.mysql_binlog_rows.specs.Rows.{Made}
+use Rattle.mysql_binlog_rows.specs.Plans.{Reads}
 use Rattle.mysql_binlog_rows.specs.Columns.{plans_in}
 use Rattle.mysql_binlog_rows.proofs.AlikePlans.{reads_made}
 use Rattle.mysql_binlog_rows.proofs.rows_event.rows.pair_from.Goals as goal

@@ -1,8 +1,8 @@
 -- A container that is read is among the bytes that it is read from, and its header among its own.
-use Rattle.std.proofs.Common.{◌≡◌, ℕ, ◌+◌, ◌<◌, ◌≤◌, Bool, true, false, ◌||◌, List, [], length, take, drop, Result, Ok, Err, refl, sym, ap, subst, ◌∙◌, inl, inr, ◌⊎◌, arith}
+use Rattle.std.proofs.Common.{◌≡◌, ℕ, ◌+◌, ◌<◌, ◌≤◌, Bool, true, false, ◌||◌, List, [], ◌++◌, length, take, drop, Result, Ok, Err, refl, sym, ap, subst, ◌∙◌, inl, inr, ◌⊎◌, arith}
 use Rattle.std.specs.Prelude.{nat_lt, if◌then◌else◌, slice_index, ⊤}
 use Rattle.std.proofs.lemmas.Bool.{ltb-false}
-use Rattle.std.proofs.lemmas.List.{length-append, length-drop}
+use Rattle.std.proofs.lemmas.List.{append_assoc, take-append-drop, length-append, length-take, length-drop}
 use Rattle.binlog_base.specs.declared.fault.Fault.{Fault}
 use Rattle.binlog_base.specs.declared.fault.Fault.TheVariants.{Jsonb}
 use Rattle.binlog_base.specs.declared.fault.JsonbError.TheVariants.{InvalidValueOffsetPointer}
@@ -18,14 +18,15 @@ use Rattle.binlog_values.specs.JsonbLayout.{number_at, offset_size, header_len, 
 use Rattle.binlog_values.specs.JsonbValues.{Frame, frame, container, Scalar, I16, U16, I32, U32, I64, U64, F64, Text, Opaque, scalar_of, a_scalar, literal_value, opaque_value, value, JsonbValue, scalar, nested, Typed, bytes_of, typed_at, element, element_at}
 use Rattle.binlog_values.specs.JsonbHeaders.{offset_of, IsWhole}
 use Rattle.binlog_values.specs.JsonbContainers.{IsScalar}
+use Rattle.binlog_values.specs.JsonbLaws.{AreAt}
 use Rattle.binlog_values.specs.Lemmas.JsonbValues.{exact_container}
 
 -- ---- what is read of each type
 
--- a container no longer than the bytes, whose header is among its own
+-- a container that the bytes begin with, whose header is among its own
 abbrev Fits : List ℕ → JsonbValue → Type 0
 Fits x (scalar s) = ⊤
-Fits x (nested c) = (length c.bytes ≤ length x) × IsWhole c
+Fits x (nested c) = (rest : List ℕ) × (x ≡ c.bytes ++ rest) × IsWhole c
 
 abbrev GivesScalars : Format JsonbValue → Type 0
 GivesScalars f = (x : List ℕ) (v : JsonbValue) (left : List ℕ) → f.parse x ≡ Ok (v, left) → IsScalar v
@@ -64,8 +65,7 @@ unfolding container
 container_fits a l x v left h =
     let m = mapped (container a l) nested x v left h in
     let s = (exact_container a l).sound x m.0 left m.1 in
-    let long : length x ≡ length s.0 + length left = ap length s.1 ∙ length-append s.0 left in
-    let whole : Fits x (nested (frame a l s.0)) = (omega (arith, long), subst (λ (c : Frame). header_len a l c.count ≤ length s.0) s.2.0 s.2.2) in
+    let whole : Fits x (nested (frame a l s.0)) = (left, s.1, subst (λ (c : Frame). header_len a l c.count ≤ length s.0) s.2.0 s.2.2) in
     subst (Fits x) m.2 (subst (λ (c : Frame). Fits x (nested c)) (sym s.2.0) whole)
 
 -- the types of containers
@@ -133,6 +133,7 @@ inlined_type l type.JSONB_TYPE_OPAQUE h = refl
 -- it begins after its entry, it is among its parent's bytes, and its header is among its own
 pub record IsInside (c : Frame) (i : ℕ) (d : Frame) : Type 0 where
   pub later : value_entry c.is_array c.is_large c.count i < offset_of c i
+  pub part : AreAt (offset_of c i) d.bytes c.bytes
   pub within : offset_of c i + length d.bytes ≤ length c.bytes
   pub whole : IsWhole d
 
@@ -166,7 +167,15 @@ inside_by c i d n t left e h =
           let low = ltb-false offset (at + 1 + width) tests.0 in
           let room = ltb-false (length c.bytes) offset tests.1 in
           let f = value_fits n there.bytes (nested d) left (subst (λ (u : Typed). (value u.type).parse u.bytes ≡ Ok (nested d, left)) (sym g.1) h) in
-          record { later = omega (arith, low); within = omega (arith, f.0, room, length-drop offset c.bytes); whole = f.1 }
+          let split : c.bytes ≡ take offset c.bytes ++ d.bytes ++ f.0 = sym (take-append-drop offset c.bytes) ∙ ap (λ (r : List ℕ). take offset c.bytes ++ r) f.1 ∙ sym (append_assoc (take offset c.bytes) d.bytes f.0) in
+          let before : length (take offset c.bytes) ≡ offset = omega (arith, length-take offset c.bytes, room) in
+          let long : length (drop offset c.bytes) ≡ length d.bytes + length f.0 = ap length f.1 ∙ length-append d.bytes f.0 in
+          record {
+            later = omega (arith, low);
+            part = (take offset c.bytes, f.0, split, before);
+            within = omega (arith, long, room, length-drop offset c.bytes);
+            whole = f.2;
+          }
     ]
 
 element_is : (c : Frame) (i : ℕ) (v : JsonbValue) → element_at c i ≡ Ok v → (t : Typed) × (left : List ℕ) × (typed_at c i ≡ Ok t) × ((value t.type).parse t.bytes ≡ Ok (v, left))

@@ -6,6 +6,8 @@ pub mod JsonbWalk
 pub mod JsonbFirstFault
 pub mod JsonbDenoting
 pub mod JsonbCounting
+pub mod JsonbParts
+pub mod JsonbNumbers
 pub mod JsonbScalars
 pub mod JsonbLimits
 pub mod JsonbOpaques

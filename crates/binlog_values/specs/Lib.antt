@@ -25,6 +25,7 @@ pub mod JsonbHeaders
 pub mod JsonbDoms
 pub mod JsonbOpaques
 pub mod JsonbParsed
+pub mod JsonbLaws
 pub mod JsonbVisits
 pub mod JsonbContainers
 pub mod JsonbStack

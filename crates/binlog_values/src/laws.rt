@@ -8,6 +8,7 @@ ghost use Rattle.binlog_values.specs.JsonbValues.{Frame, JsonbValue, nested, ele
 ghost use Rattle.binlog_values.specs.JsonbDocuments.{document_of, layer, weight};
 ghost use Rattle.binlog_values.specs.JsonbHeaders.{headers, AreDisjoint, IsWhole};
 ghost use Rattle.binlog_values.specs.JsonbParsed.{document};
+ghost use Rattle.binlog_values.specs.JsonbLaws.{ContainersAreInParents, ContainersAreShorter, ContainersAreInRoot, HeadersAreLong, ContainersAreWhole, InnerContainersAreWhole, NumbersAddUp, PositionsAreEntries, EntriesArePositions, PathsAreOne};
 
 pub use binlog_decimal::laws::{
     decimals_are_ordered_as_numbers, decimals_are_packed_in_range, equal_decimals_are_packed_alike,
@@ -34,4 +35,33 @@ pub fn documents_unfold()
 pub fn three_bytes_for_a_value()
     ensures { (c : Frame) → IsWhole c → AreDisjoint (headers 0 (document (nested c)))
         → 3 * weight (document (nested c)) ≤ length c.bytes }
+{}
+
+/// States that a container that an entry refers to is in the bytes of the entry's container: they
+/// are there one after the other, from the entry's offset on, and are fewer. So each container of a
+/// document, at any depth, is in the bytes of its root.
+pub fn containers_are_inside()
+    ensures parent { ContainersAreInParents }
+    ensures shorter { ContainersAreShorter }
+    ensures root { ContainersAreInRoot }
+{}
+
+/// States that the header of a container, small or large, has at least four bytes, and three more
+/// for each entry; and that a container that is read has its whole header, as has each container
+/// inside it.
+pub fn headers_are_long()
+    ensures long { HeadersAreLong }
+    ensures whole { ContainersAreWhole }
+    ensures inner { InnerContainersAreWhole }
+{}
+
+/// States what the numbers of positions are. The root has number 0. The number of any other
+/// position is its container's number, plus one, plus, for each entry before it in that container,
+/// one and that entry's weight. Each position but the root is that of an entry of a container, each
+/// entry has a position, and no two positions have the same path.
+pub fn numbers_add_up()
+    ensures number { NumbersAddUp }
+    ensures entry { PositionsAreEntries }
+    ensures position { EntriesArePositions }
+    ensures path { PathsAreOne }
 {}

@@ -24,7 +24,7 @@ use Rattle.binlog_values.specs.Lemmas.JsonbValues.{exact_container}
 -- ---- what is read of each type
 
 -- a container that the bytes begin with, whose header is among its own
-abbrev Fits : List ℕ → JsonbValue → Type 0
+abbrev pub Fits : List ℕ → JsonbValue → Type 0
 Fits x (scalar s) = ⊤
 Fits x (nested c) = (rest : List ℕ) × (x ≡ c.bytes ++ rest) × IsWhole c
 
@@ -94,7 +94,7 @@ value_is_scalar type.JSONB_TYPE_DOUBLE x v left e h = scalars (little_endian 8) 
 value_is_scalar type.JSONB_TYPE_STRING x v left e h = scalars varlen_string Text x v left h
 value_is_scalar type.JSONB_TYPE_OPAQUE x v left e h = opaques x v left h
 
-value_fits : (t : JsonbType) (x : List ℕ) (v : JsonbValue) (left : List ℕ) → (value t).parse x ≡ Ok (v, left) → Fits x v
+pub value_fits : (t : JsonbType) (x : List ℕ) (v : JsonbValue) (left : List ℕ) → (value t).parse x ≡ Ok (v, left) → Fits x v
 unfolding value
 value_fits type.JSONB_TYPE_SMALL_OBJECT x v left h = container_fits false false x v left h
 value_fits type.JSONB_TYPE_LARGE_OBJECT x v left h = container_fits false true x v left h

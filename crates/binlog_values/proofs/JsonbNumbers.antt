@@ -1,10 +1,13 @@
 -- The number of a position, by its container's.
-use Rattle.std.proofs.Common.{◌≡◌, ℕ, zero, suc, ◌+◌, ◌<◌, ◌≤◌, List, [], ◌∷◌, ◌++◌, length, Option, Some, None, Result, Ok, refl, sym, ap, ap₂, subst, ◌∙◌, inl, inr, ◌⊎◌, arith}
+use Rattle.std.proofs.Common.{◌≡◌, ℕ, zero, suc, ◌+◌, ◌<◌, ◌≤◌, List, [], ◌∷◌, ◌++◌, length, Option, Some, None, option_map, Result, Ok, refl, sym, ap, ap₂, subst, ◌∙◌, inl, inr, ◌⊎◌, arith}
 use Rattle.std.specs.Prelude.{slice_get}
+use Rattle.std.proofs.lemmas.Bool.{cases_lt, lt-ltb, le-ltb}
 use Rattle.std.proofs.lemmas.List.{append_assoc, append-nil, length-append}
 use Rattle.binlog_base.specs.declared.fault.Fault.{Fault}
-use Rattle.binlog_values.specs.JsonbDocuments.{Document, faulty, single, opened, Entries, no_entries, entry, weight, weights, Position, inside, inside_from, positions}
-use Rattle.binlog_values.specs.JsonbLaws.{IsPosition, entries_in, entry_in, weight_before, IsEntry, NumbersAddUp, PositionsAreEntries, EntriesArePositions, PathsAreOne}
+use Rattle.binlog_values.specs.JsonbDocuments.{Document, faulty, single, opened, Entries, no_entries, entry, weight, weights, Position, inside, inside_from, positions, entries, document_of, option_or, fault_at, first_fault}
+use Rattle.binlog_values.specs.JsonbValues.{Frame, element_at}
+use Rattle.binlog_values.specs.JsonbTrees.{entry_key}
+use Rattle.binlog_values.specs.JsonbLaws.{IsPosition, entries_in, entry_in, weight_before, IsEntry, NumbersAddUp, PositionsAreEntries, EntriesArePositions, PathsAreOne, EntriesAreElements, FaultsAreAtNumbers, FaultsAreFirst}
 use Rattle.binlog_values.proofs.JsonbFirstFault.{length-inside}
 
 -- ---- lists
@@ -227,3 +230,88 @@ positions_entries d n q h =
       | inl a ↦ (0, a.0, record { path = []; key = Ok []; value = d }, refl, (a.1, a.2 ∙ ap (λ (i : ℕ). i ∷ []) (omega arith)))
       | inr b ↦ (suc b.0, b.1, b.2, b.3, b.4)
     ]
+
+-- ---- entries and elements
+
+entry_below : (key : ℕ → Result (List ℕ) Fault) (value : ℕ → Document) (n j i : ℕ) → i < n → entry_in (entries key value n j) i ≡ Some (key (j + i), value (j + i))
+entry_below key value zero j i lt = absurd (omega arith)
+entry_below key value (suc n) j zero lt = ap (λ (k : ℕ). Some (key k, value k)) (omega arith)
+entry_below key value (suc n) j (suc i) lt =
+    entry_below key value n (suc j) i (omega arith) ∙ ap (λ (k : ℕ). Some (key k, value k)) (omega arith)
+
+entry_past : (key : ℕ → Result (List ℕ) Fault) (value : ℕ → Document) (n j i : ℕ) → n ≤ i → entry_in (entries key value n j) i ≡ None
+entry_past key value zero j i le = refl
+entry_past key value (suc n) j zero le = absurd (omega arith)
+entry_past key value (suc n) j (suc i) le = entry_past key value n (suc j) i (omega arith)
+
+pub entries_elements : EntriesAreElements
+entries_elements c i =
+    let value : ℕ → Document = λ k. document_of (element_at c k) in
+    elim (cases_lt i c.count) [
+      | inl lt ↦
+          let b = lt-ltb i c.count lt in
+          rw b (entry_below (entry_key c) value c.count 0 i lt ∙ ap (λ (k : ℕ). Some (entry_key c k, value k)) (omega arith))
+      | inr le ↦
+          let b = le-ltb i c.count le in
+          rw b (entry_past (entry_key c) value c.count 0 i le)
+    ]
+
+-- ---- the first fault
+
+-- no position before index k has a fault; the first has number n
+abbrev NoneBefore : ℕ → ℕ → ℕ → List Position → Type 0
+NoneBefore limit n k ps = (l : ℕ) (p : Position) → l < k → slice_get ps l ≡ Some p → fault_at limit (n + l) p ≡ None
+
+-- the position of number m has the fault, and none before it has one
+record IsFirst (limit n m : ℕ) (ps : List Position) (f : Fault) : Type 0 where
+  index : ℕ
+  position : Position
+  number : m ≡ n + index
+  there : slice_get ps index ≡ Some position
+  fault : fault_at limit m position ≡ Some f
+  before : NoneBefore limit n index ps
+
+none_more : (limit n k : ℕ) (p : Position) (ps : List Position) → fault_at limit n p ≡ None → NoneBefore limit (suc n) k ps → NoneBefore limit n (suc k) (p ∷ ps)
+none_more limit n k p ps e later zero q lt h =
+    subst (λ (x : Position). fault_at limit (n + 0) x ≡ None) (some_is p q h) (ap (λ (j : ℕ). fault_at limit j p) (omega arith) ∙ e)
+none_more limit n k p ps e later (suc l) q lt h = ap (λ (j : ℕ). fault_at limit j q) (omega arith) ∙ later l q (omega (arith, lt)) h
+
+first_split : (limit n m : ℕ) (p : Position) (ps : List Position) (f : Fault) (o : Option Fault) → fault_at limit n p ≡ o → option_or (option_map (λ g. (g, n)) o) (first_fault limit (suc n) ps) ≡ Some (f, m)
+    → (first_fault limit (suc n) ps ≡ Some (f, m) → IsFirst limit (suc n) m ps f) → IsFirst limit n m (p ∷ ps) f
+first_split limit n m p ps f (Some g) e h later =
+    let same = some_is (g, n) (f, m) h in
+    let number : n ≡ m = ap (λ (x : Fault × ℕ). x.1) same in
+    let fault : g ≡ f = ap (λ (x : Fault × ℕ). x.0) same in
+    record {
+      index = 0;
+      position = p;
+      number = omega arith;
+      there = refl;
+      fault = subst (λ (k : ℕ). fault_at limit k p ≡ Some f) number (e ∙ ap (λ (x : Fault). Some x) fault);
+      before = λ l q lt s. absurd (omega (arith, lt));
+    }
+first_split limit n m p ps f None e h later =
+    let r = later h in
+    record {
+      index = suc r.index;
+      position = r.position;
+      number = omega (arith, r.number);
+      there = r.there;
+      fault = r.fault;
+      before = none_more limit n r.index p ps e r.before;
+    }
+
+first_is : (limit n m : ℕ) (ps : List Position) (f : Fault) → first_fault limit n ps ≡ Some (f, m) → IsFirst limit n m ps f
+first_is limit n m [] f h = absurd cc
+first_is limit n m (p ∷ ps) f h = first_split limit n m p ps f (fault_at limit n p) refl h (first_is limit (suc n) m ps f)
+
+pub faults_at_numbers : FaultsAreAtNumbers
+faults_at_numbers limit n d f h =
+    let r = first_is limit 0 n (positions d) f h in
+    let number : r.index ≡ n = omega (arith, r.number) in
+    (r.position, at_number (positions d) r.index n r.position number r.there, r.fault)
+
+pub faults_first : FaultsAreFirst
+faults_first limit m n d f p h lt k =
+    let r = first_is limit 0 n (positions d) f h in
+    ap (λ (j : ℕ). fault_at limit j p) (omega arith) ∙ r.before m p (omega (arith, r.number, lt)) k

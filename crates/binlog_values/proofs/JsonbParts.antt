@@ -4,12 +4,14 @@ use Rattle.std.specs.Prelude.{slice_get}
 use Rattle.std.proofs.lemmas.List.{append_assoc, append-nil, length-append}
 use Rattle.binlog_base.specs.declared.fault.Fault.{Fault}
 use Rattle.binlog_values.specs.JsonbLayout.{header_len}
-use Rattle.binlog_values.specs.JsonbValues.{Frame, frame, container, JsonbValue, scalar, nested, element_at}
+use Rattle.binlog_values.specs.JsonbValues.{Frame, frame, container, JsonbValue, scalar, nested, value, typed_value, json, element_at}
 use Rattle.binlog_values.specs.JsonbTrees.{entry_key}
 use Rattle.binlog_values.specs.JsonbDocuments.{Document, faulty, single, opened, Entries, entry, no_entries, entries, unfold_to, size_of, document_of, Position, inside, inside_from, positions}
 use Rattle.binlog_values.specs.JsonbHeaders.{offset_of, header, IsWhole}
-use Rattle.binlog_values.specs.JsonbLaws.{AreAt, IsPartOf, IsPosition, ContainersAreInParents, ContainersAreShorter, ContainersAreInRoot, HeadersAreLong, ContainersAreWhole, InnerContainersAreWhole}
-use Rattle.binlog_values.proofs.JsonbInside.{element_inside}
+use Rattle.binlog_values.specs.JsonbLaws.{AreAt, IsPartOf, IsPosition, ContainersAreInParents, ContainersAreShorter, ContainersAreInRoots, RootsAreInDocuments, HeadersAreLong, ContainersAreWhole, RootsAreWhole, InnerContainersAreWhole}
+use Rattle.binlog_values.specs.declared.jsonb.types.JsonbType.{JsonbType}
+use Rattle.binlog_values.specs.Lemmas.JsonbValues.{exact_value}
+use Rattle.binlog_values.proofs.JsonbInside.{Fits, value_fits, element_inside}
 
 -- ---- an entry's container
 
@@ -109,7 +111,7 @@ inner : (root : Frame) → EachHas (HasPlace root.bytes) (inside [] (document_of
 unfolding document_of
 inner root = inside-has root.bytes (suc (size_of (Ok (nested root)))) (Ok (nested root)) [] (λ c e. subst (λ (x : Frame). IsPartOf x.bytes root.bytes) (same_container root c e) (part_itself root.bytes))
 
-pub in_root : ContainersAreInRoot
+pub in_root : ContainersAreInRoots
 unfolding EachHas HasPlace
 in_root root d es zero p h e =
     let is : document_of (Ok (nested root)) ≡ opened d es = ap (λ (q : Position). q.value) (some_is _ p h) ∙ e in
@@ -122,6 +124,38 @@ inner_whole root d es zero p whole h e =
     let is : document_of (Ok (nested root)) ≡ opened d es = ap (λ (q : Position). q.value) (some_is _ p h) ∙ e in
     subst IsWhole (root_is root d es is) whole
 inner_whole root d es (suc n) p whole h e = (inner root n p h d es e).1
+
+-- ---- the root
+
+spelled_fits : (t : JsonbType) (x : List ℕ) (v : JsonbValue) → (value t).spells x v → Fits x v
+spelled_fits t x v h =
+    subst (λ (y : List ℕ). Fits y v) (append-nil x) (value_fits t (x ++ []) v [] ((exact_value t).complete x [] v h))
+
+root_found : (bytes : List ℕ) (root : Frame) → json.spells bytes (nested root) → IsPartOf root.bytes bytes × IsWhole root
+unfolding json typed_value
+root_found bytes root h =
+    elim h [
+      | inl none ↦ absurd cc
+      | inr some ↦
+          let n = some.1 in
+          let t = n.5 in
+          let v = t.5 in
+          let is : nested root ≡ v.0 = v.5.5.1 in
+          let f : Fits v.1 (nested root) = subst (Fits v.1) (sym is) (spelled_fits t.0 v.1 v.0 v.4) in
+          let b = n.1 ++ t.1 in
+          let a = f.0 ++ v.2 in
+          let parts : n.1 ++ (t.1 ++ (root.bytes ++ f.0 ++ v.2)) ≡ b ++ root.bytes ++ a = simp append_assoc in
+          let value : v.1 ++ v.2 ≡ root.bytes ++ f.0 ++ v.2 = ap (λ (r : List ℕ). r ++ v.2) f.1 in
+          let typed : t.1 ++ t.2 ≡ t.1 ++ (root.bytes ++ f.0 ++ v.2) = ap (λ (r : List ℕ). t.1 ++ r) (v.3 ∙ value) in
+          let whole : bytes ≡ n.1 ++ (t.1 ++ (root.bytes ++ f.0 ++ v.2)) = n.3 ∙ ap (λ (r : List ℕ). n.1 ++ r) (t.3 ∙ typed) in
+          ((length b, (b, a, whole ∙ parts, refl)), f.2)
+    ]
+
+pub root_inside : RootsAreInDocuments
+root_inside bytes root h = (root_found bytes root h).0
+
+pub root_whole : RootsAreWhole
+root_whole bytes root h = (root_found bytes root h).1
 
 -- ---- headers
 

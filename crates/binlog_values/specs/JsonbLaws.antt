@@ -1,9 +1,10 @@
--- What the laws of binary JSON say, beyond its definitions: where the bytes of a container are, how
--- long its header is, and what the number of a position is.
-use Rattle.std.specs.Prelude.{◌≡◌, ℕ, zero, suc, ◌+◌, ◌*◌, ◌<◌, ◌≤◌, Bool, List, [], ◌∷◌, ◌++◌, length, slice_get, Option, Some, None, Result, Ok}
+-- What the laws of binary JSON say: where the bytes of a container are, how long its header is, and
+-- what the number of a position is.
+use Rattle.std.specs.Prelude.{◌≡◌, ℕ, zero, suc, ◌+◌, ◌*◌, ◌<◌, ◌≤◌, nat_lt, if◌then◌else◌, Bool, List, [], ◌∷◌, ◌++◌, length, slice_get, Option, Some, None, Result, Ok}
 use Rattle.binlog_base.specs.declared.fault.Fault.{Fault}
-use Rattle.binlog_values.specs.JsonbValues.{Frame, container, nested, element_at}
-use Rattle.binlog_values.specs.JsonbDocuments.{Document, faulty, single, opened, Entries, no_entries, entry, weight, Position, positions}
+use Rattle.binlog_values.specs.JsonbValues.{Frame, container, nested, json, element_at}
+use Rattle.binlog_values.specs.JsonbTrees.{entry_key}
+use Rattle.binlog_values.specs.JsonbDocuments.{Document, faulty, single, opened, Entries, no_entries, entry, document_of, entries_of, weight, Position, positions, fault_at, first_fault}
 use Rattle.binlog_values.specs.JsonbHeaders.{offset_of, header, IsWhole}
 use Rattle.binlog_values.specs.JsonbParsed.{document}
 
@@ -11,7 +12,7 @@ use Rattle.binlog_values.specs.JsonbParsed.{document}
 abbrev pub IsPosition : Document → ℕ → Position → Type 0
 IsPosition d n p = slice_get (positions d) n ≡ Some p
 
--- ---- containers
+-- ---- where a container is
 
 -- the whole has these bytes, one after the other, from its byte `at` on
 abbrev pub AreAt : ℕ → List ℕ → List ℕ → Type 0
@@ -31,10 +32,16 @@ abbrev pub ContainersAreShorter : Type 0
 ContainersAreShorter = (c d : Frame) (i : ℕ) → element_at c i ≡ Ok (nested d) → length d.bytes < length c.bytes
 
 -- each container of a document, at any depth, is in the bytes of its root
-abbrev pub ContainersAreInRoot : Type 0
-ContainersAreInRoot = (root d : Frame) (es : Entries) (n : ℕ) (p : Position) → IsPosition (document (nested root)) n p → p.value ≡ opened d es → IsPartOf d.bytes root.bytes
+abbrev pub ContainersAreInRoots : Type 0
+ContainersAreInRoots = (root d : Frame) (es : Entries) (n : ℕ) (p : Position) → IsPosition (document (nested root)) n p → p.value ≡ opened d es → IsPartOf d.bytes root.bytes
 
--- a header has four bytes at least, and three more for each entry
+-- a root that is a container is in the bytes that are read
+abbrev pub RootsAreInDocuments : Type 0
+RootsAreInDocuments = (bytes : List ℕ) (root : Frame) → json.spells bytes (nested root) → IsPartOf root.bytes bytes
+
+-- ---- how long a header is
+
+-- four bytes at least, and three more for each entry
 abbrev pub HeadersAreLong : Type 0
 HeadersAreLong = (c : Frame) → 4 + 3 * c.count ≤ header c
 
@@ -42,7 +49,11 @@ HeadersAreLong = (c : Frame) → 4 + 3 * c.count ≤ header c
 abbrev pub ContainersAreWhole : Type 0
 ContainersAreWhole = (is_array is_large : Bool) (bytes : List ℕ) (c : Frame) → (container is_array is_large).spells bytes c → IsWhole c
 
--- so has each container of a document whose root has
+-- so has a root that is read
+abbrev pub RootsAreWhole : Type 0
+RootsAreWhole = (bytes : List ℕ) (root : Frame) → json.spells bytes (nested root) → IsWhole root
+
+-- so has each container of a document, at any depth, if the root has
 abbrev pub InnerContainersAreWhole : Type 0
 InnerContainersAreWhole = (root d : Frame) (es : Entries) (n : ℕ) (p : Position) → IsWhole root → IsPosition (document (nested root)) n p → p.value ≡ opened d es → IsWhole d
 
@@ -66,6 +77,11 @@ weight_before no_entries i = 0
 weight_before (entry k d es) zero = 0
 weight_before (entry k d es) (suc i) = 1 + weight d + weight_before es i
 
+-- the entries in a container's document are its entries, each with its key and its element's
+-- document
+abbrev pub EntriesAreElements : Type 0
+EntriesAreElements = (c : Frame) (i : ℕ) → entry_in (entries_of c) i ≡ (if nat_lt i c.count then Some (entry_key c i, document_of (element_at c i)) else None)
+
 -- position q is that of entry i of the container at position p
 abbrev pub IsEntry : Position → ℕ → Position → Type 0
 IsEntry p i q = (entry_in (entries_in p.value) i ≡ Some (q.key, q.value)) × (q.path ≡ p.path ++ i ∷ [])
@@ -86,3 +102,11 @@ EntriesArePositions = (d : Document) (m i : ℕ) (p q : Position) → IsPosition
 -- a path leads to one position
 abbrev pub PathsAreOne : Type 0
 PathsAreOne = (d : Document) (m n : ℕ) (p q : Position) → IsPosition d m p → IsPosition d n q → p.path ≡ q.path → m ≡ n
+
+-- a first fault is that of the position with its number
+abbrev pub FaultsAreAtNumbers : Type 0
+FaultsAreAtNumbers = (limit n : ℕ) (d : Document) (f : Fault) → first_fault limit 0 (positions d) ≡ Some (f, n) → (p : Position) × IsPosition d n p × (fault_at limit n p ≡ Some f)
+
+-- and no position before it has a fault
+abbrev pub FaultsAreFirst : Type 0
+FaultsAreFirst = (limit m n : ℕ) (d : Document) (f : Fault) (p : Position) → first_fault limit 0 (positions d) ≡ Some (f, n) → m < n → IsPosition d m p → fault_at limit m p ≡ None

@@ -8,7 +8,14 @@ ghost use Rattle.binlog_values.specs.JsonbValues.{Frame, JsonbValue, nested, ele
 ghost use Rattle.binlog_values.specs.JsonbDocuments.{document_of, layer, weight};
 ghost use Rattle.binlog_values.specs.JsonbHeaders.{headers, AreDisjoint, IsWhole};
 ghost use Rattle.binlog_values.specs.JsonbParsed.{document};
-ghost use Rattle.binlog_values.specs.JsonbLaws.{ContainersAreInParents, ContainersAreShorter, ContainersAreInRoot, HeadersAreLong, ContainersAreWhole, InnerContainersAreWhole, NumbersAddUp, PositionsAreEntries, EntriesArePositions, PathsAreOne};
+ghost use Rattle.binlog_values.specs.JsonbLaws.{ContainersAreInParents, ContainersAreShorter};
+ghost use Rattle.binlog_values.specs.JsonbLaws.{ContainersAreInRoots, RootsAreInDocuments};
+ghost use Rattle.binlog_values.specs.JsonbLaws.{HeadersAreLong, ContainersAreWhole, RootsAreWhole};
+ghost use Rattle.binlog_values.specs.JsonbLaws.{InnerContainersAreWhole};
+ghost use Rattle.binlog_values.specs.JsonbLaws.{NumbersAddUp, PositionsAreEntries};
+ghost use Rattle.binlog_values.specs.JsonbLaws.{EntriesArePositions, PathsAreOne};
+ghost use Rattle.binlog_values.specs.JsonbLaws.{EntriesAreElements};
+ghost use Rattle.binlog_values.specs.JsonbLaws.{FaultsAreAtNumbers, FaultsAreFirst};
 
 pub use binlog_decimal::laws::{
     decimals_are_ordered_as_numbers, decimals_are_packed_in_range, equal_decimals_are_packed_alike,
@@ -37,31 +44,48 @@ pub fn three_bytes_for_a_value()
         → 3 * weight (document (nested c)) ≤ length c.bytes }
 {}
 
-/// States that a container that an entry refers to is in the bytes of the entry's container: they
-/// are there one after the other, from the entry's offset on, and are fewer. So each container of a
-/// document, at any depth, is in the bytes of its root.
+/// States that the bytes of a container are a part of the bytes of the container that it is in: the
+/// part that begins at the offset of its entry, and is shorter. So each container of a document, at
+/// any depth, is a part of the root, and the root is a part of the bytes that are read.
 pub fn containers_are_inside()
     ensures parent { ContainersAreInParents }
     ensures shorter { ContainersAreShorter }
-    ensures root { ContainersAreInRoot }
+    ensures root { ContainersAreInRoots }
+    ensures document { RootsAreInDocuments }
 {}
 
-/// States that the header of a container, small or large, has at least four bytes, and three more
-/// for each entry; and that a container that is read has its whole header, as has each container
-/// inside it.
+/// States that the header of a container has at least four bytes, and three more for each entry. A
+/// container that is read has its whole header, and so has each container inside it.
 pub fn headers_are_long()
     ensures long { HeadersAreLong }
     ensures whole { ContainersAreWhole }
+    ensures document { RootsAreWhole }
     ensures inner { InnerContainersAreWhole }
 {}
 
-/// States what the numbers of positions are. The root has number 0. The number of any other
-/// position is its container's number, plus one, plus, for each entry before it in that container,
-/// one and that entry's weight. Each position but the root is that of an entry of a container, each
-/// entry has a position, and no two positions have the same path.
+/// States what the number of a position is. The root has number 0. The number of any other position
+/// is its container's number, plus one, plus, for each entry before it in that container, one and
+/// that entry's weight: how many values are inside it.
+///
+/// Each position but the root is that of an entry of a container, each entry has a position, and no
+/// two positions have the same path.
 pub fn numbers_add_up()
     ensures number { NumbersAddUp }
     ensures entry { PositionsAreEntries }
     ensures position { EntriesArePositions }
     ensures path { PathsAreOne }
+{}
+
+/// States that the entries in the document of a container are its entries, each with its key and the
+/// document of its element.
+#[tactic(auto, using(crate::proofs::JsonbNumbers::entries_elements))]
+pub fn entries_are_elements()
+    ensures { EntriesAreElements }
+{}
+
+/// States that the first fault of a document is that of the position with its number, and that no
+/// position before it has one.
+pub fn first_faults_have_numbers()
+    ensures there { FaultsAreAtNumbers }
+    ensures first { FaultsAreFirst }
 {}

@@ -5,7 +5,7 @@ use Rattle.binlog_base.specs.declared.fault.Fault.TheVariants.{TooManyValues}
 use Rattle.binlog_values.specs.JsonbValues.{JsonbValue, scalar, nested, Frame, element_at}
 use Rattle.binlog_values.specs.JsonbTrees.{tree_scalar, entry_key, Tree, leaf, node, Branches, no_branches, branch, Denotes, DenoteFrom}
 use Rattle.binlog_values.specs.JsonbDocuments.{Document, faulty, single, opened, entries_from, entries_of, document_of, weight, weights, depth, depths, found}
-use Rattle.binlog_values.specs.JsonbVisits.{numbered, ◌>>-◌, visit, visits}
+use Rattle.binlog_values.specs.Workings.JsonbVisits.{numbered, ◌>>-◌, visit, visits}
 use Rattle.binlog_values.proofs.JsonbUnfolding.{document_is}
 use Rattle.binlog_values.proofs.JsonbWalk.{found_within}
 use Rattle.binlog_values.proofs.JsonbFirstFault.{bound_ok, same_value, same_number, numbered_ok}

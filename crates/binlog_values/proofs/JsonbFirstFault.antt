@@ -5,7 +5,7 @@ use Rattle.std.proofs.lemmas.List.{length-append}
 use Rattle.binlog_base.specs.declared.fault.Fault.{Fault}
 use Rattle.binlog_values.specs.JsonbTrees.{TreeScalar, tree_scalar, Tree, leaf, node, Branches, no_branches, branch}
 use Rattle.binlog_values.specs.JsonbDocuments.{Document, faulty, single, opened, Entries, no_entries, entry, weight, weights, Position, inside, inside_from, positions, found, in_limit, fault_of, option_or, fault_inside, fault_at, first_fault}
-use Rattle.binlog_values.specs.JsonbVisits.{Numbered, numbered, ◌>>-◌, visit, visits}
+use Rattle.binlog_values.specs.Workings.JsonbVisits.{Numbered, numbered, ◌>>-◌, visit, visits}
 
 -- ---- results
 

@@ -2,12 +2,12 @@
 use Rattle.std.proofs.Common.{◌≡◌, ℕ, zero, suc, ◌+◌, ◌<◌, ◌≤◌, List, [], ◌∷◌, ◌++◌, length, Option, Some, None, option_map, Result, Ok, refl, sym, ap, ap₂, subst, ◌∙◌, inl, inr, ◌⊎◌, arith}
 use Rattle.std.specs.Prelude.{slice_get}
 use Rattle.std.proofs.lemmas.Bool.{cases_lt, lt-ltb, le-ltb}
-use Rattle.std.proofs.lemmas.List.{append_assoc, append-nil, length-append}
+use Rattle.std.proofs.lemmas.List.{append_assoc}
 use Rattle.binlog_base.specs.declared.fault.Fault.{Fault}
-use Rattle.binlog_values.specs.JsonbDocuments.{Document, faulty, single, opened, Entries, no_entries, entry, weight, weights, Position, inside, inside_from, positions, entries, document_of, option_or, fault_at, first_fault}
-use Rattle.binlog_values.specs.JsonbValues.{Frame, element_at}
+use Rattle.binlog_values.specs.JsonbDocuments.{Document, faulty, single, opened, Entries, no_entries, entry, weight, Position, inside, inside_from, positions, entries, document_of, option_or, fault_at, first_fault}
+use Rattle.binlog_values.specs.JsonbValues.{element_at}
 use Rattle.binlog_values.specs.JsonbTrees.{entry_key}
-use Rattle.binlog_values.specs.JsonbLaws.{IsPosition, entries_in, entry_in, weight_before, IsEntry, NumbersAddUp, PositionsAreEntries, EntriesArePositions, PathsAreOne, EntriesAreElements, FaultsAreAtNumbers, FaultsAreFirst}
+use Rattle.binlog_values.specs.JsonbLaws.{IsPosition, entries_in, entry_in, weight_before, IsEntry, NumbersAddUp, PositionsAreEntries, EntriesArePositions, PathsAreOne, EntriesAreElements, PositionsAreValues, FaultsAreAtNumbers, FaultsAreFirst}
 use Rattle.binlog_values.proofs.JsonbFirstFault.{length-inside}
 
 -- ---- lists
@@ -230,6 +230,9 @@ positions_entries d n q h =
       | inl a ↦ (0, a.0, record { path = []; key = Ok []; value = d }, refl, (a.1, a.2 ∙ ap (λ (i : ℕ). i ∷ []) (omega arith)))
       | inr b ↦ (suc b.0, b.1, b.2, b.3, b.4)
     ]
+
+pub positions_values : PositionsAreValues
+positions_values d = omega (arith, length-inside d [])
 
 -- ---- entries and elements
 

@@ -7,7 +7,7 @@ use Rattle.binlog_values.specs.declared.jsonb.dom.JsonDom.{JsonDom}
 use Rattle.binlog_values.specs.JsonbValues.{Frame, JsonbValue, scalar, nested}
 use Rattle.binlog_values.specs.JsonbTrees.{Tree, Denotes}
 use Rattle.binlog_values.specs.JsonbDocuments.{weight, depth, positions, fault_of, first_fault, limit_of}
-use Rattle.binlog_values.specs.JsonbVisits.{visit}
+use Rattle.binlog_values.specs.Workings.JsonbVisits.{visit}
 use Rattle.binlog_values.specs.JsonbHeaders.{headers, AreDisjoint, IsWhole, IsWholeValue}
 use Rattle.binlog_values.specs.JsonbContainers.{IsScalar}
 use Rattle.binlog_values.specs.JsonbDoms.{Meets, IsTree, IsGiven}

@@ -1,14 +1,14 @@
 -- The containers of a document are in the bytes of its root, and have their headers.
-use Rattle.std.proofs.Common.{◌≡◌, ℕ, zero, suc, ◌+◌, ◌*◌, ◌<◌, ◌≤◌, Bool, true, false, List, [], ◌∷◌, ◌++◌, length, Option, Some, None, Result, Ok, Err, refl, sym, ap, subst, ◌∙◌, inl, inr, ◌⊎◌, arith}
+use Rattle.std.proofs.Common.{◌≡◌, ℕ, zero, suc, ◌+◌, ◌*◌, ◌≤◌, Bool, true, false, List, [], ◌∷◌, ◌++◌, length, Some, Result, Ok, Err, refl, sym, ap, subst, ◌∙◌, inl, inr, arith}
 use Rattle.std.specs.Prelude.{slice_get}
 use Rattle.std.proofs.lemmas.List.{append_assoc, append-nil, length-append}
 use Rattle.binlog_base.specs.declared.fault.Fault.{Fault}
 use Rattle.binlog_values.specs.JsonbLayout.{header_len}
-use Rattle.binlog_values.specs.JsonbValues.{Frame, frame, container, JsonbValue, scalar, nested, value, typed_value, json, element_at}
+use Rattle.binlog_values.specs.JsonbValues.{Frame, container, JsonbValue, scalar, nested, value, typed_value, json, element_at}
 use Rattle.binlog_values.specs.JsonbTrees.{entry_key}
-use Rattle.binlog_values.specs.JsonbDocuments.{Document, faulty, single, opened, Entries, entry, no_entries, entries, unfold_to, size_of, document_of, Position, inside, inside_from, positions}
-use Rattle.binlog_values.specs.JsonbHeaders.{offset_of, header, IsWhole}
-use Rattle.binlog_values.specs.JsonbLaws.{AreAt, IsPartOf, IsPosition, ContainersAreInParents, ContainersAreShorter, ContainersAreInRoots, RootsAreInDocuments, HeadersAreLong, ContainersAreWhole, RootsAreWhole, InnerContainersAreWhole}
+use Rattle.binlog_values.specs.JsonbDocuments.{opened, Entries, entries, unfold_to, size_of, document_of, Position, inside, inside_from}
+use Rattle.binlog_values.specs.JsonbHeaders.{offset_of, IsWhole}
+use Rattle.binlog_values.specs.JsonbLaws.{IsPartOf, ContainersAreInParents, ContainersAreShorter, ContainersAreInRoots, RootsAreInDocuments, HeadersAreLong, ContainersAreWhole, RootsAreWhole, InnerContainersAreWhole}
 use Rattle.binlog_values.specs.declared.jsonb.types.JsonbType.{JsonbType}
 use Rattle.binlog_values.specs.Lemmas.JsonbValues.{exact_value}
 use Rattle.binlog_values.proofs.JsonbInside.{Fits, value_fits, element_inside}

@@ -12,10 +12,10 @@ use Rattle.binlog_values.specs.declared.jsonb.stack.Collected.TheVariants.{Items
 use Rattle.binlog_values.specs.JsonbValues.{Frame, JsonbValue, nested, element_at}
 use Rattle.binlog_values.specs.JsonbTrees.{entry_key, Tree, node, Branches, no_branches, branch, no_members}
 use Rattle.binlog_values.specs.JsonbDocuments.{found, entries_from, document_of}
-use Rattle.binlog_values.specs.JsonbVisits.{Numbered, visit, visits, append, with_front}
+use Rattle.binlog_values.specs.Workings.JsonbVisits.{Numbered, visit, visits, append, with_front}
 use Rattle.binlog_values.specs.JsonbContainers.{frame}
 use Rattle.binlog_values.specs.JsonbDoms.{Meets, IsTree, items_view, members_view}
-use Rattle.binlog_values.specs.JsonbStack.{Wait, finish, open_rest, accept, resume, IsCollected, IsOpen, IsWait, AreWaits}
+use Rattle.binlog_values.specs.Workings.JsonbStack.{Wait, finish, open_rest, accept, resume, IsCollected, IsOpen, IsWait, AreWaits}
 use Rattle.binlog_values.proofs.JsonbWalk.{items_view-push, members_view-insert, merged_into-append, starts, goes_on, refused, refused_inside, is_done, visit-deep, visit-container}
 
 -- A new container on top of the stack is what the one below it waits for.

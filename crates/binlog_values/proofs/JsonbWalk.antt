@@ -15,7 +15,7 @@ use Rattle.binlog_values.specs.declared.jsonb.dom.JsonScalar.{JsonScalar}
 use Rattle.binlog_values.specs.JsonbValues.{Scalar, JsonbValue, scalar, nested, Frame, element_at}
 use Rattle.binlog_values.specs.JsonbTrees.{tree_scalar, text, text_scalar, entry_key, Tree, leaf, node, Branches, no_branches, branch, Data, plain, array, object, Items, no_items, item, Members, put, merged, merged_items, merged_into}
 use Rattle.binlog_values.specs.JsonbDocuments.{entries_from, entries_of, document_of, in_limit, found}
-use Rattle.binlog_values.specs.JsonbVisits.{Numbered, numbered, ◌>>-◌, visit, visits, append, with_front, IsEntryFault}
+use Rattle.binlog_values.specs.Workings.JsonbVisits.{Numbered, numbered, ◌>>-◌, visit, visits, append, with_front, IsEntryFault}
 use Rattle.binlog_values.specs.JsonbDoms.{Meets, IsTree, IsScalarOf, scalar_view, dom_view, items_view, members_view}
 use Rattle.binlog_values.specs.JsonbContainers.{IsScalar}
 use Rattle.binlog_values.proofs.JsonbUnfolding.{document_is}

@@ -96,7 +96,11 @@ abbrev mutual
 
   pub inside_from : List ℕ → ℕ → Entries → List Position
   inside_from path i no_entries = []
-  inside_from path i (entry k d es) = record { path = path ++ i ∷ []; key = k; value = d } ∷ inside (path ++ i ∷ []) d ++ inside_from path (suc i) es
+  inside_from path i (entry k d es) = record {
+    path = path ++ i ∷ [];
+    key = k;
+    value = d;
+  } ∷ inside (path ++ i ∷ []) d ++ inside_from path (suc i) es
 
 -- all positions, the root first: a position's number is its index in this list
 abbrev pub positions : Document → List Position

@@ -26,7 +26,12 @@ pub record Frame : Type 0 where
 
 -- the container that these bytes are
 abbrev pub frame : Bool → Bool → List ℕ → Frame
-frame is_array is_large bytes = record { is_array = is_array; is_large = is_large; count = number_at (offset_size is_large) 0 bytes; bytes = bytes }
+frame is_array is_large bytes = record {
+  is_array = is_array;
+  is_large = is_large;
+  count = number_at (offset_size is_large) 0 bytes;
+  bytes = bytes;
+}
 
 -- the size that a container has by its bytes; it counts all of them
 abbrev pub size_in : Bool → List ℕ → ℕ

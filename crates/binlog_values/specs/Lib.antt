@@ -26,9 +26,8 @@ pub mod JsonbDoms
 pub mod JsonbOpaques
 pub mod JsonbParsed
 pub mod JsonbLaws
-pub mod JsonbVisits
 pub mod JsonbContainers
-pub mod JsonbStack
+pub mod Workings
 pub mod JsonDiffs
 pub mod LentDocuments
 pub mod JsonEquality

@@ -14,7 +14,7 @@ ghost use Rattle.binlog_values.specs.JsonbLaws.{HeadersAreLong, ContainersAreWho
 ghost use Rattle.binlog_values.specs.JsonbLaws.{InnerContainersAreWhole};
 ghost use Rattle.binlog_values.specs.JsonbLaws.{NumbersAddUp, PositionsAreEntries};
 ghost use Rattle.binlog_values.specs.JsonbLaws.{EntriesArePositions, PathsAreOne};
-ghost use Rattle.binlog_values.specs.JsonbLaws.{EntriesAreElements};
+ghost use Rattle.binlog_values.specs.JsonbLaws.{EntriesAreElements, PositionsAreValues};
 ghost use Rattle.binlog_values.specs.JsonbLaws.{FaultsAreAtNumbers, FaultsAreFirst};
 
 pub use binlog_decimal::laws::{
@@ -44,9 +44,9 @@ pub fn three_bytes_for_a_value()
         → 3 * weight (document (nested c)) ≤ length c.bytes }
 {}
 
-/// States that the bytes of a container are a part of the bytes of the container that it is in: the
-/// part that begins at the offset of its entry, and is shorter. So each container of a document, at
-/// any depth, is a part of the root, and the root is a part of the bytes that are read.
+/// States that a container inside another is a part of its bytes: the part that begins at the offset
+/// in its entry. It is shorter than the other. So each container of a document, at any depth, is a
+/// part of the root's bytes, and the root is a part of the bytes that are read.
 pub fn containers_are_inside()
     ensures parent { ContainersAreInParents }
     ensures shorter { ContainersAreShorter }
@@ -54,8 +54,9 @@ pub fn containers_are_inside()
     ensures document { RootsAreInDocuments }
 {}
 
-/// States that the header of a container has at least four bytes, and three more for each entry. A
-/// container that is read has its whole header, and so has each container inside it.
+/// States that the header of a container (the count, the size and the entries) has at least four
+/// bytes, and three more for each entry, whether the container is small or large, an array or an
+/// object. A container that is read has its whole header, and so has each container inside it.
 pub fn headers_are_long()
     ensures long { HeadersAreLong }
     ensures whole { ContainersAreWhole }
@@ -67,10 +68,12 @@ pub fn headers_are_long()
 /// is its container's number, plus one, plus, for each entry before it in that container, one and
 /// that entry's weight: how many values are inside it.
 ///
-/// Each position but the root is that of an entry of a container, each entry has a position, and no
-/// two positions have the same path.
+/// There is a position for each value inside the root, and one for the root. Each position but the
+/// root is that of an entry of a container, each entry has a position, and no two positions have the
+/// same path.
 pub fn numbers_add_up()
     ensures number { NumbersAddUp }
+    ensures count { PositionsAreValues }
     ensures entry { PositionsAreEntries }
     ensures position { EntriesArePositions }
     ensures path { PathsAreOne }

@@ -8,7 +8,7 @@ ghost use Rattle.binlog_values.specs.JsonbViews.{view_of};
 ghost use Rattle.binlog_values.specs.JsonbTrees.{entry_key};
 ghost use Rattle.binlog_values.specs.JsonbHeaders.{IsWhole};
 ghost use Rattle.binlog_values.specs.JsonbContainers.{frame, lent_scalar, node_view};
-ghost use Rattle.binlog_values.specs.JsonbVisits.{IsEntryFault};
+ghost use Rattle.binlog_values.specs.Workings.JsonbVisits.{IsEntryFault};
 
 use super::complex::Lent;
 use super::format::{Array, ComplexType, Large, Object, Small, StorageFormat};

@@ -7,7 +7,7 @@ ghost use Rattle.binlog_values.specs.JsonbViews.{view_of};
 ghost use Rattle.binlog_values.specs.JsonbTrees.{entry_key};
 ghost use Rattle.binlog_values.specs.JsonbDocuments.{document_of, found};
 ghost use Rattle.binlog_values.specs.JsonbContainers.{frame, node_view};
-ghost use Rattle.binlog_values.specs.JsonbVisits.{IsEntryFault};
+ghost use Rattle.binlog_values.specs.Workings.JsonbVisits.{IsEntryFault};
 ghost use Rattle.binlog_values.specs.JsonbParsed.{Parsed};
 
 use super::container::{Container, Node};

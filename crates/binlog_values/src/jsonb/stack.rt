@@ -7,9 +7,9 @@ ghost use Rattle.binlog_values.specs.JsonbValues.{Frame, scalar, nested};
 ghost use Rattle.binlog_values.specs.JsonbTrees.{Tree, node, Branches, no_branches, branch};
 ghost use Rattle.binlog_values.specs.JsonbDocuments.{document_of};
 ghost use Rattle.binlog_values.specs.JsonbContainers.{frame, lent_scalar};
-ghost use Rattle.binlog_values.specs.JsonbVisits.{visit, append};
+ghost use Rattle.binlog_values.specs.Workings.JsonbVisits.{visit, append};
 ghost use Rattle.binlog_values.specs.JsonbDoms.{IsTree, Meets};
-ghost use Rattle.binlog_values.specs.JsonbStack.{IsOpen, IsCollected};
+ghost use Rattle.binlog_values.specs.Workings.JsonbStack.{IsOpen, IsCollected};
 ghost use Rattle.binlog_values.specs.declared.jsonb.stack.Collected.TheVariants as Collected;
 
 use super::container::{Container, LentScalar, Node};

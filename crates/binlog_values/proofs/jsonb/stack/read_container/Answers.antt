@@ -5,9 +5,9 @@ use Rattle.binlog_values.specs.declared.jsonb.stack.Waiting.{Waiting}
 use Rattle.binlog_values.specs.JsonbValues.{nested}
 use Rattle.binlog_values.specs.JsonbTrees.{no_branches, node, branch}
 use Rattle.binlog_values.specs.JsonbDocuments.{document_of}
-use Rattle.binlog_values.specs.JsonbVisits.{visit, append}
+use Rattle.binlog_values.specs.Workings.JsonbVisits.{visit, append}
 use Rattle.binlog_values.specs.JsonbContainers.{frame, node_view}
-use Rattle.binlog_values.specs.JsonbStack.{Wait, IsOpen, IsWait}
+use Rattle.binlog_values.specs.Workings.JsonbStack.{Wait, IsOpen, IsWait}
 use Rattle.binlog_values.proofs.JsonbStacked.{AreWaits-length, turn-fault-meets, turn-scalar-meets, turn-scalar, turn-push, settle, here, turn-start-at, turn-end-at, turn-pop, turn-deep, wait-room}
 use Rattle.binlog_values.proofs.jsonb.stack.read_container.Goals as goal
 

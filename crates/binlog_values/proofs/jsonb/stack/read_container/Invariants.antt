@@ -2,9 +2,9 @@ use Rattle.std.proofs.Common.{◌+◌, ◌-◌, ◌*◌, ◌≤◌, List, Ok, ve
 use Rattle.binlog_values.specs.JsonbValues.{nested}
 use Rattle.binlog_values.specs.JsonbTrees.{Branches}
 use Rattle.binlog_values.specs.JsonbDocuments.{document_of}
-use Rattle.binlog_values.specs.JsonbVisits.{visit}
+use Rattle.binlog_values.specs.Workings.JsonbVisits.{visit}
 use Rattle.binlog_values.specs.JsonbContainers.{frame}
-use Rattle.binlog_values.specs.JsonbStack.{Wait, IsCollected}
+use Rattle.binlog_values.specs.Workings.JsonbStack.{Wait, IsCollected}
 use Rattle.binlog_values.proofs.JsonbStacked.{Turn}
 use Rattle.binlog_values.proofs.jsonb.stack.read_container.Given as goal
 

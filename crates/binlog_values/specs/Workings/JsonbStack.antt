@@ -7,7 +7,7 @@ use Rattle.binlog_values.specs.declared.jsonb.stack.Waiting.{Waiting}
 use Rattle.binlog_values.specs.JsonbValues.{Frame}
 use Rattle.binlog_values.specs.JsonbTrees.{Tree, node, Branches, no_branches, branch, no_members, merged_items, merged_into}
 use Rattle.binlog_values.specs.JsonbDocuments.{entries_from}
-use Rattle.binlog_values.specs.JsonbVisits.{Numbered, ◌>>-◌, visits, append, with_front}
+use Rattle.binlog_values.specs.Workings.JsonbVisits.{Numbered, ◌>>-◌, visits, append, with_front}
 use Rattle.binlog_values.specs.JsonbContainers.{frame}
 use Rattle.binlog_values.specs.JsonbDoms.{items_view, members_view}
 

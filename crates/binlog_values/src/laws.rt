@@ -44,9 +44,9 @@ pub fn three_bytes_for_a_value()
         → 3 * weight (document (nested c)) ≤ length c.bytes }
 {}
 
-/// States that a container inside another is a part of its bytes: the part that begins at the offset
-/// in its entry. It is shorter than the other. So each container of a document, at any depth, is a
-/// part of the root's bytes, and the root is a part of the bytes that are read.
+/// States that a container inside another is a part of its bytes: the part that begins at the
+/// offset in its entry. It is shorter than the other. So each container of a document, at any
+/// depth, is a part of the root's bytes, and the root is a part of the bytes that are read.
 pub fn containers_are_inside()
     ensures parent { ContainersAreInParents }
     ensures shorter { ContainersAreShorter }
@@ -69,8 +69,8 @@ pub fn headers_are_long()
 /// that entry's weight: how many values are inside it.
 ///
 /// There is a position for each value inside the root, and one for the root. Each position but the
-/// root is that of an entry of a container, each entry has a position, and no two positions have the
-/// same path.
+/// root is that of an entry of a container, each entry has a position, and no two positions have
+/// the same path.
 pub fn numbers_add_up()
     ensures number { NumbersAddUp }
     ensures count { PositionsAreValues }
@@ -79,8 +79,8 @@ pub fn numbers_add_up()
     ensures path { PathsAreOne }
 {}
 
-/// States that the entries in the document of a container are its entries, each with its key and the
-/// document of its element.
+/// States that the entries in the document of a container are its entries, each with its key and
+/// the document of its element.
 #[tactic(auto, using(crate::proofs::JsonbNumbers::entries_elements))]
 pub fn entries_are_elements()
     ensures { EntriesAreElements }

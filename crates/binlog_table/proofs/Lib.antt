@@ -7,3 +7,4 @@ pub mod CharsetByCharset
 pub mod ColumnWalk
 pub mod Bounds
 pub mod TypeTables
+pub mod Example

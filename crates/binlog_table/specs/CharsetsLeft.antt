@@ -1,5 +1,5 @@
 -- The character sets that are left, as the columns of a group are taken in order.
-use Rattle.std.specs.Prelude.{◌≡◌, ℕ, suc, ◌+◌, ◌-◌, ◌==◌, nat_lt, List, [], ◌∷◌, Option, Some, None, Result, Ok, Err, if◌then◌else◌}
+use Rattle.std.specs.Prelude.{◌≡◌, ℕ, suc, ◌+◌, ◌-◌, ◌==◌, nat_lt, min, List, [], ◌∷◌, length, Option, Some, None, Result, Ok, Err, if◌then◌else◌}
 use Rattle.binlog_base.specs.declared.fault.Fault.{Fault}
 use Rattle.binlog_table.specs.Charsets.{after, charsets, zero_without}
 
@@ -53,3 +53,14 @@ row_charset c k = zero_without (charset_of c (c.ordinal + k))
 -- the character sets of the columns that are left
 abbrev pub charsets_of : ℕ → CharsetsLeft → List (Result ℕ Fault)
 charsets_of limit c = charsets_left limit c.ordinal c.default c.pairs c.list
+
+-- How many more items of the pairs and the list are taken for the columns of the group from low on
+-- and below end. The first pair that is left was taken beforehand.
+abbrev pub charsets_ahead : ℕ → ℕ → List (Result (ℕ × ℕ) Fault) → List (Result ℕ Fault) → ℕ
+charsets_ahead low end [] list = min (length list) (end - low)
+charsets_ahead low end (Err e ∷ ps) list = 0
+charsets_ahead low end (Ok p ∷ ps) list = if nat_lt p.0 low then 0 else (if nat_lt p.0 end then min (length ps) 1 + charsets_ahead (suc p.0) end ps list else 0)
+
+-- how many items are taken of the pairs and the list after k more columns of the group
+abbrev pub charsets_taken : CharsetsLeft → ℕ → ℕ
+charsets_taken c k = c.taken + charsets_ahead c.ordinal (c.ordinal + k) c.pairs c.list

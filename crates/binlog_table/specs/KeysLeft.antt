@@ -1,5 +1,5 @@
 -- The key columns that are left, as columns are asked for in order.
-use Rattle.std.specs.Prelude.{◌≡◌, ℕ, suc, ◌+◌, ◌≤◌, ◌==◌, nat_lt, Bool, true, false, List, [], ◌∷◌, Option, Some, None, Result, Ok, Err, if◌then◌else◌}
+use Rattle.std.specs.Prelude.{◌≡◌, ℕ, suc, ◌+◌, ◌≤◌, ◌-◌, ◌==◌, nat_lt, min, length, Bool, true, false, List, [], ◌∷◌, Option, Some, None, Result, Ok, Err, if◌then◌else◌}
 use Rattle.binlog_base.specs.declared.fault.Fault.{Fault}
 use Rattle.binlog_table.specs.Keys.{key_items}
 
@@ -9,6 +9,11 @@ pub record KeysLeft : Type 0 where
   pub keys : List (Result ℕ Fault)
   pub taken : ℕ
   pub room : ℕ
+
+-- How many items are taken of the two lists once columns took n more items of the key. The first
+-- one that is left was taken of the lists beforehand.
+abbrev pub keys_taken : KeysLeft → ℕ → ℕ
+keys_taken k n = k.taken + min (length k.keys - 1) n
 
 -- two functions of columns agree from column low on
 abbrev pub Agree : {A : Type 0} → ℕ → (ℕ → Result A Fault) → (ℕ → Result A Fault) → Type 0

@@ -13,5 +13,6 @@ pub mod Charsets
 pub mod CharsetsLeft
 pub mod Extracted
 pub mod TableColumns
+pub mod Steps
 pub mod ColumnsLeft
 pub mod Lemmas

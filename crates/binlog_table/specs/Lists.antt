@@ -1,5 +1,5 @@
 -- The lists inside the fields of optional metadata.
-use Rattle.std.specs.Prelude.{ℕ, ◌+◌, ◌≤◌, ◌%◌, ◌^◌, List, Result, map, Option, Some, None}
+use Rattle.std.specs.Prelude.{ℕ, ◌+◌, ◌≤◌, ◌%◌, ◌^◌, min, List, length, Result, map, Option, Some, None}
 use Rattle.binlog_base.specs.declared.fault.Fault.{Fault}
 use Rattle.binlog_base.specs.declared.below.columns.geometry.GeometryType.{GeometryType}
 use Rattle.binlog_base.specs.Format.{Format, sequence, map_value, all_left, ◌>>=◌}
@@ -22,6 +22,10 @@ pub record Spends (old_taken old_room new_taken new_room : ℕ) : Type 0 where
 abbrev pub count_of : {A : Type 0} → Option A → ℕ
 count_of None = 0
 count_of (Some x) = 1
+
+-- how many items are taken of a list once n more were asked for
+abbrev pub taken_after : {A : Type 0} → Format A → ListLeft → ℕ → ℕ
+taken_after f l n = l.taken + min (length (items f l.bytes)) n
 
 -- a number of which the low bits are kept
 unfoldable pub low_bits : ℕ → Format ℕ

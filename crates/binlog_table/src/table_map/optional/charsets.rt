@@ -1,12 +1,12 @@
 //! The character sets of columns.
 
-ghost use Rattle.std.specs.Prelude.{◌≡◌, ◌<◌, ◌≤◌, ◌+◌, ◌++◌, true, ◌^◌, IsTrue, length, ℕ, suc, OnOk, Option, Some, None};
+ghost use Rattle.std.specs.Prelude.{◌≡◌, ◌<◌, ◌≤◌, ◌+◌, ◌++◌, true, ◌^◌, IsTrue, min, length, ℕ, suc, OnOk, Option, Some, None};
 ghost use Rattle.std.specs.Iterator.{YieldsFirst, item_count};
 ghost use Rattle.std.specs.Option.{option_map};
 ghost use Rattle.binlog_base.specs.Items.{items};
 ghost use Rattle.binlog_table.specs.Charsets.{charset_items};
 ghost use Rattle.binlog_table.specs.KeysLeft.{Agree};
-ghost use Rattle.binlog_table.specs.CharsetsLeft.{charset_of, charsets_of, row_charset, NoCharsetsLeft};
+ghost use Rattle.binlog_table.specs.CharsetsLeft.{charset_of, charsets_of, charsets_taken, row_charset, NoCharsetsLeft};
 ghost use Rattle.binlog_base.specs.Numbers.{lenenc_bytes};
 ghost use Rattle.binlog_table.specs.Lists as Spec;
 ghost use Rattle.binlog_table.specs.Lists.{pair_with, low_bits, default_charset, Spends};
@@ -220,6 +220,9 @@ impl<'a> IterCharset<'a> {
         ensures list { result.list ≡ items (low_bits 16) list.entry.bytes }
         ensures spends { Spends (pairs.entry.taken + list.entry.taken)
             (length pairs.entry.bytes + length list.entry.bytes) result.taken result.room }
+        // The first pair is taken at once.
+        ensures taken { result.taken
+            ≡ pairs.entry.taken + list.entry.taken + min (length result.pairs) 1 }
     {
         let mut pairs = pairs;
         let head = pairs.take_item();
@@ -260,6 +263,9 @@ impl<'a> IterCharset<'a> {
         ensures later { OnOk result
             (Agree (self.old.ordinal + 1) (charset_of self.old) (charset_of self.new)) }
         ensures spends { Spends self.old.taken self.old.room self.new.taken self.new.room }
+        ensures taken { self.new.taken ≡ charsets_taken self.old 1 }
+        ensures ahead { OnOk result
+            ((k : ℕ) → charsets_taken self.new k ≡ charsets_taken self.old (suc k)) }
     {
         match self.head {
             Some(Err(e)) => Err(e),
@@ -297,6 +303,9 @@ impl<'a> IterCharset<'a> {
         ensures most { self.new.ordinal ≤ self.old.ordinal + 1 }
         ensures later { OnOk result ((k : ℕ) → row_charset self.new k ≡ row_charset self.old (suc k)) }
         ensures spends { Spends self.old.taken self.old.room self.new.taken self.new.room }
+        ensures taken { self.new.taken ≡ charsets_taken self.old 1 }
+        ensures ahead { OnOk result
+            ((k : ℕ) → charsets_taken self.new k ≡ charsets_taken self.old (suc k)) }
     {
         match self.turn() {
             Err(e) => Err(e),

@@ -1,13 +1,15 @@
 //! The columns of a primary key.
 
-ghost use Rattle.std.specs.Prelude.{◌≡◌, ◌<◌, ◌+◌, ◌++◌, ◌^◌, length, ℕ, suc, [], OnOk, None, option_map};
+ghost use Rattle.std.specs.Prelude.{◌≡◌, ◌<◌, ◌+◌, ◌++◌, ◌^◌, min, length, ℕ, suc, [], OnOk, None, option_map};
 ghost use Rattle.std.specs.Iterator.{YieldsFirst, item_count};
 ghost use Rattle.binlog_base.specs.Items.{items};
 ghost use Rattle.binlog_table.specs.Keys.{key_items};
-ghost use Rattle.binlog_table.specs.KeysLeft.{keys_left, head_of, next_if, key_from};
+ghost use Rattle.binlog_table.specs.KeysLeft.{keys_left, keys_taken, head_of, next_if, key_from};
+ghost use Rattle.binlog_table.specs.TableColumns.{one_more};
+ghost use Rattle.binlog_table.specs.Steps.{is_of_key};
 ghost use Rattle.binlog_base.specs.Numbers.{lenenc, lenenc_bytes};
 ghost use Rattle.binlog_base.specs.Lemmas.Numbers.{exact_lenenc};
-ghost use Rattle.binlog_table.specs.Lists.{pair_with, Spends};
+ghost use Rattle.binlog_table.specs.Lists.{pair_with, Spends, count_of};
 ghost use Rattle.binlog_table.specs.Lemmas.Lists.{exact_pair_with};
 
 use super::lists::{IterIndexes, IterKeys};
@@ -131,6 +133,8 @@ fn first_of(simple: &mut IterIndexes<'_>, prefixed: &mut IterKeys<'_>) -> Option
     ensures spends { Spends
         (simple.old.taken + prefixed.old.taken) (length simple.old.bytes + length prefixed.old.bytes)
         (simple.new.taken + prefixed.new.taken) (length simple.new.bytes + length prefixed.new.bytes) }
+    ensures taken { simple.new.taken + prefixed.new.taken
+        ≡ simple.old.taken + prefixed.old.taken + count_of result }
 {
     match simple.take_item() {
         Some(item) => Some(item),
@@ -150,6 +154,9 @@ impl<'a> IterPrimaryKey<'a> {
         ensures spends { Spends
             (simple.entry.taken + prefixed.entry.taken)
             (length simple.entry.bytes + length prefixed.entry.bytes) result.taken result.room }
+        // The first item is taken at once.
+        ensures taken { result.taken
+            ≡ simple.entry.taken + prefixed.entry.taken + min (length result.keys) 1 }
     {
         let mut simple = simple;
         let mut prefixed = prefixed;
@@ -180,6 +187,7 @@ impl<'a> IterPrimaryKey<'a> {
     pub fn take_item(&mut self) -> Option<Result<u64, Fault>>
         ensures gives { YieldsFirst (λ s. s.keys) self.old result self.new }
         ensures spends { Spends self.old.taken self.old.room self.new.taken self.new.room }
+        ensures taken { (n : ℕ) → keys_taken self.new n ≡ keys_taken self.old (suc n) }
     {
         let item = self.head;
         self.head = first_of(&mut self.simple, &mut self.prefixed);
@@ -192,6 +200,8 @@ impl<'a> IterPrimaryKey<'a> {
     pub fn next_if_is(&mut self, column: u64) -> Option<Result<u64, Fault>>
         ensures keys { (result, self.new.keys) ≡ next_if column self.old.keys }
         ensures spends { Spends self.old.taken self.old.room self.new.taken self.new.room }
+        ensures taken { (n : ℕ)
+            → keys_taken self.new n ≡ keys_taken self.old (count_of result + n) }
     {
         match self.head {
             None => None,
@@ -209,6 +219,8 @@ impl<'a> IterPrimaryKey<'a> {
         ensures later { OnOk result ((i : ℕ) → column < i
             → key_from (suc column) self.new.keys i ≡ key_from column self.old.keys i) }
         ensures spends { Spends self.old.taken self.old.room self.new.taken self.new.room }
+        ensures taken { (n : ℕ)
+            → keys_taken self.new n ≡ keys_taken self.old (one_more (is_of_key result) n) }
     {
         match self.next_if_is(column) {
             None => Ok(false),

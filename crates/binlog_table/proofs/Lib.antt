@@ -5,6 +5,7 @@ pub mod KeyByKey
 pub mod Strings
 pub mod CharsetByCharset
 pub mod ColumnWalk
+pub mod StepByStep
 pub mod Bounds
 pub mod TypeTables
 pub mod Example

@@ -13,9 +13,11 @@ use Rattle.binlog_table.specs.declared.table_map.optional.columns.TableColumn.{T
 use Rattle.binlog_table.specs.Chunks.{ChunksLeft, chunk_left}
 use Rattle.binlog_table.specs.ColumnTypes.{raw_type_of, real_type_of, json_count}
 use Rattle.binlog_table.specs.Fields.{is_numeric_number}
-use Rattle.binlog_table.specs.KeysLeft.{key_left}
-use Rattle.binlog_table.specs.CharsetsLeft.{row_charset, NoCharsetsLeft}
-use Rattle.binlog_table.specs.TableColumns.{Column, Parts, column_by, columns_by, typed, named, charset_by}
+use Rattle.binlog_table.specs.Lists.{taken_after}
+use Rattle.binlog_table.specs.KeysLeft.{key_left, keys_taken}
+use Rattle.binlog_table.specs.CharsetsLeft.{row_charset, charsets_taken, NoCharsetsLeft}
+use Rattle.binlog_table.specs.TableColumns.{Column, Parts, column_by, columns_by, typed, named, charset_by, ordinal_of}
+use Rattle.binlog_table.specs.Steps.{count_to, reads_name, takes_key}
 
 -- a column, without its place in memory
 abbrev pub seen_column : TableColumn → Column
@@ -92,6 +94,15 @@ Advances false f g = (k : ℕ) → g k ≡ f k
 -- the steps so far: one for each field, for each item of the lists, and for each column
 abbrev pub steps_of : Walk → ℕ
 steps_of w = w.fields + w.column + w.names.taken + w.keys.taken + w.characters.taken + w.enums.taken
+
+-- the steps once n more columns are walked over
+unfoldable pub steps_ahead : Walk → ℕ → ℕ
+steps_ahead w n =
+    let p = parts_left w in
+    w.fields + (w.column + n) + taken_after lenenc_string w.names (count_to (reads_name p) n)
+    + keys_taken w.keys (count_to (takes_key p) n)
+    + charsets_taken w.characters (ordinal_of (character_group w.server) p.type n)
+    + charsets_taken w.enums (ordinal_of (enum_or_set_group w.server) p.type n)
 
 -- the most steps without a further column, because each item of the lists takes at least a byte
 abbrev pub most_of : Walk → ℕ

@@ -12,11 +12,11 @@ ghost use Rattle.binlog_base.specs.Servers.{numeric_group, character_group, enum
 ghost use Rattle.binlog_table.specs.ColumnTypes.{some_of, real_type};
 ghost use Rattle.binlog_table.specs.RawTypes.{has_charset};
 ghost use Rattle.binlog_table.specs.Fields.{fields};
-ghost use Rattle.binlog_table.specs.CharsetsLeft.{row_charset};
-ghost use Rattle.binlog_table.specs.TableColumns.{typed, named, column_by, columns_by, column_at, table_columns, PassesFirst, PassesOver, PassesMany};
+ghost use Rattle.binlog_table.specs.CharsetsLeft.{row_charset, charsets_taken};
+ghost use Rattle.binlog_table.specs.TableColumns.{one_more, typed, named, column_by, columns_by, column_at, table_columns, PassesFirst, PassesOver, PassesMany};
 ghost use Rattle.binlog_table.specs.Extracted.{kept_of, kept_bytes, field_fault, fields_of};
 ghost use Rattle.binlog_table.specs.ColumnsLeft.{seen_column, bit_here, bits_after, charset_here, parts_left, columns_left, Follows, Advances, HasRoom, NoListsLeft, walk_at, steps_of, most_of};
-ghost use Rattle.binlog_table.specs.Lists.{Spends, count_of};
+ghost use Rattle.binlog_table.specs.Lists.{Spends, count_of, taken_after};
 ghost use Rattle.binlog_table.specs.declared.table_map.optional.columns.Walk.{Walk};
 
 use super::charsets::IterCharset;
@@ -112,6 +112,8 @@ fn next_name<'a>(names: &mut IterNames<'a>) -> Result<Option<ColumnName<'a>>, Fa
         ≡ named (items lenenc_string names.old.bytes) (suc j) }
     ensures spends { Spends names.old.taken (length names.old.bytes)
         names.new.taken (length names.new.bytes) }
+    ensures taken { (n : ℕ)
+        → taken_after lenenc_string names.new n ≡ taken_after lenenc_string names.old (suc n) }
 {
     match names.take_item() {
         None => Ok(None),
@@ -122,7 +124,7 @@ fn next_name<'a>(names: &mut IterNames<'a>) -> Result<Option<ColumnName<'a>>, Fa
 
 // Takes the character set of the next column, by its types; 0 where it has none.
 #[inline(always)]
-#[tactic(auto, using(crate::proofs::ColumnWalk::no_character, crate::proofs::ColumnWalk::no_choice))]
+#[tactic(auto, using(crate::proofs::ColumnWalk::no_character, crate::proofs::ColumnWalk::no_choice, crate::proofs::StepByStep::none_taken))]
 fn next_charset(
     server: Server,
     raw_type: RawType,
@@ -144,6 +146,14 @@ fn next_charset(
     ensures characters_spent { Spends characters.old.taken characters.old.room
         characters.new.taken characters.new.room }
     ensures enums_spent { Spends enums.old.taken enums.old.room enums.new.taken enums.new.room }
+    ensures characters_taken { characters.new.taken
+        ≡ charsets_taken characters.old (one_more (character_group server column_type) 0) }
+    ensures characters_ahead { OnOk result ((k : ℕ) → charsets_taken characters.new k
+        ≡ charsets_taken characters.old (one_more (character_group server column_type) k)) }
+    ensures enums_taken { enums.new.taken
+        ≡ charsets_taken enums.old (one_more (enum_or_set_group server column_type) 0) }
+    ensures enums_ahead { OnOk result ((k : ℕ) → charsets_taken enums.new k
+        ≡ charsets_taken enums.old (one_more (enum_or_set_group server column_type) k)) }
 {
     if !raw_type.has_charset() {
         Ok(0)

@@ -1,12 +1,13 @@
 //! The fields of optional metadata that describe the columns of rows.
 
-ghost use Rattle.std.specs.Prelude.{◌≡◌, ◌+◌, length, IfOk, IfErr, None, Some, []};
+ghost use Rattle.std.specs.Prelude.{◌≡◌, ◌+◌, min, length, IfOk, IfErr, None, Some, []};
 ghost use Rattle.binlog_base.specs.Items.{items, before_fault, first_fault};
 ghost use Rattle.binlog_base.specs.Numbers.{lenenc};
 ghost use Rattle.binlog_table.specs.Lists.{pair_with, Spends};
 ghost use Rattle.binlog_table.specs.Keys.{key_items};
 ghost use Rattle.binlog_table.specs.Extracted.{list_or, pair_bytes, IsStart};
 ghost use Rattle.binlog_table.specs.Fields.{fields as fields_in, kept};
+ghost use Rattle.binlog_table.specs.Steps.{up_to_fault};
 
 use super::charsets::{DefaultCharset, IterCharset};
 use super::fields::{OptionalMetadataField, OptionalMetadataIter};
@@ -75,6 +76,8 @@ impl<'a> OptionalMetaExtractor<'a> {
         ensures last { IfOk result (λ x. x ≡ kept (before_fault (fields_in fields.old))) }
         ensures count { IfOk result (λ _. fields.new.left.taken
             ≡ fields.old.left.taken + length (fields_in fields.old)) }
+        ensures read { fields.new.left.taken
+            ≡ fields.old.left.taken + up_to_fault (fields_in fields.old) }
         ensures fault { IfErr result (λ e. first_fault (fields_in fields.old) ≡ Some e) }
         ensures spends { Spends fields.old.left.taken (length fields.old.left.bytes)
             fields.new.left.taken (length fields.new.left.bytes) }
@@ -152,6 +155,7 @@ impl<'a> OptionalMetaExtractor<'a> {
         ensures spends { Spends 0
             (length (pair_bytes self.now.default) + length (list_or self.now.charsets))
             result.taken result.room }
+        ensures taken { result.taken ≡ min (length result.pairs) 1 }
     {
         group_of(&self.default, &self.charsets)
     }
@@ -163,6 +167,7 @@ impl<'a> OptionalMetaExtractor<'a> {
         ensures spends { Spends 0
             (length (pair_bytes self.now.enum_default) + length (list_or self.now.enum_charsets))
             result.taken result.room }
+        ensures taken { result.taken ≡ min (length result.pairs) 1 }
     {
         group_of(&self.enum_default, &self.enum_charsets)
     }
@@ -173,6 +178,7 @@ impl<'a> OptionalMetaExtractor<'a> {
         ensures spends { Spends 0
             (length (list_or self.now.simple) + length (list_or self.now.prefixed))
             result.taken result.room }
+        ensures taken { result.taken ≡ min (length result.keys) 1 }
         ensures keys { result.keys ≡ key_items
             (items lenenc (list_or self.now.simple))
             (items (pair_with lenenc) (list_or self.now.prefixed)) }
@@ -208,6 +214,7 @@ fn group_of<'a>(
     ensures start { IsStart default.now list.now result }
     ensures spends { Spends 0 (length (pair_bytes default.now) + length (list_or list.now))
         result.taken result.room }
+    ensures taken { result.taken ≡ min (length result.pairs) 1 }
 {
     let list = list_or_empty(list);
     match default {

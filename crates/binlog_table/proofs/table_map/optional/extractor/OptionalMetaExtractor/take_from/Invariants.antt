@@ -2,6 +2,7 @@ use Rattle.std.proofs.Common.{◌≡◌, ◌+◌, length}
 use Rattle.binlog_base.specs.Items.{before_fault, first_fault}
 use Rattle.binlog_table.specs.Fields.{fields, last_of, or_else, signs_in, default_in, charsets_in, names_in, simple_in, prefixed_in, enum_default_in, enum_charsets_in}
 use Rattle.binlog_table.specs.Lists.{Spends}
+use Rattle.binlog_table.specs.Steps.{up_to_fault}
 use Rattle.binlog_table.proofs.table_map.optional.extractor.OptionalMetaExtractor.take_from.Given as goal
 
 abbrev pub invariant-loop-item : goal.invariant-loop-item
@@ -10,6 +11,7 @@ invariant-loop-item l =
     let all = before_fault (fields l.fn.fields) in
     record {
       count : l.fields.left.taken + length (fields l.fields) ≡ l.fn.fields.left.taken + length (fields l.fn.fields);
+      read : l.fields.left.taken + up_to_fault (fields l.fields) ≡ l.fn.fields.left.taken + up_to_fault (fields l.fn.fields);
       spends : Spends l.fn.fields.left.taken (length l.fn.fields.left.bytes) l.fields.left.taken (length l.fields.left.bytes);
       fault : first_fault (fields l.fields) ≡ first_fault (fields l.fn.fields);
       signs : or_else (last_of signs_in left) l.signs ≡ last_of signs_in all;

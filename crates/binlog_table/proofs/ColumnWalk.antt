@@ -110,7 +110,7 @@ advance_at : (b : Bool) (f g : ℕ → Result ℕ Fault) → Advances b f g → 
 advance_at true f g h n = h n
 advance_at false f g h n = h n
 
-ordinal_same : (group : ColumnType → Bool) (s t : ℕ → Result ColumnType Fault) → ((j : ℕ) → s j ≡ t j) → (j : ℕ) → ordinal_of group s j ≡ ordinal_of group t j
+pub ordinal_same : (group : ColumnType → Bool) (s t : ℕ → Result ColumnType Fault) → ((j : ℕ) → s j ≡ t j) → (j : ℕ) → ordinal_of group s j ≡ ordinal_of group t j
 ordinal_same group s t h zero = refl
 ordinal_same group s t h (suc j) = rw (h 0, ordinal_same group (λ k. s (suc k)) (λ k. t (suc k)) (λ k. h (suc k)) j) refl
 
@@ -203,7 +203,7 @@ chunk_of_next : (v : Walk) (raw : ℕ) (types : List ℕ) (raw_type : ColumnType
 chunk_of_next v raw types raw_type e known =
     ap (λ (l : List ℕ). chunk_left (record { types = l; metadata = metadata_of v }) 0) e ∙ chunk_first raw types (metadata_of v) raw_type known
 
-type_of_next : (v : Walk) (raw : ℕ) (types : List ℕ) (raw_type : ColumnType) → v.types.now ≡ raw ∷ types → column_type_of raw ≡ Ok raw_type
+pub type_of_next : (v : Walk) (raw : ℕ) (types : List ℕ) (raw_type : ColumnType) → v.types.now ≡ raw ∷ types → column_type_of raw ≡ Ok raw_type
     → type_left v 0 ≡ typed (some_of (real_type raw_type (typed_chunk raw_type (metadata_of v))))
 type_of_next v raw types raw_type e known =
     let chunk = chunk_of_next v raw types raw_type e known in
@@ -211,6 +211,12 @@ type_of_next v raw types raw_type e known =
     ap (λ (c : Option (List ℕ)). typed (real_type_of (raw_type_of (Some raw)) c)) chunk ∙
     type_first raw (typed_chunk raw_type (metadata_of v)) ∙
     ap (λ (r : Result ColumnType Fault). r >>= λ x. typed (some_of (real_type x (typed_chunk raw_type (metadata_of v))))) known
+
+pub type_unknown : (v : Walk) (raw : ℕ) (types : List ℕ) (e : Fault) → v.types.now ≡ raw ∷ types → column_type_of raw ≡ Err e → type_left v 0 ≡ Err e
+type_unknown v raw types e is unknown =
+    ap (λ (l : List ℕ). typed (real_type_of (raw_type_of (slice_get l 0)) (chunk_left (chunks_of v) 0))) is ∙
+    type_first raw (chunk_left (chunks_of v) 0) ∙
+    ap (λ (r : Result ColumnType Fault). r >>= λ x. typed (some_of (real_type x (chunk_left (chunks_of v) 0)))) unknown
 
 numeric_known : (server : Server) (raw : ℕ) (raw_type : ColumnType) → column_type_of raw ≡ Ok raw_type → is_numeric_number server raw ≡ numeric_group server raw_type
 unfolding is_numeric_number

@@ -130,3 +130,12 @@ walk_at w n s signs = record w { types = s.types; metadata = Some s.metadata; si
 -- the columns that are left, up to the first with a fault
 unfoldable pub columns_left : Walk → List (Result Column Fault)
 columns_left w = columns_by (column_by (parts_left w)) (length w.types.now)
+
+-- the values of a function from 0 to n
+abbrev pub values_to : (ℕ → ℕ) → ℕ → List ℕ
+values_to f zero = f 0 ∷ []
+values_to f (suc n) = f 0 ∷ values_to (λ i. f (suc i)) n
+
+-- the steps once none, one, two and more of the columns that are left are walked over
+abbrev pub all_ahead : Walk → List ℕ
+all_ahead w = values_to (steps_ahead w) (length (columns_left w))

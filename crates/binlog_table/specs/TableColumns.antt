@@ -1,5 +1,5 @@
 -- The columns of a table, by its table map event.
-use Rattle.std.specs.Prelude.{◌≡◌, ℕ, zero, suc, ◌<◌, ◌&&◌, Bool, true, false, List, [], ◌∷◌, ◌++◌, map, length, take, Result, Ok, Err, Option, Some, None, MatchOption, slice_index_or, if◌then◌else◌}
+use Rattle.std.specs.Prelude.{◌≡◌, ℕ, zero, suc, ◌<◌, ◌&&◌, Bool, true, false, List, [], ◌∷◌, ◌++◌, map, length, take, Result, Ok, Err, Option, Some, None, MatchOption, slice_index_or, min, if◌then◌else◌}
 use Rattle.std.specs.Option.{option_map}
 use Rattle.binlog_base.specs.declared.fault.Fault.{Fault}
 use Rattle.binlog_base.specs.declared.fault.Fault.TheVariants.{NoColumnType}
@@ -47,12 +47,18 @@ column_by p i =
     Ok (record { column_type = type; metadata = p.chunk i; unsigned = p.sign i; charset = charset; name = name; is_key = is_key; json_place = p.json_place i })
 
 -- A walk over the columns: the fault of the optional metadata, the columns that are left, the steps
--- that were made, and how many there can be if no further column is taken.
+-- that were made, those once none, one, two and more of these columns are walked over, and how many
+-- steps there can be if no further column is taken.
 pub record ToCome : Type 0 where
   pub fault : Option Fault
   pub columns : List (Result Column Fault)
   pub steps : ℕ
+  pub ahead : List ℕ
   pub most : ℕ
+
+-- the steps once n more columns are walked over, or all that are left, if these are fewer
+abbrev pub steps_then : ToCome → ℕ → ℕ
+steps_then c n = slice_index_or c.ahead (min n (length c.columns)) 0
 
 -- a column, and those after it; none follows a fault
 abbrev pub column_then : Result Column Fault → List (Result Column Fault) → List (Result Column Fault)

@@ -1,6 +1,6 @@
 //! The columns of a table, in one walk over the lists that describe them.
 
-ghost use Rattle.std.specs.Prelude.{◌≡◌, false, ◌<◌, ◌≤◌, ◌+◌, ◌^◌, ℕ, suc, List, [], ◌∷◌, length, slice_get, IsTrue, IsFalse, Some, None, Ok, Err, OnOk, IfOk, IfErr, ◌==◌, if◌then◌else◌};
+ghost use Rattle.std.specs.Prelude.{◌≡◌, false, ◌<◌, ◌≤◌, ◌+◌, ◌^◌, ℕ, suc, List, [], ◌∷◌, length, slice_get, IsTrue, IsFalse, Some, None, Ok, Err, OnOk, IfOk, IfErr, IfSome, ◌==◌, if◌then◌else◌};
 ghost use Rattle.std.specs.Option.{option_map};
 ghost use Rattle.std.specs.Iterator.{YieldsFirstBy, item_count};
 ghost use Rattle.binlog_base.specs.Items.{items, result_map};
@@ -13,9 +13,9 @@ ghost use Rattle.binlog_table.specs.ColumnTypes.{some_of, real_type};
 ghost use Rattle.binlog_table.specs.RawTypes.{has_charset};
 ghost use Rattle.binlog_table.specs.Fields.{fields};
 ghost use Rattle.binlog_table.specs.CharsetsLeft.{row_charset, charsets_taken};
-ghost use Rattle.binlog_table.specs.TableColumns.{one_more, typed, named, column_by, columns_by, column_at, table_columns, PassesFirst, PassesOver, PassesMany};
+ghost use Rattle.binlog_table.specs.TableColumns.{one_more, typed, named, column_by, columns_by, column_at, table_columns, steps_then, PassesFirst, PassesOver, PassesMany};
 ghost use Rattle.binlog_table.specs.Extracted.{kept_of, kept_bytes, field_fault, fields_of};
-ghost use Rattle.binlog_table.specs.ColumnsLeft.{seen_column, bit_here, bits_after, charset_here, parts_left, columns_left, Follows, Advances, HasRoom, NoListsLeft, walk_at, steps_of, most_of};
+ghost use Rattle.binlog_table.specs.ColumnsLeft.{seen_column, bit_here, bits_after, charset_here, parts_left, columns_left, Follows, Advances, HasRoom, NoListsLeft, walk_at, steps_of, steps_ahead, most_of};
 ghost use Rattle.binlog_table.specs.Lists.{Spends, count_of, taken_after};
 ghost use Rattle.binlog_table.specs.declared.table_map.optional.columns.Walk.{Walk};
 
@@ -189,6 +189,9 @@ fn next_column<'a>(walk: &mut Walk<'a>) -> Result<TableColumn<'a>, Fault>
     ensures room { HasRoom walk.new }
     ensures steps { 0 < length walk.old.types.now → steps_of walk.old + 1 ≤ steps_of walk.new }
     ensures most { most_of walk.new ≤ most_of walk.old + 1 }
+    ensures exact { 0 < length walk.old.types.now → steps_of walk.new ≡ steps_ahead walk.old 1 }
+    ensures ahead { OnOk result
+        ((n : ℕ) → steps_ahead walk.new n ≡ steps_ahead walk.old (suc n)) }
 {
     let Some((raw, types)) = walk.types.split_first() else {
         return Err(Fault::NoColumnType);
@@ -285,6 +288,7 @@ fn pass_column(server: Server, stretch: &mut Stretch<'_>, signs: &mut BitIter<'_
 // Returns how many; 0 where something is left of the lists. Not inlined, so that the stretch stays
 // in registers.
 #[inline(never)]
+#[tactic(auto, using(crate::proofs::StepByStep::stretch_steps, crate::proofs::StepByStep::no_stretch))]
 fn pass_stretch(walk: &mut Walk<'_>, most: usize) -> usize
     requires room { HasRoom walk.old }
     ensures columns { PassesOver result (columns_left walk.old) (columns_left walk.new) }
@@ -292,6 +296,7 @@ fn pass_stretch(walk: &mut Walk<'_>, most: usize) -> usize
     ensures room { HasRoom walk.new }
     ensures steps { steps_of walk.old + result ≤ steps_of walk.new }
     ensures most { most_of walk.new ≤ most_of walk.old + result }
+    ensures ahead { (n : ℕ) → steps_ahead walk.new n ≡ steps_ahead walk.old (result + n) }
 {
     let Some(metadata) = walk.metadata else {
         return 0;
@@ -321,7 +326,7 @@ const MANY: usize = 8;
 // Passes over at most so many columns, up to the first with a fault, and returns how many. That may
 // be none: where they are few, or something is left of the lists.
 #[inline(always)]
-#[tactic(auto, using(crate::proofs::ColumnWalk::passes_none))]
+#[tactic(auto, using(crate::proofs::ColumnWalk::passes_none, crate::proofs::StepByStep::no_stretch))]
 fn pass_columns(walk: &mut Walk<'_>, most: usize) -> usize
     requires room { HasRoom walk.old }
     ensures columns { PassesOver result (columns_left walk.old) (columns_left walk.new) }
@@ -329,6 +334,7 @@ fn pass_columns(walk: &mut Walk<'_>, most: usize) -> usize
     ensures room { HasRoom walk.new }
     ensures steps { steps_of walk.old + result ≤ steps_of walk.new }
     ensures most { most_of walk.new ≤ most_of walk.old + result }
+    ensures ahead { (n : ℕ) → steps_ahead walk.new n ≡ steps_ahead walk.old (result + n) }
 {
     if most < MANY || !walk.names.is_at_end() {
         return 0;
@@ -389,7 +395,7 @@ pub struct TableColumns<'a> {
 
 impl<'a> Model for TableColumns<'a> {
     ghost use Rattle.binlog_table.specs.TableColumns.{ToCome};
-    ghost use Rattle.binlog_table.specs.ColumnsLeft.{columns_left, steps_of, most_of, HasRoom};
+    ghost use Rattle.binlog_table.specs.ColumnsLeft.{columns_left, steps_of, all_ahead, most_of, HasRoom};
 
     ghost Value = { ToCome };
 
@@ -397,6 +403,7 @@ impl<'a> Model for TableColumns<'a> {
       fault = c.fault;
       columns = columns_left c.walk;
       steps = steps_of c.walk;
+      ahead = all_ahead c.walk;
       most = most_of c.walk;
     } };
 
@@ -435,8 +442,10 @@ impl<'a> TableColumns<'a> {
 
     /// Returns how many steps were made: one for each field of the optional metadata, one for each
     /// item and fault that was taken of its lists, and one for each column.
+    #[tactic(auto, using(crate::proofs::StepByStep::then_now))]
     pub fn steps(&self) -> u128
         ensures value { result ≡ self.now.steps }
+        ensures exact { result ≡ steps_then self.now 0 }
         ensures bounded { result ≤ self.now.most }
         ensures fits { result < 2 ^ 70 }
     {
@@ -451,13 +460,16 @@ impl<'a> TableColumns<'a> {
 
     /// Takes the next column, or its fault. This is `next`, with the count of the steps.
     #[inline(always)]
-    #[tactic(auto, using(crate::proofs::ColumnWalk::walk_next, crate::proofs::ColumnWalk::walk_fault, crate::proofs::ColumnWalk::walk_end))]
+    #[tactic(auto, using(crate::proofs::ColumnWalk::walk_next, crate::proofs::ColumnWalk::walk_fault, crate::proofs::ColumnWalk::walk_end, crate::proofs::StepByStep::next_steps, crate::proofs::StepByStep::fault_steps, crate::proofs::StepByStep::end_steps))]
     pub fn take_column(&mut self) -> Option<Result<TableColumn<'a>, Fault>>
         ensures gives { YieldsFirstBy (λ r. result_map seen_column r) (λ s. s.columns)
             self.old result self.new }
         ensures fault { self.new.fault ≡ self.old.fault }
         ensures steps { self.old.steps + count_of result ≤ self.new.steps }
         ensures most { self.new.most ≤ self.old.most + count_of result }
+        // Nothing follows a fault.
+        ensures last { IfSome result (λ item. IfErr item (λ _. self.new.columns ≡ [])) }
+        ensures exact { (n : ℕ) → steps_then self.new n ≡ steps_then self.old (suc n) }
     {
         if self.walk.types.is_empty() {
             return None;
@@ -479,6 +491,9 @@ impl<'a> TableColumns<'a> {
         ensures fault { self.new.fault ≡ self.old.fault }
         ensures steps { self.old.steps + count_of result ≤ self.new.steps }
         ensures most { self.new.most ≤ self.old.most + count_of result }
+        // Nothing follows a fault.
+        ensures last { IfSome result (λ item. IfErr item (λ _. self.new.columns ≡ [])) }
+        ensures exact { (n : ℕ) → steps_then self.new n ≡ steps_then self.old (suc n) }
     {
         match self.take_column() {
             None => None,
@@ -502,6 +517,8 @@ impl<'a> TableColumns<'a> {
             + count_of (slice_get self.old.columns e.0) ≤ self.new.steps) }
         ensures bounded { IfErr result (λ e. self.new.most
             ≤ self.old.most + e.0 + count_of (slice_get self.old.columns e.0)) }
+        ensures last { IfErr result (λ _. self.new.columns ≡ []) }
+        ensures exact { (n : ℕ) → steps_then self.new n ≡ steps_then self.old (count + n) }
     {
         let mut passed = 0;
         let mut most = count;

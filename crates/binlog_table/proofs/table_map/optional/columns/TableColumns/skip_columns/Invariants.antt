@@ -1,5 +1,5 @@
-use Rattle.std.proofs.Common.{◌≡◌, ◌+◌, ◌-◌, ◌≤◌}
-use Rattle.binlog_table.specs.TableColumns.{PassesOver}
+use Rattle.std.proofs.Common.{ℕ, ◌≡◌, ◌+◌, ◌-◌, ◌≤◌}
+use Rattle.binlog_table.specs.TableColumns.{PassesOver, steps_then}
 use Rattle.binlog_table.proofs.table_map.optional.columns.TableColumns.skip_columns.Given as goal
 
 abbrev pub invariant-loop-passed : goal.invariant-loop-passed
@@ -9,6 +9,7 @@ invariant-loop-passed l = record {
   fault : l.self.fault ≡ l.fn.self.fault;
   steps : l.fn.self.steps + l.passed ≤ l.self.steps;
   most : l.self.most ≤ l.fn.self.most + l.passed;
+  exact : (n : ℕ) → steps_then l.self n ≡ steps_then l.fn.self (l.passed + n);
 }
 
 abbrev pub decreases-loop-passed : goal.decreases-loop-passed

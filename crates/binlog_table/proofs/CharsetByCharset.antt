@@ -10,7 +10,7 @@ use Rattle.binlog_table.specs.CharsetsLeft.{CharsetsLeft, charset_from, charsets
 
 -- ---- what is left tells what the definition tells
 
-above_all : (low : ℕ) (ps : List (ℕ × ℕ)) → low ≤ above_from low (pairs_from low ps)
+pub above_all : (low : ℕ) (ps : List (ℕ × ℕ)) → low ≤ above_from low (pairs_from low ps)
 above_all low [] = omega arith
 above_all low (p ∷ ps) = elim (cases_Bool (ltb p.0 low)) [
   | inl under ↦ rw under (omega arith)

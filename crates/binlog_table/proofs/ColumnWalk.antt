@@ -387,7 +387,7 @@ count_after n old at new r over first =
     ap (λ (c : Option (Result Column Fault)). count_of c) (next_after over.0 at) ∙ count_told at new r first
 
 -- what the kept fields tell
-abbrev parts_with : TableMap → Kept → Parts
+abbrev pub parts_with : TableMap → Kept → Parts
 parts_with t k = record {
   type = type_at t;
   chunk = chunk_at t.types t.metadata;

@@ -1,10 +1,12 @@
 -- Step by step: what is taken for each column adds up to what the definition tells.
-use Rattle.std.proofs.Common.{◌≡◌, ℕ, zero, suc, ◌+◌, ◌-◌, ◌<◌, ◌≤◌, Bool, true, false, cond, ltb, List, [], ◌∷◌, length, Option, Some, None, Result, Ok, Err, refl, sym, ap, ◌∙◌, arith, inl, inr}
+use Rattle.std.proofs.Common.{◌≡◌, ℕ, zero, suc, ◌+◌, ◌-◌, ◌<◌, ◌≤◌, Bool, true, false, cond, ltb, List, [], ◌∷◌, length, Option, Some, None, Result, Ok, Err, refl, sym, ap, subst, ◌∙◌, arith, inl, inr}
 use Rattle.std.proofs.lemmas.Bool.{ltb-true, ltb-false, le-ltb, cases_Bool}
 use Rattle.binlog_base.specs.declared.fault.Fault.{Fault}
 use Rattle.std.proofs.Common.{option_map, eqb, min, map, ◌++◌, length-append}
 use Rattle.std.proofs.lemmas.List.{length-map}
-use Rattle.std.specs.Prelude.{slice_index_or}
+use Rattle.std.specs.Prelude.{slice_index_or, count_by, nat_lt}
+use Rattle.std.proofs.Math.Dec.{eqb-suc-suc, eqb-zero-suc}
+use Rattle.std.proofs.lemmas.List.Sums.{sum_by-cons}
 use Rattle.std.specs.Result.{is_ok}
 use Rattle.binlog_base.specs.declared.below.columns.column_type.ColumnType.{ColumnType}
 use Rattle.binlog_base.specs.declared.below.columns.column_type.UnknownColumnType.{UnknownColumnType}
@@ -19,13 +21,23 @@ use Rattle.binlog_table.specs.ColumnTypes.{some_of, real_type}
 use Rattle.binlog_table.specs.Fields.{in_group}
 use Rattle.binlog_table.specs.Lists.{ListLeft, taken_after}
 use Rattle.binlog_table.specs.Chunks.{typed_chunk}
-use Rattle.binlog_table.specs.TableColumns.{Column, Parts, column_by, typed, one_more, ordinal_of, charset_by, PassesOver, ToCome, steps_then}
-use Rattle.binlog_table.specs.Steps.{count_to, reads_name, takes_key, is_of_key}
+use Rattle.binlog_table.specs.TableColumns.{Column, Parts, column_by, typed, one_more, ordinal_of, charset_by, PassesOver, ToCome, steps_then, type_at, column_at, columns_by, unless_faulty, table_columns}
+use Rattle.binlog_base.specs.Items.{before_fault}
+use Rattle.binlog_table.specs.Lists.{DefaultCharset, low_bits}
+use Rattle.binlog_table.specs.Charsets.{pairs_from, above_from}
+use Rattle.binlog_base.specs.Numbers.{lenenc}
+use Rattle.binlog_table.specs.TableMap.{TableMap}
+use Rattle.binlog_table.specs.Lists.{pair_with}
+use Rattle.binlog_table.specs.Fields.{Kept, fields}
+use Rattle.binlog_table.specs.Keys.{key_items}
+use Rattle.binlog_table.specs.Extracted.{IsStart, list_or, pairs_or, kept_of, fields_of, field_fault}
+use Rattle.binlog_table.specs.Steps.{up_to_fault, names_read, keys_read, charsets_read, columns_read, unless_fault, steps_after, count_to, reads_name, takes_key, is_of_key}
 use Rattle.binlog_table.specs.KeysLeft.{KeysLeft, keys_taken}
 use Rattle.binlog_table.specs.CharsetsLeft.{CharsetsLeft, charsets_ahead, charsets_taken, row_charset}
 use Rattle.binlog_table.specs.ColumnsLeft.{parts_left, columns_left, Follows, type_left, steps_of, steps_ahead, values_to, all_ahead, NoListsLeft}
-use Rattle.binlog_table.proofs.KeyByKey.{key_now}
-use Rattle.binlog_table.proofs.ColumnWalk.{ordinal_same, type_of_next, type_unknown, parts_of_next, metadata_of}
+use Rattle.binlog_table.proofs.KeyByKey.{key_now, keys_of_table}
+use Rattle.binlog_table.proofs.CharsetByCharset.{above_all}
+use Rattle.binlog_table.proofs.ColumnWalk.{ordinal_same, charset_start, parts_with, type_of_next, type_unknown, parts_of_next, metadata_of}
 
 -- no column takes nothing
 none_ahead : (low : ℕ) (pairs : List (Result (ℕ × ℕ) Fault)) (list : List (Result ℕ Fault)) → charsets_ahead low (low + 0) pairs list ≡ 0
@@ -269,3 +281,121 @@ pub last_steps : (s t : ToCome) (m count : ℕ) → ((n : ℕ) → steps_then s 
 last_steps s t m count before none lt n =
     let more : m + 1 + (count - (m + 1) + n) ≡ count + n = omega (arith, lt) in
     no_steps s n (count - (m + 1) + n) none ∙ before (count - (m + 1) + n) ∙ ap (steps_then t) more
+
+-- ---- at the first column
+
+-- pairs whose columns are at least `end` have none below it
+none_under : (end low : ℕ) (ps : List (ℕ × ℕ)) → end ≤ low → count_by (λ p. nat_lt p.0 end) (pairs_from low ps) ≡ 0
+none_under end low [] le = refl
+none_under end low (p ∷ ps) le = elim (cases_Bool (ltb p.0 low)) [
+  | inl under ↦ rw under refl
+  | inr over ↦
+      let least : low ≤ p.0 = ltb-false p.0 low over in
+      let not_under : ltb p.0 end ≡ false = le-ltb p.0 end (omega (arith, le, least)) in
+      let counted : count_by (λ (q : ℕ × ℕ). nat_lt q.0 end) (p ∷ pairs_from (suc p.0) ps) ≡ cond (ltb p.0 end) 1 0 + count_by (λ (q : ℕ × ℕ). nat_lt q.0 end) (pairs_from (suc p.0) ps) =
+      sum_by-cons (λ (q : ℕ × ℕ). cond (nat_lt q.0 end) 1 0) p (pairs_from (suc p.0) ps) in
+      rw (over, counted, not_under, none_under end (suc p.0) ps (omega (arith, le, least))) refl
+]
+
+no_list : (b : Bool) (n m : ℕ) → m ≡ 0 → cond b (min n m) 0 ≡ 0
+no_list true n m h = omega (arith, h)
+no_list false n m h = refl
+
+-- what is read of a group's lists, from a column on
+abbrev read_from : ℕ → ℕ → List (Result (ℕ × ℕ) Fault) → List (Result ℕ Fault) → ℕ
+read_from low end pairs list =
+    let prefix = pairs_from low (before_fault pairs) in
+    min (length pairs) (1 + count_by (λ p. nat_lt p.0 end) prefix) + cond (eqb (length prefix) (length pairs)) (min (length list) (end - above_from low prefix)) 0
+
+read_law : (low end : ℕ) (pairs : List (Result (ℕ × ℕ) Fault)) (list : List (Result ℕ Fault)) → min (length pairs) 1 + charsets_ahead low end pairs list ≡ read_from low end pairs list
+read_law low end [] list = omega arith
+read_law low end (Err e ∷ ps) list = rw (eqb-zero-suc (length ps)) (omega arith)
+read_law low end (Ok p ∷ ps) list = elim (cases_Bool (ltb p.0 low)) [
+  | inl under ↦ rw (under, eqb-zero-suc (length ps)) (omega arith)
+  | inr over ↦
+      let prefix = pairs_from (suc p.0) (before_fault ps) in
+      let counted : count_by (λ (q : ℕ × ℕ). nat_lt q.0 end) (p ∷ prefix) ≡ cond (ltb p.0 end) 1 0 + count_by (λ (q : ℕ × ℕ). nat_lt q.0 end) prefix =
+      sum_by-cons (λ (q : ℕ × ℕ). cond (nat_lt q.0 end) 1 0) p prefix in
+      elim (cases_Bool (ltb p.0 end)) [
+        | inl before ↦ rw (over, counted, before, eqb-suc-suc (length prefix) (length ps)) (omega (arith, read_law (suc p.0) end ps list))
+        | inr after_it ↦
+            let least : end ≤ p.0 = ltb-false p.0 end after_it in
+            let past : end - above_from (suc p.0) prefix ≡ 0 = omega (arith, least, above_all (suc p.0) (before_fault ps)) in
+            rw (over, counted, after_it, none_under end (suc p.0) (before_fault ps) (omega (arith, least)), no_list (eqb (suc (length prefix)) (suc (length ps))) (length list) (end - above_from (suc p.0) prefix) past) (omega arith)
+      ]
+]
+
+names_start : (l : ListLeft) (bytes : List ℕ) (c d : ℕ) → l ≡ record { bytes = bytes; taken = 0 } → c ≡ d → taken_after lenenc_string l c ≡ min (length (items lenenc_string bytes)) d
+names_start l bytes c d h e = rw (h, e) (omega arith)
+
+keys_start : (l : KeysLeft) (keys : List (Result ℕ Fault)) (c d : ℕ) → l.keys ≡ keys → l.taken ≡ min (length l.keys) 1 → c ≡ d → keys_taken l c ≡ min (length keys) (1 + d)
+keys_start l keys c d h t e = rw (t, h, e) (omega arith)
+
+group_read : (l : CharsetsLeft) (d : Option DefaultCharset) (list : Option (List ℕ)) (c k : ℕ) → IsStart d list l → l.taken ≡ min (length l.pairs) 1 → c ≡ k → charsets_taken l c ≡ charsets_read (pairs_or d) (items (low_bits 16) (list_or list)) k
+group_read l d list c k s t e =
+    let at : 0 + k ≡ k = omega arith in
+    rw (t, e, s.ordinal, at, s.pairs, s.list) (read_law 0 k (pairs_or d) (items (low_bits 16) (list_or list)))
+
+-- what is read for the first n columns, by the kept fields
+abbrev read_with : TableMap → Kept → ℕ → ℕ
+read_with t k n =
+    let p = parts_with t k in
+    n + names_read p (items lenenc_string (list_or k.names)) n
+    + keys_read p (key_items (items lenenc (list_or k.simple)) (items (pair_with lenenc) (list_or k.prefixed))) n
+    + charsets_read (pairs_or k.default) (items (low_bits 16) (list_or k.charsets)) (ordinal_of (character_group t.server) p.type n)
+    + charsets_read (pairs_or k.enum_default) (items (low_bits 16) (list_or k.enum_charsets)) (ordinal_of (enum_or_set_group t.server) p.type n)
+
+regroup : (f n a b c d : ℕ) → f + n + a + b + c + d ≡ f + (n + a + b + c + d)
+regroup f n a b c d = omega arith
+
+parts_start : (w : Walk) (p : Parts) (s : Server) (l : ListLeft) (key : KeysLeft) (n f : ℕ) (names keys characters enums : ℕ → ℕ)
+    → ((j : ℕ) → (parts_left w).type j ≡ p.type j) → ((j : ℕ) → (parts_left w).charset j ≡ p.charset j) → ((j : ℕ) → (parts_left w).name j ≡ p.name j) → ((j : ℕ) → (parts_left w).key j ≡ p.key j)
+    → w.server ≡ s → w.fields ≡ f → w.column ≡ 0
+    → ((c d : ℕ) → c ≡ d → taken_after lenenc_string w.names c ≡ names d) → ((c d : ℕ) → c ≡ d → keys_taken w.keys c ≡ keys d)
+    → ((c d : ℕ) → c ≡ d → charsets_taken w.characters c ≡ characters d) → ((c d : ℕ) → c ≡ d → charsets_taken w.enums c ≡ enums d)
+    → steps_ahead w n ≡ f + (n + names (count_to (reads_name p) n) + keys (count_to (takes_key p) n) + characters (ordinal_of (character_group s) p.type n) + enums (ordinal_of (enum_or_set_group s) p.type n))
+unfolding steps_ahead
+parts_start w p s l key n f names keys characters enums type charset name is_key server fields column hn hk hc he =
+    let q = parts_left w in
+    let group : (g : ColumnType → Bool) → ordinal_of g q.type n ≡ ordinal_of g p.type n = λ g. ordinal_same g q.type p.type type n in
+    six_same w.fields f (w.column + n) n _ _ _ _ _ _ _ _ fields (omega (arith, column))
+    (hn (count_to (reads_name q) n) (count_to (reads_name p) n) (count_same (reads_name q) (reads_name p) (λ j. name_same p q j j (type j) (charset j)) n))
+    (hk (count_to (takes_key q) n) (count_to (takes_key p) n) (count_same (takes_key q) (takes_key p) (λ j. key_same p q j j (type j) (charset j) (name j) (is_key j)) n))
+    (hc (ordinal_of (character_group w.server) q.type n) (ordinal_of (character_group s) p.type n) (ap (λ (x : Server). ordinal_of (character_group x) q.type n) server ∙ group (character_group s)))
+    (he (ordinal_of (enum_or_set_group w.server) q.type n) (ordinal_of (enum_or_set_group s) p.type n) (ap (λ (x : Server). ordinal_of (enum_or_set_group x) q.type n) server ∙ group (enum_or_set_group s))) ∙
+    regroup f n (names (count_to (reads_name p) n)) (keys (count_to (takes_key p) n)) (characters (ordinal_of (character_group s) p.type n)) (enums (ordinal_of (enum_or_set_group s) p.type n))
+
+pub start_steps : (w : Walk) (t : TableMap) (k : Kept) (f : ℕ) → k ≡ kept_of t → w.server ≡ t.server → w.types.now ≡ t.types → option_map (λ m. m.now) w.metadata ≡ Some t.metadata
+    → IsStart k.default k.charsets w.characters → w.characters.taken ≡ min (length w.characters.pairs) 1 → IsStart k.enum_default k.enum_charsets w.enums → w.enums.taken ≡ min (length w.enums.pairs) 1
+    → w.names ≡ record { bytes = list_or k.names; taken = 0 } → w.keys.keys ≡ key_items (items lenenc (list_or k.simple)) (items (pair_with lenenc) (list_or k.prefixed))
+    → w.keys.taken ≡ min (length w.keys.keys) 1 → w.fields ≡ f → w.column ≡ 0 → (n : ℕ) → steps_ahead w n ≡ f + columns_read t n
+unfolding parts_left
+start_steps w t k f is server types metadata characters some_characters enums some_enums names keys some_keys fields column n =
+    let types_same : (j : ℕ) → type_left w j ≡ type_at t j = λ j. rw (types, metadata) refl in
+    let all_keys = key_items (items lenenc (list_or k.simple)) (items (pair_with lenenc) (list_or k.prefixed)) in
+    subst (λ (x : Kept). steps_ahead w n ≡ f + read_with t x n) is
+    (parts_start w (parts_with t k) t.server w.names w.keys n f (λ d. min (length (items lenenc_string (list_or k.names))) d) (λ d. min (length all_keys) (1 + d))
+    (λ d. charsets_read (pairs_or k.default) (items (low_bits 16) (list_or k.charsets)) d) (λ d. charsets_read (pairs_or k.enum_default) (items (low_bits 16) (list_or k.enum_charsets)) d)
+    types_same
+    (λ j. rw server (charset_start t.server w.characters w.enums k.default k.enum_default k.charsets k.enum_charsets (type_left w) (type_at t) characters enums types_same j))
+    (λ j. rw names refl) (λ j. rw (column, keys) (keys_of_table _ j)) server fields column
+    (λ c d e. names_start w.names (list_or k.names) c d names e) (λ c d e. keys_start w.keys all_keys c d keys some_keys e)
+    (λ c d e. group_read w.characters k.default k.charsets c d characters some_characters e) (λ c d e. group_read w.enums k.enum_default k.enum_charsets c d enums some_enums e))
+
+-- a table's steps, by the fault of its optional metadata
+pub steps_whole : (w : Walk) (t : TableMap) (f n : ℕ) → columns_left w ≡ columns_by (column_at t) (length t.types) → field_fault t ≡ None → f ≡ up_to_fault (fields (fields_of t))
+    → ((m : ℕ) → steps_ahead w m ≡ f + columns_read t m) → then_of w n ≡ steps_after t n
+unfolding steps_after
+steps_whole w t f n columns none made ahead =
+    let there : table_columns t ≡ columns_by (column_at t) (length t.types) = ap (λ (x : Option Fault). unless_faulty x (columns_by (column_at t) (length t.types))) none in
+    let many : min n (length (columns_left w)) ≡ min n (length (table_columns t)) = ap (λ (l : List (Result Column Fault)). min n (length l)) (columns ∙ sym there) in
+    then_is w n ∙ ahead (min n (length (columns_left w))) ∙ ap (λ (m : ℕ). f + columns_read t m) many ∙ ap (λ (x : ℕ). x + columns_read t (min n (length (table_columns t)))) made ∙
+    ap (λ (x : Option Fault). up_to_fault (fields (fields_of t)) + unless_fault x (columns_read t (min n (length (table_columns t))))) (sym none)
+
+pub steps_faulty : (w : Walk) (t : TableMap) (e : Fault) (n : ℕ) → columns_left w ≡ [] → field_fault t ≡ Some e → steps_of w ≡ up_to_fault (fields (fields_of t)) → then_of w n ≡ steps_after t n
+unfolding steps_after
+steps_faulty w t e n columns fault made =
+    let none : min n (length (columns_left w)) ≡ 0 = omega (arith, ap length columns) in
+    let all : up_to_fault (fields (fields_of t)) ≡ up_to_fault (fields (fields_of t)) + 0 = omega arith in
+    then_is w n ∙ ap (steps_ahead w) none ∙ ahead_none w ∙ made ∙ all ∙
+    ap (λ (x : Option Fault). up_to_fault (fields (fields_of t)) + unless_fault x (columns_read t (min n (length (table_columns t))))) (sym fault)

@@ -16,6 +16,7 @@ ghost use Rattle.binlog_table.specs.CharsetsLeft.{row_charset, charsets_taken};
 ghost use Rattle.binlog_table.specs.TableColumns.{one_more, typed, named, column_by, columns_by, column_at, table_columns, steps_then, PassesFirst, PassesOver, PassesMany};
 ghost use Rattle.binlog_table.specs.Extracted.{kept_of, kept_bytes, field_fault, fields_of};
 ghost use Rattle.binlog_table.specs.ColumnsLeft.{seen_column, bit_here, bits_after, charset_here, parts_left, columns_left, Follows, Advances, HasRoom, NoListsLeft, walk_at, steps_of, steps_ahead, most_of};
+ghost use Rattle.binlog_table.specs.Steps.{columns_read, steps_after};
 ghost use Rattle.binlog_table.specs.Lists.{Spends, count_of, taken_after};
 ghost use Rattle.binlog_table.specs.declared.table_map.optional.columns.Walk.{Walk};
 
@@ -364,6 +365,8 @@ fn walk_of<'a>(
     ensures none { types.now ≡ [] → columns_left result ≡ [] }
     ensures steps { fields ≤ steps_of result }
     ensures most { most_of result ≤ fields + kept_bytes kept.now }
+    ensures exact { kept.now ≡ kept_of table.now → types.now ≡ table.now.types
+        → (n : ℕ) → steps_ahead result n ≡ fields + columns_read table.now n }
     ensures room { HasRoom result }
 {
     Walk {
@@ -418,6 +421,7 @@ impl<'a> TableColumns<'a> {
         // Each field is a step.
         ensures steps { result.fault ≡ None → length (fields (fields_of table.now)) ≤ result.steps }
         ensures most { result.most ≤ length table.now.optional_metadata }
+        ensures exact { (n : ℕ) → steps_then result n ≡ steps_after table.now n }
     {
         let mut fields = table.iter_optional_meta();
         match OptionalMetaExtractor::take_from(&mut fields) {

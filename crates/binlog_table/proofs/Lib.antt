@@ -6,6 +6,6 @@ pub mod Strings
 pub mod CharsetByCharset
 pub mod ColumnWalk
 pub mod StepByStep
+pub mod StepsByHand
 pub mod Bounds
 pub mod TypeTables
-pub mod Example

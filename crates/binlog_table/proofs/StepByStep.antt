@@ -1,27 +1,22 @@
 -- Step by step: what is taken for each column adds up to what the definition tells.
 use Rattle.std.proofs.Common.{◌≡◌, ℕ, zero, suc, ◌+◌, ◌-◌, ◌<◌, ◌≤◌, Bool, true, false, cond, ltb, List, [], ◌∷◌, length, Option, Some, None, Result, Ok, Err, refl, sym, ap, subst, ◌∙◌, arith, inl, inr}
-use Rattle.std.proofs.lemmas.Bool.{ltb-true, ltb-false, le-ltb, cases_Bool}
+use Rattle.std.proofs.lemmas.Bool.{ltb-false, le-ltb, cases_Bool}
 use Rattle.binlog_base.specs.declared.fault.Fault.{Fault}
-use Rattle.std.proofs.Common.{option_map, eqb, min, map, ◌++◌, length-append}
+use Rattle.std.proofs.Common.{option_map, eqb, min, map, length-append}
 use Rattle.std.proofs.lemmas.List.{length-map}
 use Rattle.std.specs.Prelude.{slice_index_or, count_by, nat_lt}
 use Rattle.std.proofs.Math.Dec.{eqb-suc-suc, eqb-zero-suc}
 use Rattle.std.proofs.lemmas.List.Sums.{sum_by-cons}
-use Rattle.std.specs.Result.{is_ok}
 use Rattle.binlog_base.specs.declared.below.columns.column_type.ColumnType.{ColumnType}
-use Rattle.binlog_base.specs.declared.below.columns.column_type.UnknownColumnType.{UnknownColumnType}
 use Rattle.binlog_base.specs.ColumnTypes.{column_type_of}
-use Rattle.binlog_base.specs.Format.{◌>>=◌}
 use Rattle.binlog_base.specs.Strings.{lenenc_string}
 use Rattle.binlog_base.specs.Items.{items}
 use Rattle.binlog_base.specs.declared.below.columns.server.Server.{Server}
 use Rattle.binlog_base.specs.Servers.{character_group, enum_or_set_group}
 use Rattle.binlog_table.specs.declared.table_map.optional.columns.Walk.{Walk}
-use Rattle.binlog_table.specs.ColumnTypes.{some_of, real_type}
 use Rattle.binlog_table.specs.Fields.{in_group}
 use Rattle.binlog_table.specs.Lists.{ListLeft, taken_after}
-use Rattle.binlog_table.specs.Chunks.{typed_chunk}
-use Rattle.binlog_table.specs.TableColumns.{Column, Parts, column_by, typed, one_more, ordinal_of, charset_by, PassesOver, ToCome, steps_then, type_at, column_at, columns_by, unless_faulty, table_columns}
+use Rattle.binlog_table.specs.TableColumns.{Column, Parts, one_more, ordinal_of, charset_by, PassesOver, ToCome, steps_then, type_at, column_at, columns_by, unless_faulty, table_columns}
 use Rattle.binlog_base.specs.Items.{before_fault}
 use Rattle.binlog_table.specs.Lists.{DefaultCharset, low_bits}
 use Rattle.binlog_table.specs.Charsets.{pairs_from, above_from}
@@ -37,7 +32,7 @@ use Rattle.binlog_table.specs.CharsetsLeft.{CharsetsLeft, charsets_ahead, charse
 use Rattle.binlog_table.specs.ColumnsLeft.{parts_left, columns_left, Follows, type_left, steps_of, steps_ahead, values_to, all_ahead, NoListsLeft}
 use Rattle.binlog_table.proofs.KeyByKey.{key_now, keys_of_table}
 use Rattle.binlog_table.proofs.CharsetByCharset.{above_all}
-use Rattle.binlog_table.proofs.ColumnWalk.{ordinal_same, charset_start, parts_with, type_of_next, type_unknown, parts_of_next, metadata_of}
+use Rattle.binlog_table.proofs.ColumnWalk.{ordinal_same, charset_start, parts_with, type_of_next, type_unknown, parts_of_next}
 
 -- no column takes nothing
 none_ahead : (low : ℕ) (pairs : List (Result (ℕ × ℕ) Fault)) (list : List (Result ℕ Fault)) → charsets_ahead low (low + 0) pairs list ≡ 0
@@ -249,8 +244,10 @@ pub stretch_steps : (v w : Walk) (m : ℕ) → NoListsLeft v → w.fields ≡ v.
     → (n : ℕ) → steps_ahead w n ≡ steps_ahead v (m + n)
 stretch_steps v w m none fields column names keys characters enums n =
     let still : NoListsLeft w = record {
-      names = rw names none.names; keys = rw keys none.keys;
-      characters = rw characters none.characters; enums = rw enums none.enums;
+      names = rw names none.names;
+      keys = rw keys none.keys;
+      characters = rw characters none.characters;
+      enums = rw enums none.enums;
     } in
     rw (lists_done v (m + n) none, lists_done w n still, fields, column, names, keys, characters, enums) (omega arith)
 

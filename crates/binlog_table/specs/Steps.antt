@@ -1,6 +1,6 @@
 -- How many steps a walk over a table's columns takes: one for each field, item or fault that is read
 -- of the optional metadata, and one for each column that is walked over.
-use Rattle.std.specs.Prelude.{ℕ, zero, suc, ◌+◌, ◌-◌, ◌==◌, ◌&&◌, nat_lt, min, Bool, true, false, List, [], ◌∷◌, length, count_by, Result, Ok, Err, Option, Some, None, if◌then◌else◌}
+use Rattle.std.specs.Prelude.{ℕ, zero, suc, ◌+◌, ◌-◌, ◌==◌, ◌&&◌, nat_lt, min, Bool, true, List, [], ◌∷◌, length, count_by, Result, Ok, Err, Option, Some, None, if◌then◌else◌}
 use Rattle.std.specs.Result.{is_ok}
 use Rattle.binlog_base.specs.declared.fault.Fault.{Fault}
 use Rattle.binlog_base.specs.Format.{◌>>=◌}

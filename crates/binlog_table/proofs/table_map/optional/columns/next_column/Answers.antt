@@ -1,4 +1,4 @@
-use Rattle.std.proofs.Common.{rules, refl}
+use Rattle.std.proofs.Common.{rules}
 use Rattle.binlog_table.proofs.ColumnWalk.{column_of_next, walk_follows, parts_of_next}
 use Rattle.binlog_table.proofs.StepByStep.{step_first, step_unknown, step_type_fault, step_charset_fault, step_name_fault, step_key, step_later}
 use Rattle.binlog_table.proofs.table_map.optional.columns.next_column.Goals as goal

@@ -1,9 +1,8 @@
-use Rattle.std.proofs.Common.{◌≡◌, ◌∷◌, [], ℕ, suc, Ok, Err, rules, refl, ap, sym, ◌∙◌}
-use Rattle.binlog_table.specs.declared.table_map.optional.columns.Walk.{Walk}
+use Rattle.std.proofs.Common.{suc, rules, refl, ap, ◌∙◌}
 use Rattle.binlog_table.specs.TableColumns.{ToCome, steps_then}
-use Rattle.binlog_table.specs.ColumnsLeft.{seen_column, columns_left}
+use Rattle.binlog_table.specs.ColumnsLeft.{seen_column}
 use Rattle.binlog_table.proofs.ColumnWalk.{walk_next, walk_fault, walk_end}
-use Rattle.binlog_table.proofs.StepByStep.{then_of, next_steps, fault_steps}
+use Rattle.binlog_table.proofs.StepByStep.{next_steps, fault_steps}
 use Rattle.binlog_table.proofs.table_map.optional.columns.TableColumns.take_column.Goals as goal
 
 pub returns-in-Ok-clause-exact : goal.returns-in-Ok-clause-exact

@@ -14,7 +14,15 @@ pub record ColumnList : Type 0 where
 -- a column, by where the names of the schema and of the table end in the text of all names; the
 -- table's name is also that of the original table
 abbrev pub listed_column : ℕ → ℕ → List ℕ → Listed → ColumnView
-listed_column schema_end table_end text l = record { column_type = l.column_type; schema = cut 0 schema_end text; table = cut schema_end table_end text; org_table = cut schema_end table_end text; name = cut l.start l.end text; flags = l.flags; character_set = l.character_set }
+listed_column schema_end table_end text l = record {
+  column_type = l.column_type;
+  schema = cut 0 schema_end text;
+  table = cut schema_end table_end text;
+  org_table = cut schema_end table_end text;
+  name = cut l.start l.end text;
+  flags = l.flags;
+  character_set = l.character_set;
+}
 
 -- the name of a column stands in a text of this length
 pub record IsInside (n : ℕ) (l : Listed) : Type 0 where

@@ -244,7 +244,7 @@ abbrev pub element_cell : ColumnType → List ℕ → Bool → Bool → Format C
 element_cell column.MYSQL_TYPE_JSON metadata unsigned partial = json_cell partial
 element_cell type metadata unsigned partial = map_value (plain_cell type metadata unsigned) PlainCell
 
--- a cell of an array of this type, or of a number that is no type's
+-- a cell of an array of this type; Unhandled for a number that is no type's
 abbrev pub inner_cell : Result ColumnType Fault → List ℕ → Bool → Bool → Format Cell
 inner_cell (Ok type) metadata unsigned partial = element_cell type metadata unsigned partial
 inner_cell (Err e) metadata unsigned partial = refusal Unhandled

@@ -1,5 +1,5 @@
--- How the cells of a column are read, which is found out once for a column, and that by this the
--- cells of its type and metadata are read.
+-- How the code reads the cells of a column: by a form, which is found out once for the column. That
+-- this reads the cells of Cells is a lemma (Lemmas.Forms).
 use Rattle.std.specs.Prelude.{ℕ, Bool, List, [], ◌∷◌, nat_lt, if◌then◌else◌, Result, Ok, Err}
 use Rattle.binlog_base.specs.declared.below.columns.column_type.ColumnType.{ColumnType}
 use Rattle.binlog_base.specs.declared.fault.Fault.{Fault}
@@ -138,10 +138,7 @@ unfoldable pub cell_by : Bool → Form → Format Cell
 cell_by partial (way.Plain f) = map_value (plain_by f) PlainCell
 cell_by partial way.Json = json_cell partial
 
--- the bytes of a cell of a column of this type and metadata, signed or unsigned, partial or not
-unfoldable pub cell : ColumnType → List ℕ → Bool → Bool → Format Cell
-cell type metadata unsigned partial = sequence (check (form_of type metadata unsigned)) (cell_by partial)
-
--- the bytes of a cell that is read in the way that is found out; or the fault of its column
+-- the bytes of a cell, read by the form that is found out once for its column; or the fault of the
+-- column
 unfoldable pub cell_by_form : ColumnType → List ℕ → Bool → Bool → Format Cell
 cell_by_form type metadata unsigned partial = sequence (check (form_of type metadata unsigned)) (cell_by partial)

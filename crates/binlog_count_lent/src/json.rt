@@ -2,7 +2,7 @@
 
 ghost use Rattle.std.specs.Prelude.{◌≤◌};
 ghost use Rattle.binlog_file.specs.Changes.{most_left};
-ghost use Rattle.binlog_file.specs.Walks.{spot_of};
+ghost use Rattle.binlog_file.specs.Workings.Walks.{spot_of};
 
 use binlog_base::fault::Fault;
 use binlog_file::changes::FileChanges;

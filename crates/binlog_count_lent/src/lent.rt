@@ -2,9 +2,9 @@
 
 ghost use Rattle.std.specs.Prelude.{◌≤◌};
 ghost use Rattle.binlog_file.specs.Changes.{most_left};
-ghost use Rattle.binlog_file.specs.Walks.{spot_of};
+ghost use Rattle.binlog_file.specs.Workings.Walks.{spot_of};
 ghost use Rattle.binlog_file.specs.SourceChanges.{items_left};
-ghost use Rattle.binlog_file.specs.SourceWalks.{reading_in};
+ghost use Rattle.binlog_file.specs.Workings.SourceWalks.{reading_in};
 
 use crate::count::Count;
 use binlog_base::below::{Counted, Source};

@@ -12,7 +12,7 @@ use Rattle.std.specs.Iterator.{YieldsFirstBy, ComparesItemsByCmp}
 use Rattle.std.specs.Cmp.Lexicographic.{slice_cmp}
 use borrow.Rule.Slice.PartMut.{put_mid}
 use Rattle.binlog_decimal.specs.declared.decimal.pack.PackedBytes.{PackedBytes}
-use Rattle.binlog_decimal.specs.DecimalPacking.{packed_left}
+use Rattle.binlog_decimal.specs.Workings.DecimalPacking.{packed_left}
 use Rattle.binlog_decimal.specs.Decimals.{group_bytes, grouped_bytes, integer_groups, fraction_groups}
 
 -- ---- the bytes of the first group, and of those after it

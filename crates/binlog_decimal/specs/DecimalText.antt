@@ -47,7 +47,11 @@ are_digits before after = list_all is_digit (before ++ after) && nat_lt 0 (lengt
 abbrev pub decimal_with : Bool → List ℕ → List ℕ → Option DecimalView
 decimal_with minus before after =
     if are_digits before after
-    then Some (record { negative = minus && not (list_all is_zero (before ++ after)); integer = digits_of before; fraction = digits_of after })
+    then Some (record {
+      negative = minus && not (list_all is_zero (before ++ after));
+      integer = digits_of before;
+      fraction = digits_of after;
+    })
     else None
 
 -- the decimal of an optional sign and digits with an optional point

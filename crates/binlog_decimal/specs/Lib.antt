@@ -5,11 +5,11 @@ pub mod TimeCharacters
 pub mod Decimals
 pub mod DecimalGroups
 pub mod DecimalMasks
-pub mod DecimalPacking
 pub mod DecimalReads
 pub mod PackedDecimals
 pub mod LentDecimals
 pub mod DecimalLaws
 pub mod DecimalOrder
 pub mod DecimalText
+pub mod Workings
 pub mod Lemmas

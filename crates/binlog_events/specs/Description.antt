@@ -44,8 +44,20 @@ lens_of n version created =
     (sequence (part (take_bytes (n - 58))) (λ lens.
     sequence (part (little_endian 1)) (λ number.
     sequence (check (algorithm number)) (λ sums.
-    map_value all_left (λ _. record { server = server_of version; server_version = version; created = created; post_header_lens = lens; has_checksums = sums })))))
-    (map_value all_left (λ lens. record { server = server_of version; server_version = version; created = created; post_header_lens = lens; has_checksums = false }))
+    map_value all_left (λ _. record {
+      server = server_of version;
+      server_version = version;
+      created = created;
+      post_header_lens = lens;
+      has_checksums = sums;
+    })))))
+    (map_value all_left (λ lens. record {
+      server = server_of version;
+      server_version = version;
+      created = created;
+      post_header_lens = lens;
+      has_checksums = false;
+    }))
 
 -- A body of n bytes, without its checksum: the binlog version, the server's version, the time of
 -- creation, the header length, the post-header lengths and the algorithm.

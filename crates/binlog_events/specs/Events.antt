@@ -76,7 +76,9 @@ pub record Parts : Type 0 where
 -- the body, whose checksum is right if it is checked
 abbrev pub summed : Bool → List ℕ → ℕ → List ℕ → Result Parts EventError
 summed checked head found body =
-    if not checked || nat_eq found (crc32 (head ++ body)) then Ok (record { body = body; checksum = Some found }) else Err (error.Checksum found (crc32 (head ++ body)))
+    if not checked || nat_eq found (crc32 (head ++ body))
+    then Ok (record { body = body; checksum = Some found })
+    else Err (error.Checksum found (crc32 (head ++ body)))
 
 unfoldable pub parts_of : Bool → Raw → Result Parts EventError
 parts_of false r = Ok (record { body = r.rest; checksum = None })
@@ -145,16 +147,44 @@ rows_type n =
 
 -- what is needed to read the body of a rows event; none for any other type
 unfoldable pub rows_ctx : Description → ℕ → Option RowsEventCtx
-rows_ctx d n = option_map (λ type. record { event_type = type; post_header_len = post_header_len d n; write_rows_post_header_len = post_header_len d 0x1E }) (rows_type n)
+rows_ctx d n = option_map (λ type. record {
+  event_type = type;
+  post_header_len = post_header_len d n;
+  write_rows_post_header_len = post_header_len d 0x1E;
+}) (rows_type n)
 
 abbrev pub plain : ℕ → Header → Parts → Option RowsEventCtx → Event
-plain at h p rows = record { position = at; header = h; body = p.body; checksum = p.checksum; rows = rows; description = None; table = None }
+plain at h p rows = record {
+  position = at;
+  header = h;
+  body = p.body;
+  checksum = p.checksum;
+  rows = rows;
+  description = None;
+  table = None;
+}
 
 abbrev pub with_description : ℕ → Header → Parts → Description → Event
-with_description at h p d = record { position = at; header = h; body = p.body; checksum = p.checksum; rows = None; description = Some d; table = None }
+with_description at h p d = record {
+  position = at;
+  header = h;
+  body = p.body;
+  checksum = p.checksum;
+  rows = None;
+  description = Some d;
+  table = None;
+}
 
 abbrev pub with_table : ℕ → Header → Parts → TableMap → Event
-with_table at h p t = record { position = at; header = h; body = p.body; checksum = p.checksum; rows = None; description = None; table = Some t }
+with_table at h p t = record {
+  position = at;
+  header = h;
+  body = p.body;
+  checksum = p.checksum;
+  rows = None;
+  description = None;
+  table = Some t;
+}
 
 -- an event that is no format description
 abbrev pub other_event : ℕ → Option Description → Header → Parts → FormatOf EventError Event
@@ -205,7 +235,10 @@ is_binlog x = starts_with nat_eq x magic
 
 -- the error of a file that is no binlog file
 abbrev pub no_binlog : List ℕ → FileError
-no_binlog x = record { position = 0; error = if starts_with nat_eq x magic_of_encrypted then error.Encrypted else error.NotABinlogFile }
+no_binlog x = record {
+  position = 0;
+  error = if starts_with nat_eq x magic_of_encrypted then error.Encrypted else error.NotABinlogFile;
+}
 
 -- the events of a file, and the error that follows them
 abbrev pub AreEventsOfFile : List ℕ → List Event → Option FileError → Type 0

@@ -20,7 +20,14 @@ header =
     sequence (little_endian 4) (λ event_size.
     sequence (little_endian 4) (λ log_pos.
     map_value (little_endian 2) (λ flags.
-    record { timestamp = timestamp; event_type = event_type; server_id = server_id; event_size = event_size; log_pos = log_pos; flags = flags }))))))
+    record {
+      timestamp = timestamp;
+      event_type = event_type;
+      server_id = server_id;
+      event_size = event_size;
+      log_pos = log_pos;
+      flags = flags;
+    }))))))
 
 -- LOG_EVENT_BINLOG_IN_USE_F is the lowest bit
 abbrev pub in_use : Header → Bool

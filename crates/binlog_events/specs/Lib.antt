@@ -6,5 +6,4 @@ pub mod Description
 pub mod Events
 pub mod Lemmas
 pub mod Tables
-pub mod TableBodies
-pub mod Stored
+pub mod Workings

@@ -48,7 +48,10 @@ abbrev pub found : Tables → Bool → Tables
 found old ended id = if ended then None else old id
 
 abbrev pub in_force_after : InForce → Event → InForce
-in_force_after old e = record { tables = with_map (given_up (found old.tables old.ended) e.description) e.table; ended = ends_statement e }
+in_force_after old e = record {
+  tables = with_map (given_up (found old.tables old.ended) e.description) e.table;
+  ended = ends_statement e;
+}
 
 abbrev pub in_force_after_all : InForce → List Event → InForce
 in_force_after_all old [] = old

@@ -10,8 +10,8 @@ ghost use Rattle.binlog_events.specs.declared.error.EventError.TheVariants as er
 ghost use Rattle.binlog_events.specs.Crc32.{crc32};
 ghost use Rattle.binlog_events.specs.Events as Spec;
 ghost use Rattle.binlog_events.specs.Tables.{ends_statement, has_end_flag};
-ghost use Rattle.binlog_events.specs.Stored.{is_there};
-ghost use Rattle.binlog_events.specs.TableBodies.{ReadsTable};
+ghost use Rattle.binlog_events.specs.Workings.Stored.{is_there};
+ghost use Rattle.binlog_events.specs.Workings.TableBodies.{ReadsTable};
 
 use crate::crc::crc32_of_both;
 use crate::description::FormatDescriptionEvent;
@@ -333,7 +333,7 @@ pub struct Event<'a> {
 impl<'a> Model for Event<'a> {
     ghost use Rattle.std.specs.Prelude.{IfSome, Ok};
     ghost use Rattle.binlog_events.specs.Events as Spec;
-    ghost use Rattle.binlog_events.specs.TableBodies.{ReadsTable};
+    ghost use Rattle.binlog_events.specs.Workings.TableBodies.{ReadsTable};
 
     ghost Value = { Spec.Event };
 

@@ -11,11 +11,11 @@ use Rattle.binlog_file.specs.declared.lent_changes.LentEvent.TheVariants as lent
 use Rattle.binlog_file.specs.Events.{Event, Glance, glance_of, origin_of, Place, rows_type}
 use Rattle.binlog_file.specs.Tables.{Tables, InForce}
 use Rattle.binlog_file.specs.Changes.{Wanted, nothing, Gives, EventGives, Spot, spot, Follows, IsMemory, IsAtEnd}
-use Rattle.binlog_file.specs.Glances.{GlanceSteps}
+use Rattle.binlog_file.specs.Workings.Glances.{GlanceSteps}
 use Rattle.binlog_file.specs.Asked.{is_asked}
 use Rattle.binlog_file.specs.LentChanges.{OtherEvent}
 use Rattle.binlog_file.specs.LentEvents.{other_of, Shows, NextEvent, ChangesOn, PassesOne, PassesOver, IsAsked, NextAsked}
-use Rattle.binlog_file.specs.AskedGlances.{is_glance_asked, GlanceAsked}
+use Rattle.binlog_file.specs.Workings.AskedGlances.{is_glance_asked, GlanceAsked}
 use Rattle.binlog_file.proofs.Bodies.{no_rows}
 use Rattle.binlog_file.proofs.LentFollowed.{other_on, changes_on, pending_now}
 

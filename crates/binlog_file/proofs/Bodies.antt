@@ -13,7 +13,7 @@ use Rattle.binlog_file.specs.Header.{Header}
 use Rattle.binlog_file.specs.Description.{Description, description, post_header_len}
 use Rattle.binlog_file.specs.Events.{Raw, Parts, Event, Glance, parts_of, summed, is_checked, summed_head, has_checksum, event, other_event, event_of_raw, is_description, is_supported, rows_type, rows_ctx, with_description, with_table}
 use Rattle.binlog_file.specs.Stream.{Kept}
-use Rattle.binlog_file.specs.Taken.{TakesRaw}
+use Rattle.binlog_file.specs.Workings.Taken.{TakesRaw}
 use Rattle.binlog_file.specs.Lemmas.Formats.{exact_event_of_raw}
 use Rattle.binlog_file.proofs.Sized.{match_either}
 

@@ -8,7 +8,7 @@ use Rattle.binlog_events.specs.declared.error.FileError.{FileError}
 use Rattle.binlog_file.specs.Description.{Description}
 use Rattle.binlog_file.specs.Events.{Event, event, after, AreEvents, AreEventsOfFile, magic}
 use Rattle.binlog_file.specs.Tables.{Tables, InForce, found, given_up, with_map, has_end_flag, nothing_in_force, in_force_after, in_force_after_all}
-use Rattle.binlog_file.specs.Stored.{is_gtid}
+use Rattle.binlog_file.specs.Workings.Stored.{is_gtid}
 use Rattle.binlog_file.specs.Stream.{Kept, kept_after}
 use Rattle.binlog_file.specs.Checkpoints.{Reached, start, next, after_all, LeadsTo, GoesOnWith, checkpoint_of, unplaced}
 use Rattle.binlog_file.proofs.Moved.{placed, moved, refused_moved, Describes, Maps, IsPlain, kind_of}

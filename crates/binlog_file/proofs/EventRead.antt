@@ -6,8 +6,8 @@ use Rattle.binlog_events.specs.declared.error.EventError.{EventError}
 use Rattle.binlog_file.specs.Lemmas.Formats.{exact_event_of_raw}
 use Rattle.binlog_file.specs.Events.{Raw, raw_event, Event, event, Glance, event_of_raw}
 use Rattle.binlog_file.specs.Stream.{Kept, kept_after, RawGives, ReadGives, GlanceGives}
-use Rattle.binlog_file.specs.Readers.{found}
-use Rattle.binlog_file.specs.Taken.{TakesRaw}
+use Rattle.binlog_file.specs.Workings.Readers.{found}
+use Rattle.binlog_file.specs.Workings.Taken.{TakesRaw}
 use Rattle.binlog_file.proofs.RawRead.{all_left, not_empty}
 
 raw_long : (y : List ℕ) (r : Raw) → raw_event.spells y r → 19 ≤ length y

@@ -7,7 +7,7 @@ use Rattle.binlog_events.specs.declared.error.FileError.{FileError}
 use Rattle.binlog_file.specs.Description.{Description}
 use Rattle.binlog_file.specs.Events.{Event, Glance, glance_of, origin_of, Place, NextGives, Shrinks, AreLeft, AreEvents, is_binlog, no_binlog}
 use Rattle.binlog_file.specs.Tables.{InForce, in_force_after, nothing_in_force}
-use Rattle.binlog_file.specs.Glances.{GlanceSteps}
+use Rattle.binlog_file.specs.Workings.Glances.{GlanceSteps}
 use Rattle.mysql_binlog_rows.specs.declared.rows_event.event.RowsEventCtx.{RowsEventCtx}
 use Rattle.binlog_file.specs.Changes.{Wanted, Change, Given, nothing, Gives, EventGives, GoesOn, AreChanges, AreChangesOfFile, Spot, spot, first_spot, Left, Follows, IsMemory, ChangeGives, TakeGives, listed, at_position, count, most_left}
 use Rattle.binlog_file.proofs.Rest.{rest_of}

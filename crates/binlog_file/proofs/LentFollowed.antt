@@ -22,7 +22,7 @@ use Rattle.binlog_file.specs.declared.lent_changes.LentEvent.TheVariants as lent
 use Rattle.binlog_file.specs.Events.{Event, Glance, glance_of, origin_of, Place, NextGives}
 use Rattle.binlog_file.specs.Tables.{Tables, InForce, in_force_after}
 use Rattle.binlog_file.specs.Changes.{Wanted, Change, Given, nothing, failure, Gives, EventGives, RowsGive, Spot, spot, LeftFrom, Follows, IsMemory, IsAtEnd, at_position}
-use Rattle.binlog_file.specs.Glances.{GlanceSteps}
+use Rattle.binlog_file.specs.Workings.Glances.{GlanceSteps}
 use Rattle.binlog_file.specs.LentChanges.{LentChange, unread, Opens, PairGives, CoversOn, change_with, error_after}
 use Rattle.binlog_file.specs.LentEvents.{Shows, GoesPast, NextEvent, ChangesOn}
 use Rattle.binlog_file.specs.LentEvents as events

@@ -9,7 +9,7 @@ use Rattle.binlog_events.specs.declared.error.EventError.{EventError}
 use Rattle.binlog_events.specs.declared.error.EventError.TheVariants as error
 use Rattle.binlog_file.specs.Header.{Header}
 use Rattle.binlog_file.specs.Description.{Description, description, post_header_len}
-use Rattle.binlog_file.specs.Stored.{is_gtid}
+use Rattle.binlog_file.specs.Workings.Stored.{is_gtid}
 use Rattle.binlog_file.specs.Events.{Raw, Parts, Event, event, other_event, event_of_raw, is_description, is_supported, has_checksum, rows_type, rows_ctx, with_description, with_table}
 
 abbrev pub placed : ℕ → Event → Event

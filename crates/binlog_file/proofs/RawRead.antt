@@ -14,7 +14,7 @@ use Rattle.binlog_file.specs.Header.{Header, header}
 use Rattle.binlog_file.specs.Lemmas.Formats.{Any, exact_header}
 use Rattle.binlog_file.specs.Events.{Raw, raw, raw_event, rest_len}
 use Rattle.binlog_file.specs.Stream.{Fills, IsOutside, RawGives}
-use Rattle.binlog_file.specs.Readers.{found}
+use Rattle.binlog_file.specs.Workings.Readers.{found}
 
 abbrev pub in_head : List ℕ → FormatOf EventError Header
 in_head h = map_fault (within h header) error.Description

@@ -9,7 +9,7 @@ use Rattle.binlog_events.specs.declared.error.FileError.{FileError}
 use Rattle.binlog_file.specs.Description.{Description}
 use Rattle.binlog_file.specs.Events.{Raw, raw_event, Event, event, Glance, glance_of, after, is_binlog, no_binlog}
 use Rattle.binlog_file.specs.Tables.{InForce, nothing_in_force, in_force_after}
-use Rattle.binlog_file.specs.Stored.{Stored, nothing_stored, stored_after}
+use Rattle.binlog_file.specs.Workings.Stored.{Stored, nothing_stored, stored_after}
 
 -- these are the next n bytes of a source, or all that were left, which are fewer
 pub record Fills (n : ℕ) (old new : Option (List ℕ)) (bytes : List ℕ) : Type 0 where

@@ -5,14 +5,14 @@ ghost use Rattle.std.specs.Option.{option_map};
 ghost use Rattle.binlog_base.specs.declared.fault.Fault.TheVariants as Fault;
 ghost use Rattle.binlog_events.specs.declared.error.EventError.TheVariants as EventError;
 ghost use Rattle.binlog_file.specs.Events.{Event, Place, NextGives, glance_of, is_binlog, no_binlog};
-ghost use Rattle.binlog_file.specs.Glances.{GlanceSteps};
+ghost use Rattle.binlog_file.specs.Workings.Glances.{GlanceSteps};
 ghost use Rattle.binlog_file.specs.Tables.{InForce, in_force_after};
 ghost use Rattle.binlog_file.specs.TableMaps.{held_by};
 ghost use Rattle.binlog_file.specs.Changes as Spec;
 ghost use Rattle.binlog_file.specs.LentChanges.{PairGives};
 ghost use Rattle.binlog_file.specs.LentEvents.{NextEvent, NextAsked, IsAsked, GoesOnUnless};
-ghost use Rattle.binlog_file.specs.AskedGlances.{is_glance_asked, GlanceAsked};
-ghost use Rattle.binlog_file.specs.Walks.{spot_of, most_kept_in};
+ghost use Rattle.binlog_file.specs.Workings.AskedGlances.{is_glance_asked, GlanceAsked};
+ghost use Rattle.binlog_file.specs.Workings.Walks.{spot_of, most_kept_in};
 
 use crate::asked::is_asked;
 use crate::change::{Change, glance_gives};
@@ -389,7 +389,7 @@ impl<'a, C: Choice + Drop> Iterator for FileChanges<'a, C> {
     ghost use Rattle.std.specs.Prelude.{◌≡◌};
     ghost use Rattle.std.specs.Iterator.{at_most};
     ghost use Rattle.binlog_file.specs.Changes.{ChangeSteps, most_left};
-    ghost use Rattle.binlog_file.specs.Walks.{spot_of};
+    ghost use Rattle.binlog_file.specs.Workings.Walks.{spot_of};
 
     ghost next_gives = { λ s r t. (t.choice ≡ s.choice)
         × ChangeSteps (C.wanted s.choice) (spot_of s.walk) r (spot_of t.walk) };

@@ -4,7 +4,7 @@ ghost use Rattle.std.specs.Prelude.{◌≡◌, ◌⊎◌, ◌≤◌, ◌+◌, �
 ghost use Rattle.binlog_base.specs.Format.{SpellsPrefix};
 ghost use Rattle.binlog_file.specs.Events as Spec;
 ghost use Rattle.binlog_file.specs.Changes.{IsMemory};
-ghost use Rattle.binlog_file.specs.Glances.{SeesAt, GlanceSteps};
+ghost use Rattle.binlog_file.specs.Workings.Glances.{SeesAt, GlanceSteps};
 ghost use Rattle.binlog_file.specs.TableMaps.{held_by, most_kept};
 
 use crate::error::{EventError, FileError};

@@ -5,7 +5,7 @@ ghost use Rattle.std.specs.Io.KnownBytes.{Consumes};
 ghost use Rattle.binlog_file.specs.Events.{is_binlog, magic};
 ghost use Rattle.binlog_file.specs.Events as Events;
 ghost use Rattle.binlog_file.specs.Stream as Spec;
-ghost use Rattle.binlog_file.specs.Readers.{kept_by, reading_of};
+ghost use Rattle.binlog_file.specs.Workings.Readers.{kept_by, reading_of};
 
 use crate::error::{EventError, FileError};
 use crate::reader::{EventBuffer, EventStreamReader};

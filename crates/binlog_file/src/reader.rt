@@ -4,11 +4,11 @@ ghost use Rattle.std.specs.Prelude.{◌≡◌, ◌≤◌, ◌<◌, ◌+◌, ◌*
 ghost use Rattle.std.specs.Option.{option_map};
 ghost use Rattle.std.specs.Io.KnownBytes.{Consumes, IsAtEnd};
 ghost use Rattle.binlog_file.specs.Events.{after, is_plain};
-ghost use Rattle.binlog_file.specs.Taken.{TakesRaw};
-ghost use Rattle.binlog_file.specs.TableBodies.{event_with};
+ghost use Rattle.binlog_file.specs.Workings.Taken.{TakesRaw};
+ghost use Rattle.binlog_file.specs.Workings.TableBodies.{event_with};
 ghost use Rattle.std.specs.Arc.{arc_value};
 ghost use Rattle.binlog_file.specs.Stream as Spec;
-ghost use Rattle.binlog_file.specs.Readers.{kept_by, reading_of, found, raw_in, glance_in};
+ghost use Rattle.binlog_file.specs.Workings.Readers.{kept_by, reading_of, found, raw_in, glance_in};
 ghost use Rattle.binlog_file.specs.Tables.{no_tables};
 ghost use Rattle.binlog_file.specs.TableMaps.{in_maps, most_kept};
 ghost use Rattle.binlog_file.specs.Checkpoints.{checkpoint, checkpoint_of};

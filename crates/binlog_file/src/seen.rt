@@ -2,7 +2,7 @@
 
 ghost use Rattle.std.specs.Prelude.{◌≡◌, true};
 ghost use Rattle.binlog_file.specs.Events.{is_plain};
-ghost use Rattle.binlog_file.specs.Glances.{SeesRaw};
+ghost use Rattle.binlog_file.specs.Workings.Glances.{SeesRaw};
 ghost use Rattle.binlog_file.specs.TableMaps.{held_by, most_kept};
 
 use crate::error::EventError;
@@ -21,7 +21,7 @@ pub(crate) struct Seen<'a> {
 }
 
 impl<'a> Model for Seen<'a> {
-    ghost use Rattle.binlog_file.specs.Glances as Spec;
+    ghost use Rattle.binlog_file.specs.Workings.Glances as Spec;
 
     ghost Value = { Spec.Seen };
 

@@ -1,7 +1,7 @@
 //! What is kept of a glance at an event whose bytes are in a buffer.
 
 ghost use Rattle.std.specs.Prelude.{◌≡◌, ℕ, List, length, take};
-ghost use Rattle.binlog_file.specs.Readers.{glance_of_bytes};
+ghost use Rattle.binlog_file.specs.Workings.Readers.{glance_of_bytes};
 
 use binlog_events::event::Glance;
 use binlog_events::header::BinlogEventHeader;

@@ -8,9 +8,9 @@ ghost use Rattle.binlog_file.specs.Stream.{IsOutside, MayGoOn};
 ghost use Rattle.binlog_file.specs.SourceChanges as Spec;
 ghost use Rattle.binlog_file.specs.LentChanges.{PairGives};
 ghost use Rattle.binlog_file.specs.LentEvents.{Shows, GivesError, GoesOnUnless};
-ghost use Rattle.binlog_file.specs.SourceWalks.{reading_in, kept_in, most_kept_by};
-ghost use Rattle.binlog_file.specs.Readers.{reading_of, item_in};
-ghost use Rattle.binlog_file.specs.AskedGlances.{SourceSights};
+ghost use Rattle.binlog_file.specs.Workings.SourceWalks.{reading_in, kept_in, most_kept_by};
+ghost use Rattle.binlog_file.specs.Workings.Readers.{reading_of, item_in};
+ghost use Rattle.binlog_file.specs.Workings.AskedGlances.{SourceSights};
 
 use crate::asked::is_asked;
 use crate::change::{Change, Given, glance_gives};
@@ -464,7 +464,7 @@ impl<S: Source + Drop, C: Choice + Drop> Iterator for SourceChanges<S, C> {
     ghost use Rattle.std.specs.Prelude.{◌≡◌};
     ghost use Rattle.std.specs.Iterator.{at_most};
     ghost use Rattle.binlog_file.specs.SourceChanges.{SourceSteps, items_left};
-    ghost use Rattle.binlog_file.specs.SourceWalks.{reading_in};
+    ghost use Rattle.binlog_file.specs.Workings.SourceWalks.{reading_in};
 
     ghost next_gives = { λ s r t. (t.choice ≡ s.choice)
         × SourceSteps (C.wanted s.choice) (S.remaining s.source) (reading_in s.walk) s.walk.pending r

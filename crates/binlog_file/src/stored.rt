@@ -2,7 +2,7 @@
 
 ghost use Rattle.std.specs.Prelude.{◌≡◌, ◌++◌, [], ◌||◌, if◌then◌else◌, None, IfOk, OnOk};
 ghost use Rattle.binlog_file.specs.Events.{magic};
-ghost use Rattle.binlog_file.specs.Stored as Spec;
+ghost use Rattle.binlog_file.specs.Workings.Stored as Spec;
 
 use crate::file::MAGIC;
 use binlog_events::event::{Event, PlainEvent, Raw};
@@ -19,7 +19,7 @@ pub(crate) struct StoredEvents {
 }
 
 impl Model for StoredEvents {
-    ghost use Rattle.binlog_file.specs.Stored.{Stored};
+    ghost use Rattle.binlog_file.specs.Workings.Stored.{Stored};
 
     ghost Value = { Stored };
 

@@ -2,7 +2,7 @@
 use Rattle.std.proofs.Common.{◌≡◌, ℕ, List, [], Ok, sym, ap, ◌∙◌}
 use Rattle.binlog_base.specs.declared.below.columns.server.Server.{Server}
 use Rattle.binlog_table.specs.TableMap.{TableMap}
-use Rattle.binlog_events.specs.TableBodies.{ReadsTable}
+use Rattle.binlog_events.specs.Workings.TableBodies.{ReadsTable}
 
 pub same_table : (server : Server) (n : ℕ) (body : List ℕ) (t u : TableMap) → ReadsTable server n body (Ok t) → ReadsTable server n body (Ok u) → t ≡ u
 same_table server n body t u p q =

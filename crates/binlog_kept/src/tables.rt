@@ -5,7 +5,7 @@ ghost use Rattle.std.specs.Option.{option_map};
 ghost use Rattle.std.specs.Arc.{arc_value};
 ghost use Rattle.binlog_events.specs.declared.error.EventError.TheVariants as error;
 ghost use Rattle.binlog_events.specs.Tables.{no_tables, with_table, with_map, found, given_up, ends_statement, in_force_after};
-ghost use Rattle.binlog_events.specs.TableBodies.{ReadsTable, table_weight};
+ghost use Rattle.binlog_events.specs.Workings.TableBodies.{ReadsTable, table_weight};
 ghost use Rattle.binlog_kept.specs.TableMaps.{in_maps, held_by, most_kept};
 ghost use Rattle.binlog_kept.specs.Kept.{all_bytes};
 
@@ -43,7 +43,7 @@ struct KeptTable {
 impl Model for KeptTable {
     ghost use Rattle.std.specs.Prelude.{◌≤◌, Ok, length};
     ghost use Rattle.std.specs.Arc.{arc_value};
-    ghost use Rattle.binlog_events.specs.TableBodies as Spec;
+    ghost use Rattle.binlog_events.specs.Workings.TableBodies as Spec;
 
     ghost Value = { Spec.KeptTable };
 
@@ -59,7 +59,7 @@ impl Model for KeptTable {
 }
 
 impl Weighed for KeptTable {
-    ghost use Rattle.binlog_events.specs.TableBodies.{table_weight};
+    ghost use Rattle.binlog_events.specs.Workings.TableBodies.{table_weight};
 
     ghost weight = { λ k. table_weight (length k.body) };
 

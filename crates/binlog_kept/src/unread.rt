@@ -5,7 +5,7 @@ ghost use Rattle.std.specs.Arc.{arc_value};
 ghost use Rattle.binlog_table.specs.TableMap.{TableMap};
 ghost use Rattle.binlog_events.specs.Events.{event_of_raw, glance_of};
 ghost use Rattle.binlog_events.specs.declared.error.EventError.TheVariants as error;
-ghost use Rattle.binlog_events.specs.TableBodies.{ReadsTable, event_with, LeavesTable};
+ghost use Rattle.binlog_events.specs.Workings.TableBodies.{ReadsTable, event_with, LeavesTable};
 ghost use Rattle.binlog_kept.specs.TableMaps.{held_by, most_kept};
 
 use crate::tables::TableMaps;
@@ -31,7 +31,7 @@ pub struct UnreadTable<'a> {
 }
 
 impl<'a> Model for UnreadTable<'a> {
-    ghost use Rattle.binlog_events.specs.TableBodies as Spec;
+    ghost use Rattle.binlog_events.specs.Workings.TableBodies as Spec;
 
     ghost Value = { Spec.UnreadTable };
 

@@ -2,6 +2,7 @@
 use Rattle.std.specs.Prelude.{filter, if◌then◌else◌}
 use Rattle.std.proofs.Common.{◌≡◌, ℕ, ◌+◌, ◌≤◌, Bool, true, false, List, [], ◌∷◌, length, map, Option, Some, None, Result, Ok, Err, refl, sym, ap, subst, arith}
 use Rattle.std.proofs.lemmas.List.{length-append}
+use Rattle.std.specs.Option.{option_or}
 use Rattle.binlog_base.specs.declared.fault.Fault.{Fault}
 use Rattle.binlog_base.specs.Format.{◌>>=◌, take_bytes}
 use Rattle.binlog_base.specs.Lemmas.Format.{bind_ok, ok_is, exact_take_bytes}
@@ -15,7 +16,7 @@ use Rattle.binlog_table.specs.declared.table_map.optional.fields.OptionalMetadat
 use Rattle.binlog_table.specs.declared.table_map.optional.fields.OptionalMetadataField.TheVariants as field
 use Rattle.binlog_table.specs.Lists.{DefaultCharset, default_charset, RawField, raw_field, low_bits, FieldsLeft}
 use Rattle.binlog_table.specs.Lemmas.Lists.{eats_low_bits}
-use Rattle.binlog_table.specs.Fields.{bits_for, default_charset_in, value_of, field_of, is_item, fields, or_else, last_of, default_in, charsets_in, names_in, simple_in, prefixed_in, enum_default_in, enum_charsets_in, kept}
+use Rattle.binlog_table.specs.Fields.{bits_for, default_charset_in, value_of, field_of, is_item, fields, last_of, default_in, charsets_in, names_in, simple_in, prefixed_in, enum_default_in, enum_charsets_in, kept}
 use Rattle.binlog_table.specs.Extracted.{list_or, pair_bytes, kept_bytes}
 
 -- the bytes of a field's list
@@ -90,11 +91,11 @@ filter_weigh : {A : Type 0} (w : A → ℕ) (test : Result A Fault → Bool) (xs
 filter_weigh w test [] = omega arith
 filter_weigh w test (x ∷ xs) = fewer w (test x) x (filter test xs) xs (filter_weigh w test xs)
 
-or_list : (a b : Option (List ℕ)) → length (list_or (or_else a b)) ≤ length (list_or a) + length (list_or b)
+or_list : (a b : Option (List ℕ)) → length (list_or (option_or a b)) ≤ length (list_or a) + length (list_or b)
 or_list None b = omega arith
 or_list (Some x) b = omega arith
 
-or_pairs : (a b : Option DefaultCharset) → length (pair_bytes (or_else a b)) ≤ length (pair_bytes a) + length (pair_bytes b)
+or_pairs : (a b : Option DefaultCharset) → length (pair_bytes (option_or a b)) ≤ length (pair_bytes a) + length (pair_bytes b)
 or_pairs None b = omega arith
 or_pairs (Some x) b = omega arith
 

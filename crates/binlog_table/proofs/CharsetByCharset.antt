@@ -1,12 +1,15 @@
 -- Ordinals taken in turn.
-use Rattle.std.proofs.Common.{◌≡◌, ◌≢◌, ℕ, zero, suc, ◌+◌, ◌-◌, ◌<◌, ◌≤◌, Bool, true, false, cond, eqb, ltb, List, [], ◌∷◌, length, Option, Some, None, Result, Ok, Err, refl, sym, ap, ◌∙◌, arith, inl, inr, add-one}
+use Rattle.std.proofs.Common.{◌≡◌, ◌≢◌, ℕ, zero, suc, ◌+◌, ◌-◌, ◌<◌, ◌≤◌, Bool, true, false, cond, eqb, ltb, List, [], ◌∷◌, ◌++◌, length, Option, Some, None, Result, Ok, Err, refl, sym, ap, subst, ◌∙◌, arith, inl, inr, add-one}
 use Rattle.std.proofs.lemmas.Bool.{ltb-false, ltb-true, lt-ltb, le-ltb, eqb-false, eq-eqb, ne_eqb, cases_Bool}
+use Rattle.std.proofs.lemmas.List.{append_cancel_left, map-append}
 use Rattle.std.proofs.Math.Dec.{eqb-suc-suc, eqb-zero-suc}
 use Rattle.binlog_base.specs.declared.fault.Fault.{Fault}
 use Rattle.binlog_base.specs.Items.{before_fault}
-use Rattle.binlog_table.specs.KeysLeft.{Agree}
-use Rattle.binlog_table.specs.Charsets.{pairs_from, above_from, charset_in, charset_above, charset_at, charset_then, charsets, charset_items, zero_without}
-use Rattle.binlog_table.specs.CharsetsLeft.{CharsetsLeft, charset_from, charsets_left, charset_of, charsets_of, row_charset}
+use Rattle.binlog_table.specs.Workings.KeysLeft.{Agree}
+use Rattle.binlog_table.specs.Keys.{IsIncreasing, increasing_from, increasing_prefix}
+use Rattle.binlog_table.proofs.KeyByKey.{prefix_is_longest}
+use Rattle.binlog_table.specs.Charsets.{columns_of, IsLongestInOrder, pairs_from, above_from, charset_in, charset_above, charset_at, charset_then, charsets, charset_items, zero_without}
+use Rattle.binlog_table.specs.Workings.CharsetsLeft.{CharsetsLeft, charset_from, charsets_left, charset_of, charsets_of, row_charset}
 
 -- ---- what is left tells what the definition tells
 
@@ -161,3 +164,34 @@ unfolding charset_at
 charsets_of_table c z k =
     let at : c.ordinal + k ≡ k = omega (arith, z) in
     ap (λ (i : ℕ). zero_without (charset_of c i)) at ∙ rw z (ap zero_without (charset_law_from 0 c.default c.pairs c.list k (omega arith)))
+
+-- ---- the pairs that count are the longest prefix in order
+
+columns_same : (low : ℕ) (ps : List (ℕ × ℕ)) → columns_of (pairs_from low ps) ≡ increasing_from low (columns_of ps)
+columns_same low [] = refl
+columns_same low (p ∷ ps) = elim (cases_Bool (ltb p.0 low)) [
+  | inl under ↦ rw under refl
+  | inr over ↦ rw over (ap (λ (l : List ℕ). p.0 ∷ l) (columns_same (suc p.0) ps))
+]
+
+pairs_first : (low : ℕ) (ps : List (ℕ × ℕ)) → (rest : List (ℕ × ℕ)) × (ps ≡ pairs_from low ps ++ rest)
+pairs_first low [] = ([], refl)
+pairs_first low (p ∷ ps) = elim (cases_Bool (ltb p.0 low)) [
+  | inl under ↦ rw under (p ∷ ps, refl)
+  | inr over ↦ let later = pairs_first (suc p.0) ps in rw over (later.0, ap (λ (l : List (ℕ × ℕ)). p ∷ l) later.1)
+]
+
+pub pairs_are_longest : (ps : List (ℕ × ℕ)) → IsLongestInOrder ps (pairs_from 0 ps)
+pairs_are_longest ps =
+    let prefix = pairs_from 0 ps in
+    let same = columns_same 0 ps in
+    let front = pairs_first 0 ps in
+    let longest = prefix_is_longest (columns_of ps) in
+    let split : increasing_prefix (columns_of ps) ++ columns_of front.0 ≡ increasing_prefix (columns_of ps) ++ longest.0 =
+    ap (λ (l : List ℕ). l ++ columns_of front.0) (sym same) ∙ sym (map-append (λ p. p.0) prefix front.0) ∙ ap columns_of (sym front.1) ∙ longest.1 in
+    let rests = append_cancel_left (increasing_prefix (columns_of ps)) (columns_of front.0) longest.0 split in (
+      front.0,
+      front.1,
+      subst (IsIncreasing 0) (sym same) longest.2,
+      λ p more h inc. longest.3 p.0 (columns_of more) (sym rests ∙ ap columns_of h) (subst (IsIncreasing 0) (map-append (λ q. q.0) prefix (p ∷ []) ∙ ap (λ (l : List ℕ). l ++ p.0 ∷ []) same) inc),
+    )

@@ -23,15 +23,15 @@ use Rattle.binlog_table.specs.declared.table_map.optional.columns.Walk.{Walk}
 use Rattle.binlog_table.specs.ColumnTypes.{json_count, raw_type_of, real_type_of, some_of, real_type}
 use Rattle.binlog_table.specs.Fields.{Kept, is_numeric_number, numeric_count, in_group}
 use Rattle.binlog_table.specs.Charsets.{zero_without}
-use Rattle.binlog_table.specs.CharsetsLeft.{CharsetsLeft, row_charset, NoCharsetsLeft}
+use Rattle.binlog_table.specs.Workings.CharsetsLeft.{CharsetsLeft, row_charset, NoCharsetsLeft}
 use Rattle.binlog_table.specs.TableColumns.{Column, Parts, column_by, column_then, columns_by, named, is_numeric_at, sign_in, one_more, ordinal_of, charset_by, charset_of_group, type_at, column_at, unless_faulty, table_columns, typed, passed, PassesFirst, PassesOver, FaultFirst}
 use Rattle.binlog_table.specs.Extracted.{IsStart, list_or, kept_of, field_fault}
-use Rattle.binlog_table.specs.ColumnsLeft.{chunks_of, parts_left, columns_left, Follows, Advances, bits_after_first, bit_here, bits_after, sign_left, type_left, NoListsLeft}
+use Rattle.binlog_table.specs.Workings.ColumnsLeft.{chunks_of, parts_left, columns_left, Follows, Advances, bits_after_first, bit_here, bits_after, sign_left, type_left, NoListsLeft}
 use Rattle.binlog_table.specs.Chunks.{chunk_at, chunk_left, typed_chunk, after_typed, chunk, type_chunk, after_chunk}
 use Rattle.binlog_table.specs.TableMap.{TableMap}
 use Rattle.binlog_table.specs.Lists.{pair_with}
 use Rattle.binlog_table.specs.Keys.{key_items, key_at as key_in}
-use Rattle.binlog_table.specs.KeysLeft.{key_from}
+use Rattle.binlog_table.specs.Workings.KeysLeft.{key_from}
 use Rattle.binlog_table.proofs.KeyByKey.{key_later, keys_of_table, key_now}
 use Rattle.binlog_table.proofs.CharsetByCharset.{charsets_of_table}
 

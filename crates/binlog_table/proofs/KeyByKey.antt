@@ -5,7 +5,7 @@ use Rattle.std.proofs.Math.Dec.{eqb-suc-suc, eqb-zero-suc}
 use Rattle.binlog_base.specs.declared.fault.Fault.{Fault}
 use Rattle.binlog_base.specs.Items.{before_fault, first_fault}
 use Rattle.binlog_table.specs.Keys.{increasing_prefix, IsIncreasing, IsLongestIncreasing, increasing_from, after_from, contains, unless, key_at}
-use Rattle.binlog_table.specs.KeysLeft.{Agree, next_if, key_from, key_left}
+use Rattle.binlog_table.specs.Workings.KeysLeft.{Agree, next_if, key_from, key_left}
 
 -- no column below low is a key
 pub key_below : (low : ℕ) (keys : List (Result ℕ Fault)) (i : ℕ) → i < low → key_from low keys i ≡ Ok false

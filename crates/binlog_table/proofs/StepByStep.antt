@@ -27,9 +27,9 @@ use Rattle.binlog_table.specs.Fields.{Kept, fields}
 use Rattle.binlog_table.specs.Keys.{key_items}
 use Rattle.binlog_table.specs.Extracted.{IsStart, list_or, pairs_or, kept_of, fields_of, field_fault}
 use Rattle.binlog_table.specs.Steps.{up_to_fault, names_read, keys_read, charsets_read, columns_read, unless_fault, steps_after, count_to, reads_name, takes_key, is_of_key}
-use Rattle.binlog_table.specs.KeysLeft.{KeysLeft, keys_taken}
-use Rattle.binlog_table.specs.CharsetsLeft.{CharsetsLeft, charsets_ahead, charsets_taken, row_charset}
-use Rattle.binlog_table.specs.ColumnsLeft.{parts_left, columns_left, Follows, type_left, steps_of, steps_ahead, values_to, all_ahead, NoListsLeft}
+use Rattle.binlog_table.specs.Workings.KeysLeft.{KeysLeft, keys_taken}
+use Rattle.binlog_table.specs.Workings.CharsetsLeft.{CharsetsLeft, charsets_ahead, charsets_taken, row_charset}
+use Rattle.binlog_table.specs.Workings.ColumnsLeft.{parts_left, columns_left, Follows, type_left, steps_of, steps_ahead, values_to, all_ahead, NoListsLeft}
 use Rattle.binlog_table.proofs.KeyByKey.{key_now, keys_of_table}
 use Rattle.binlog_table.proofs.CharsetByCharset.{above_all}
 use Rattle.binlog_table.proofs.ColumnWalk.{ordinal_same, charset_start, parts_with, type_of_next, type_unknown, parts_of_next}

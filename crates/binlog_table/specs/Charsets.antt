@@ -1,12 +1,22 @@
 -- The character sets of a group of columns, which are numbered from 0 in the group.
-use Rattle.std.specs.Prelude.{ℕ, zero, suc, ◌-◌, ◌==◌, nat_lt, List, [], ◌∷◌, length, Option, Some, None, Result, Ok, Err, if◌then◌else◌}
+use Rattle.std.specs.Prelude.{◌≡◌, ℕ, zero, suc, ◌-◌, ◌==◌, nat_lt, List, [], ◌∷◌, ◌++◌, map, length, Option, Some, None, Result, Ok, Err, if◌then◌else◌}
 use Rattle.binlog_base.specs.declared.fault.Fault.{Fault}
 use Rattle.binlog_base.specs.Items.{before_fault, first_fault}
+use Rattle.binlog_table.specs.Keys.{IsIncreasing}
 
 -- the longest prefix of pairs whose columns strictly increase, none of them below low
 abbrev pub pairs_from : ℕ → List (ℕ × ℕ) → List (ℕ × ℕ)
 pairs_from low [] = []
 pairs_from low (p ∷ ps) = if nat_lt p.0 low then [] else p ∷ pairs_from (suc p.0) ps
+
+-- the columns of pairs, in order
+abbrev pub columns_of : List (ℕ × ℕ) → List ℕ
+columns_of ps = map (λ p. p.0) ps
+
+-- the columns of this prefix of the pairs strictly increase, and those of no longer prefix do
+abbrev pub IsLongestInOrder : List (ℕ × ℕ) → List (ℕ × ℕ) → Type 0
+IsLongestInOrder ps prefix =
+    (rest : List (ℕ × ℕ)) × (ps ≡ prefix ++ rest) × IsIncreasing 0 (columns_of prefix) × ((p : ℕ × ℕ) (more : List (ℕ × ℕ)) → rest ≡ p ∷ more → ¬ IsIncreasing 0 (columns_of (prefix ++ p ∷ [])))
 
 -- the column after the last one of such a prefix; low for no pairs
 abbrev pub above_from : ℕ → List (ℕ × ℕ) → ℕ
@@ -53,8 +63,8 @@ charset_above low default pairs list i =
 unfoldable pub charset_at : Option ℕ → List (Result (ℕ × ℕ) Fault) → List (Result ℕ Fault) → ℕ → Result (Option ℕ) Fault
 charset_at default pairs list i = charset_above 0 default pairs list i
 
--- the item of a column, and those after it: none follows a fault or a column without a character
--- set
+-- The item of a column, and those after it. None follows a fault, nor a column without a character
+-- set.
 abbrev pub charset_then : Result (Option ℕ) Fault → List (Result ℕ Fault) → List (Result ℕ Fault)
 charset_then (Ok (Some x)) more = Ok x ∷ more
 charset_then (Ok None) more = []

@@ -6,7 +6,7 @@ use Rattle.binlog_base.specs.Items.{items, before_fault, first_fault}
 use Rattle.binlog_table.specs.TableMap.{TableMap}
 use Rattle.binlog_table.specs.Lists.{DefaultCharset, FieldsLeft, low_bits, pair_with}
 use Rattle.binlog_table.specs.Fields.{Kept, kept, fields, numeric_count}
-use Rattle.binlog_table.specs.CharsetsLeft.{CharsetsLeft}
+use Rattle.binlog_table.specs.Workings.CharsetsLeft.{CharsetsLeft}
 
 -- the bytes of a list, or the bits; none where the table has no such field
 abbrev pub list_or : {A : Type 0} → Option (List A) → List A
@@ -38,7 +38,11 @@ pub record IsStart (d : Option DefaultCharset) (ns : Option (List ℕ)) (c : Cha
 
 -- the optional metadata of an event, of which nothing was taken
 abbrev pub fields_of : TableMap → FieldsLeft
-fields_of t = record { numeric = numeric_count t.server t.types; columns = t.columns_count; left = record { bytes = t.optional_metadata; taken = 0 } }
+fields_of t = record {
+  numeric = numeric_count t.server t.types;
+  columns = t.columns_count;
+  left = record { bytes = t.optional_metadata; taken = 0 };
+}
 
 -- the fields that describe the columns: the last one of each kind before the first faulty field
 abbrev pub kept_of : TableMap → Kept

@@ -1,6 +1,7 @@
 -- Optional metadata: its fields, and which of them are kept.
 use Rattle.std.specs.Prelude.{◌≡◌, ℕ, ◌==◌, Bool, true, false, List, [], ◌∷◌, map, filter, count_by, Result, Ok, Err, Option, Some, None}
 use Rattle.std.specs.List.{list_any}
+use Rattle.std.specs.Option.{option_or}
 use Rattle.binlog_base.specs.declared.fault.Fault.{Fault}
 use Rattle.binlog_base.specs.declared.fault.Fault.TheVariants.{BytesRemaining, UnknownOptionalField}
 use Rattle.binlog_base.specs.declared.below.columns.column_type.ColumnType.{ColumnType}
@@ -33,8 +34,7 @@ bits_for count value = whole ((bit_list MostSignificantFirst count).parse value)
 abbrev pub default_charset_in : List ℕ → Result DefaultCharset Fault
 default_charset_in value = default_charset.parse value >>= λ r. Ok r.0
 
--- the field of a kind with this value, for a table with `numeric` numeric columns and `columns`
--- columns in all
+-- The field of a kind with this value. The table has `numeric` numeric columns, and `columns` in all.
 abbrev pub value_of : ℕ → ℕ → OptionalMetadataFieldType → List ℕ → Result OptionalMetadataField Fault
 value_of numeric columns kind.SIGNEDNESS value = bits_for numeric value >>= λ bits. Ok (field.Signedness bits)
 value_of numeric columns kind.DEFAULT_CHARSET value = default_charset_in value >>= λ d. Ok (field.DefaultCharset d)
@@ -50,8 +50,8 @@ value_of numeric columns kind.ENUM_AND_SET_COLUMN_CHARSET value = Ok (field.Enum
 value_of numeric columns kind.COLUMN_VISIBILITY value = bits_for columns value >>= λ bits. Ok (field.ColumnVisibility bits)
 value_of numeric columns kind.VECTOR_DIMENSIONALITY value = Ok (field.Dimensionality value)
 
--- the field that the type byte and the value make, for a table with `numeric` numeric columns and
--- `columns` columns in all; UnknownOptionalField for a kind that isn't known
+-- The field that the type byte and the value make, likewise; UnknownOptionalField for a kind that
+-- isn't known.
 unfoldable pub field_of : ℕ → ℕ → RawField → Result OptionalMetadataField Fault
 field_of numeric columns raw = from_table optional_metadata_field_types UnknownOptionalField raw.kind >>= λ k. value_of numeric columns k raw.value
 
@@ -76,15 +76,10 @@ AreFields f found = (raw : List (Result RawField Fault)) × AreItems raw_field f
 
 -- ---- the fields that are kept
 
--- the first, or the other where there is none
-abbrev pub or_else : {A : Type 0} → Option A → Option A → Option A
-or_else (Some x) other = Some x
-or_else None other = other
-
 -- what the last field of a kind holds
 abbrev pub last_of : {A : Type 0} → (OptionalMetadataField → Option A) → List OptionalMetadataField → Option A
 last_of of_kind [] = None
-last_of of_kind (f ∷ fs) = or_else (last_of of_kind fs) (of_kind f)
+last_of of_kind (f ∷ fs) = option_or (last_of of_kind fs) (of_kind f)
 
 -- what a field holds, if it is of this kind; and so for the other kinds below
 abbrev pub signs_in : OptionalMetadataField → Option (List Bool)
@@ -132,7 +127,16 @@ pub record Kept : Type 0 where
 
 -- what is kept of these fields
 abbrev pub kept : List OptionalMetadataField → Kept
-kept fs = record { signs = last_of signs_in fs; default = last_of default_in fs; charsets = last_of charsets_in fs; names = last_of names_in fs; simple = last_of simple_in fs; prefixed = last_of prefixed_in fs; enum_default = last_of enum_default_in fs; enum_charsets = last_of enum_charsets_in fs }
+kept fs = record {
+  signs = last_of signs_in fs;
+  default = last_of default_in fs;
+  charsets = last_of charsets_in fs;
+  names = last_of names_in fs;
+  simple = last_of simple_in fs;
+  prefixed = last_of prefixed_in fs;
+  enum_default = last_of enum_default_in fs;
+  enum_charsets = last_of enum_charsets_in fs;
+}
 
 -- ---- the columns with a sign bit
 

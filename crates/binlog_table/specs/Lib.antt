@@ -8,11 +8,9 @@ pub mod Lists
 pub mod Variants
 pub mod Fields
 pub mod Keys
-pub mod KeysLeft
 pub mod Charsets
-pub mod CharsetsLeft
 pub mod Extracted
 pub mod TableColumns
 pub mod Steps
-pub mod ColumnsLeft
+pub mod Workings
 pub mod Lemmas

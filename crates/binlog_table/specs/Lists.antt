@@ -46,7 +46,10 @@ pub record RawField : Type 0 where
 
 -- a type byte, a length, and a value of that length
 unfoldable pub raw_field : Format RawField
-raw_field = sequence (little_endian 1) (λ kind. map_value lenenc_string (λ value. record { kind = kind; value = value }))
+raw_field = sequence (little_endian 1) (λ kind. map_value lenenc_string (λ value. record {
+  kind = kind;
+  value = value;
+}))
 
 -- the fields that are left, for a table with `numeric` numeric columns and `columns` columns in all
 pub record FieldsLeft : Type 0 where
@@ -61,4 +64,7 @@ pub record DefaultCharset : Type 0 where
 
 -- a number, of which the low 16 bits are kept, and then pairs to the end of the bytes
 unfoldable pub default_charset : Format DefaultCharset
-default_charset = sequence (low_bits 16) (λ default. map_value all_left (λ pairs. record { default = default; pairs = pairs }))
+default_charset = sequence (low_bits 16) (λ default. map_value all_left (λ pairs. record {
+  default = default;
+  pairs = pairs;
+}))

@@ -44,7 +44,15 @@ pub record Parts : Type 0 where
 abbrev pub column_by : Parts → ℕ → Result Column Fault
 column_by p i =
     p.type i >>= λ type. p.charset i >>= λ charset. p.name i >>= λ name. p.key i >>= λ is_key.
-    Ok (record { column_type = type; metadata = p.chunk i; unsigned = p.sign i; charset = charset; name = name; is_key = is_key; json_place = p.json_place i })
+    Ok (record {
+      column_type = type;
+      metadata = p.chunk i;
+      unsigned = p.sign i;
+      charset = charset;
+      name = name;
+      is_key = is_key;
+      json_place = p.json_place i;
+    })
 
 -- A walk over the columns: the fault of the optional metadata, the columns that are left, the steps
 -- that were made, those once none, one, two and more of these columns are walked over, and how many
@@ -165,7 +173,15 @@ key_at t i =
     key_in (key_items (items lenenc (list_or (kept_of t).simple)) (items (pair_with lenenc) (list_or (kept_of t).prefixed))) i
 
 abbrev pub parts_of : TableMap → Parts
-parts_of t = record { type = type_at t; chunk = chunk_at t.types t.metadata; sign = sign_at t; charset = charset_at t; name = name_at t; key = key_at t; json_place = λ i. json_count (take i t.types) }
+parts_of t = record {
+  type = type_at t;
+  chunk = chunk_at t.types t.metadata;
+  sign = sign_at t;
+  charset = charset_at t;
+  name = name_at t;
+  key = key_at t;
+  json_place = λ i. json_count (take i t.types);
+}
 
 -- column i, or its first fault
 unfoldable pub column_at : TableMap → ℕ → Result Column Fault

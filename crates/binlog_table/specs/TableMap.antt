@@ -49,7 +49,18 @@ table_map_of server post_header_len =
     sequence (take_bytes count) (λ types.
     sequence lenenc_string (λ metadata.
     sequence (take_bytes (bitmap_len count)) (λ null_bits.
-    map_value all_left (λ optional. record { server = server; table_id = id; flags = flags; database = database; table = table; columns_count = count; types = types; metadata = metadata; null_bits = null_bits; optional_metadata = optional })))))))))))
+    map_value all_left (λ optional. record {
+      server = server;
+      table_id = id;
+      flags = flags;
+      database = database;
+      table = table;
+      columns_count = count;
+      types = types;
+      metadata = metadata;
+      null_bits = null_bits;
+      optional_metadata = optional;
+    })))))))))))
 
 -- the parts of an event of MySQL
 abbrev pub table_map : ℕ → Format TableMap

@@ -9,9 +9,9 @@ ghost use Rattle.binlog_table.specs.declared.table_map.optional.fields.OptionalM
 ghost use Rattle.binlog_table.specs.Lists.{DefaultCharset, FieldsLeft, RawField, raw_field, low_bits};
 ghost use Rattle.binlog_table.specs.Fields.{AreFields, fields, is_known_kind};
 ghost use Rattle.binlog_table.specs.Keys.{IsLongestIncreasing, increasing_prefix, key_at};
-ghost use Rattle.binlog_table.specs.KeysLeft.{key_from};
-ghost use Rattle.binlog_table.specs.Charsets.{charset_items};
-ghost use Rattle.binlog_table.specs.CharsetsLeft.{CharsetsLeft, charsets_of};
+ghost use Rattle.binlog_table.specs.Workings.KeysLeft.{key_from};
+ghost use Rattle.binlog_table.specs.Charsets.{IsLongestInOrder, pairs_from, charset_items};
+ghost use Rattle.binlog_table.specs.Workings.CharsetsLeft.{CharsetsLeft, charsets_of};
 ghost use Rattle.binlog_table.specs.Extracted.{IsStart, pairs_or, list_or};
 ghost use Rattle.binlog_table.specs.TableColumns.{Column, column_at, table_columns};
 ghost use Rattle.binlog_base.specs.declared.below.columns.server.Server.{Server};
@@ -70,6 +70,12 @@ pub fn unknown_fields_are_skipped()
 /// States that `increasing_prefix` is the longest strictly increasing prefix of a list of numbers.
 pub fn prefixes_are_longest()
     ensures { (numbers : List ℕ) → IsLongestIncreasing numbers (increasing_prefix numbers) }
+{}
+
+/// States that the pairs by which columns of a group have their character sets are the longest
+/// prefix of all pairs whose columns strictly increase.
+pub fn charset_pairs_are_longest()
+    ensures { (pairs : List (ℕ × ℕ)) → IsLongestInOrder pairs (pairs_from 0 pairs) }
 {}
 
 /// States that columns that are asked for in order, from 0 on, are key columns exactly if the

@@ -2,9 +2,11 @@
 use Rattle.std.proofs.Common.{◌≡◌, ℕ, zero, suc, ◌+◌, Bool, true, false, leb, List, [], ◌∷◌, ◌++◌, length, Option, Some, None, option_map, Result, Ok, Err, refl, sym, ap, ◌∙◌, arith}
 use Rattle.std.proofs.lemmas.Bool.{le-ltb}
 use Rattle.std.proofs.lemmas.List.{length-append}
+use Rattle.std.specs.Result.{result_err}
+use Rattle.std.specs.Option.{option_or}
 use Rattle.binlog_base.specs.declared.fault.Fault.{Fault}
 use Rattle.binlog_values.specs.JsonbTrees.{TreeScalar, tree_scalar, Tree, leaf, node, Branches, no_branches, branch}
-use Rattle.binlog_values.specs.JsonbDocuments.{Document, faulty, single, opened, Entries, no_entries, entry, weight, weights, Position, inside, inside_from, positions, found, in_limit, fault_of, option_or, fault_inside, fault_at, first_fault}
+use Rattle.binlog_values.specs.JsonbDocuments.{Document, faulty, single, opened, Entries, no_entries, entry, weight, weights, Position, inside, inside_from, positions, found, in_limit, fault_inside, fault_at, first_fault}
 use Rattle.binlog_values.specs.Workings.JsonbVisits.{Numbered, numbered, ◌>>-◌, visit, visits}
 
 -- ---- results
@@ -33,9 +35,9 @@ numbered_ok {A = A} n (Ok y) x m e =
     (ap (λ (z : A). Ok z) s.0, s.1)
 numbered_ok n (Err f) x m e = absurd cc
 
-fault_of-map : {A B E : Type 0} (f : A → B) (r : Result A E) → fault_of (r >>- λ x. Ok (f x)) ≡ fault_of r
-fault_of-map f (Ok x) = refl
-fault_of-map f (Err e) = refl
+result_err-map : {A B E : Type 0} (f : A → B) (r : Result A E) → result_err (r >>- λ x. Ok (f x)) ≡ result_err r
+result_err-map f (Ok x) = refl
+result_err-map f (Err e) = refl
 
 -- ---- numbers
 
@@ -82,7 +84,7 @@ first_fault-append limit n (p ∷ ps) qs =
 
 -- ---- the walk
 
-scalar_fault : (n : ℕ) (r : Result TreeScalar Fault) → fault_of (numbered n (r >>- λ p. Ok (leaf p))) ≡ option_or (option_map (λ f. (f, n)) (fault_of r)) None
+scalar_fault : (n : ℕ) (r : Result TreeScalar Fault) → result_err (numbered n (r >>- λ p. Ok (leaf p))) ≡ option_or (option_map (λ f. (f, n)) (result_err r)) None
 scalar_fault n (Ok p) = refl
 scalar_fault n (Err f) = refl
 
@@ -93,21 +95,21 @@ abbrev node_done : Bool → Branches × ℕ → Tree × ℕ
 node_done a bs = (node a bs.0, bs.1)
 
 -- what is read of a value, and of the entries after it
-after_value : (k : List ℕ) (r : Numbered Tree) (rest : ℕ → Numbered Branches) (x y z : Option (Fault × ℕ)) → fault_of r ≡ option_or x y → ((t : Tree) (m : ℕ) → r ≡ Ok (t, m) → fault_of (rest m) ≡ z)
-    → fault_of {A = Branches × ℕ} (r >>- λ t. rest t.1 >>- λ bs. Ok (branch k t.0 bs.0, bs.1)) ≡ option_or x (option_or y z)
+after_value : (k : List ℕ) (r : Numbered Tree) (rest : ℕ → Numbered Branches) (x y z : Option (Fault × ℕ)) → result_err r ≡ option_or x y → ((t : Tree) (m : ℕ) → r ≡ Ok (t, m) → result_err (rest m) ≡ z)
+    → result_err {T = Branches × ℕ} (r >>- λ t. rest t.1 >>- λ bs. Ok (branch k t.0 bs.0, bs.1)) ≡ option_or x (option_or y z)
 after_value k (Err e) rest x y z h later = ap (λ (o : Option (Fault × ℕ)). option_or o z) h ∙ sym (option_or-assoc x y z)
 after_value k (Ok t) rest x y z h later =
-    fault_of-map (λ (bs : Branches × ℕ). entry_done k t.0 bs) (rest t.1) ∙ later t.0 t.1 refl ∙ ap (λ (o : Option (Fault × ℕ)). option_or o z) h ∙ sym (option_or-assoc x y z)
+    result_err-map (λ (bs : Branches × ℕ). entry_done k t.0 bs) (rest t.1) ∙ later t.0 t.1 refl ∙ ap (λ (o : Option (Fault × ℕ)). option_or o z) h ∙ sym (option_or-assoc x y z)
 
 -- the position itself first
-after_found : (n : ℕ) (f : Result (List ℕ) Fault) (next : List ℕ → Numbered Branches) (own : Option Fault) (later : Option (Fault × ℕ)) → ((k : List ℕ) → f ≡ Ok k → fault_of (next k) ≡ option_or (option_map (λ g. (g, n)) own) later)
-    → fault_of (numbered n f >>- λ k. next k.0) ≡ option_or (option_map (λ g. (g, n)) (option_or (fault_of f) own)) later
+after_found : (n : ℕ) (f : Result (List ℕ) Fault) (next : List ℕ → Numbered Branches) (own : Option Fault) (later : Option (Fault × ℕ)) → ((k : List ℕ) → f ≡ Ok k → result_err (next k) ≡ option_or (option_map (λ g. (g, n)) own) later)
+    → result_err (numbered n f >>- λ k. next k.0) ≡ option_or (option_map (λ g. (g, n)) (option_or (result_err f) own)) later
 after_found n (Err e) next own later h = refl
 after_found n (Ok k) next own later h = h k refl
 
 mutual
   pub visit-first : (d : Document) (limit levels n : ℕ) (path : List ℕ) → levels + length path ≡ 100
-      → fault_of (visit limit levels n d) ≡ option_or (option_map (λ f. (f, n)) (fault_inside (length path) d)) (first_fault limit (suc n) (inside path d))
+      → result_err (visit limit levels n d) ≡ option_or (option_map (λ f. (f, n)) (fault_inside (length path) d)) (first_fault limit (suc n) (inside path d))
   visit-first (faulty f) limit levels n path h = refl
   visit-first (single s) limit levels n path h = scalar_fault n (tree_scalar s)
   visit-first (opened c es) limit zero n path h =
@@ -115,10 +117,10 @@ mutual
       rw deep refl
   visit-first (opened c es) limit (suc v) n path h =
       let room : leb 100 (length path) ≡ false = grind arith in
-      rw room (fault_of-map (λ (bs : Branches × ℕ). node_done c.is_array bs) (visits limit v n es) ∙ visits-first es limit v n path 0 (omega arith))
+      rw room (result_err-map (λ (bs : Branches × ℕ). node_done c.is_array bs) (visits limit v n es) ∙ visits-first es limit v n path 0 (omega arith))
 
   pub visits-first : (es : Entries) (limit levels n : ℕ) (path : List ℕ) (i : ℕ) → levels + suc (length path) ≡ 100
-      → fault_of (visits limit levels n es) ≡ first_fault limit (suc n) (inside_from path i es)
+      → result_err (visits limit levels n es) ≡ first_fault limit (suc n) (inside_from path i es)
   visits-first no_entries limit levels n path i h = refl
   visits-first (entry key d es) limit levels n path i h =
       let inner = path ++ i ∷ [] in
@@ -137,7 +139,7 @@ mutual
 root_in_limit : (limit : ℕ) → in_limit limit 0 (Ok []) ≡ Ok []
 root_in_limit limit = rw (le-ltb limit 0 (omega arith)) refl
 
-pub walk_first : (limit : ℕ) (d : Document) → fault_of (visit limit 100 0 d) ≡ first_fault limit 0 (positions d)
+pub walk_first : (limit : ℕ) (d : Document) → result_err (visit limit 100 0 d) ≡ first_fault limit 0 (positions d)
 walk_first limit (faulty f) = refl
 walk_first limit (single s) = rw root_in_limit (visit-first (single s) limit 100 0 [] refl)
 walk_first limit (opened c es) = rw root_in_limit (visit-first (opened c es) limit 100 0 [] refl)

@@ -1,16 +1,18 @@
 -- Where the fault of a limit comes, and where any other.
 use Rattle.std.proofs.Common.{◌≡◌, ◌≢◌, ℕ, zero, suc, ◌+◌, ◌<◌, ◌≤◌, Bool, true, false, true≢false, List, [], ◌∷◌, ◌++◌, length, Option, Some, None, Result, Ok, Err, refl, sym, ap, subst, ◌∙◌, inl, inr, ◌⊎◌, arith}
-use Rattle.std.specs.Prelude.{⊤, nat_lt, nat_le, if◌then◌else◌, option_map}
+use Rattle.std.specs.Prelude.{⊤, Any, nat_lt, nat_le, if◌then◌else◌, option_map}
 use Rattle.std.proofs.lemmas.Bool.{ltb-true, leb-true}
 use Rattle.std.proofs.lemmas.List.{length-append}
+use Rattle.std.specs.Result.{result_err}
+use Rattle.std.specs.Option.{option_or}
 use Rattle.binlog_base.specs.declared.fault.Fault.{Fault}
 use Rattle.binlog_base.specs.declared.fault.Fault.TheVariants.{UnexpectedEof, TooManyValues, NestingTooDeep}
 use Rattle.binlog_base.specs.Faults.{IsOfBytes, OfBytes}
 use Rattle.binlog_base.specs.Lemmas.Faults.{fault_of_bytes}
 use Rattle.binlog_values.specs.JsonbValues.{JsonbValue, scalar, nested, Frame, key_at, element_at}
 use Rattle.binlog_values.specs.JsonbTrees.{TreeScalar, tree_scalar, entry_key}
-use Rattle.binlog_values.specs.JsonbDocuments.{Document, faulty, single, opened, entries, unfold_to, size_of, document_of, weight, depth, depths, Position, inside, inside_from, positions, fault_of, option_or, fault_inside, fault_at, first_fault}
-use Rattle.binlog_values.specs.JsonbParsed.{HasFault, SomeOf}
+use Rattle.binlog_values.specs.JsonbDocuments.{Document, faulty, single, opened, entries, unfold_to, size_of, document_of, weight, depth, depths, Position, inside, inside_from, positions, fault_inside, fault_at, first_fault}
+use Rattle.binlog_values.specs.JsonbParsed.{HasFault}
 use Rattle.binlog_values.specs.Lemmas.JsonbValues.{element_of_bytes, key_of_bytes}
 use Rattle.binlog_values.proofs.JsonbFirstFault.{length-inside}
 use Rattle.binlog_values.proofs.JsonbScalars.{scalar_of_bytes}
@@ -28,6 +30,16 @@ some_is x y e = cc
 
 one_is : (f g : Fault) → one f ≡ one g → f ≡ g
 one_is f g e = cc
+
+-- one of the positions has the property
+abbrev SomeOf : (Position → Type 0) → List Position → Type 0
+SomeOf P [] = ⊥
+SomeOf P (p ∷ ps) = P p ⊎ SomeOf P ps
+
+any_of : (P : Position → Type 0) (ps : List Position) → SomeOf P ps → Any P ps
+any_of P [] h = absurd h
+any_of P (p ∷ ps) (inl here) = (zero, p, omega arith, refl, here)
+any_of P (p ∷ ps) (inr later) = let a = any_of P ps later in (suc a.0, a.1, omega (arith, a.2), a.3, a.4)
 
 -- it has that fault with its number, which is below the count of the positions
 At : ℕ → Fault → ℕ → Position → Type 0
@@ -59,7 +71,7 @@ abbrev Cause : ℕ → ℕ → Position → Fault → Type 0
 Cause limit n p f = HasFault f p ⊎ (((f ≡ TooManyValues) × (limit < n)) ⊎ ((f ≡ NestingTooDeep) × (100 ≤ length p.path) × (0 < depth p.value)))
 
 -- the limit on values, and then what is inside
-limited : (limit n : ℕ) (k : List ℕ) (b : Bool) (own : Option Fault) (f : Fault) → nat_lt limit n ≡ b → option_or (fault_of {E = Fault} (if b then Err TooManyValues else Ok k)) own ≡ Some f → ((f ≡ TooManyValues) × (limit < n)) ⊎ (own ≡ Some f)
+limited : (limit n : ℕ) (k : List ℕ) (b : Bool) (own : Option Fault) (f : Fault) → nat_lt limit n ≡ b → option_or (result_err {E = Fault} (if b then Err TooManyValues else Ok k)) own ≡ Some f → ((f ≡ TooManyValues) × (limit < n)) ⊎ (own ≡ Some f)
 limited limit n k true own f is e = inl (sym (one_is TooManyValues f e), ltb-true limit n is)
 limited limit n k false own f is e = inr e
 
@@ -71,7 +83,7 @@ causes : (limit n : ℕ) (path : List ℕ) (key : Result (List ℕ) Fault) (d : 
 causes limit n path (Err g) d f e = inl (inl (ap (λ (x : Fault). Err x) (one_is g f e)))
 causes limit n path (Ok k) (faulty g) f e = inl (inr e)
 causes limit n path (Ok k) (single s) f e =
-    elim (limited limit n k (nat_lt limit n) (fault_of (tree_scalar s)) f refl e) [
+    elim (limited limit n k (nat_lt limit n) (result_err (tree_scalar s)) f refl e) [
       | inl many ↦ inr (inl many)
       | inr own ↦ inl (inr own)
     ]
@@ -109,7 +121,7 @@ value_of_bytes zero r h f e = subst IsOfBytes (one_is UnexpectedEof f e) refl
 value_of_bytes (suc fuel) (Err g) h f e = subst IsOfBytes (one_is g f e) h
 value_of_bytes (suc fuel) (Ok (scalar s)) h f e = faulty_scalar (tree_scalar s) (scalar_of_bytes s) f e
   where
-    faulty_scalar : (r : Result TreeScalar Fault) → OfBytes r → (f : Fault) → fault_of r ≡ Some f → IsOfBytes f
+    faulty_scalar : (r : Result TreeScalar Fault) → OfBytes r → (f : Fault) → result_err r ≡ Some f → IsOfBytes f
     faulty_scalar (Ok p) h f e = absurd cc
     faulty_scalar (Err g) h f e = subst IsOfBytes (one_is g f e) h
 value_of_bytes (suc fuel) (Ok (nested c)) h f e = absurd cc
@@ -190,5 +202,6 @@ some_has limit m f (p ∷ ps) deep many h = elim h [
   | inr later ↦ inr (some_has limit m f ps deep many later)
 ]
 
-pub other_is_own : (limit : ℕ) (v : JsonbValue) (f : Fault) (m : ℕ) → first limit v ≡ Some (f, m) → f ≢ NestingTooDeep → f ≢ TooManyValues → SomeOf (HasFault f) (positions (document_of (Ok v)))
-other_is_own limit v f m e deep many = some_has limit m f (positions (document_of (Ok v))) deep many (first_at limit 0 (positions (document_of (Ok v))) f m e).0
+pub other_is_own : (limit : ℕ) (v : JsonbValue) (f : Fault) (m : ℕ) → first limit v ≡ Some (f, m) → f ≢ NestingTooDeep → f ≢ TooManyValues → Any (HasFault f) (positions (document_of (Ok v)))
+other_is_own limit v f m e deep many =
+    any_of (HasFault f) (positions (document_of (Ok v))) (some_has limit m f (positions (document_of (Ok v))) deep many (first_at limit 0 (positions (document_of (Ok v))) f m e).0)

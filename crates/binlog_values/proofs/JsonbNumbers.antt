@@ -3,8 +3,9 @@ use Rattle.std.proofs.Common.{◌≡◌, ℕ, zero, suc, ◌+◌, ◌<◌, ◌�
 use Rattle.std.specs.Prelude.{slice_get}
 use Rattle.std.proofs.lemmas.Bool.{cases_lt, lt-ltb, le-ltb}
 use Rattle.std.proofs.lemmas.List.{append_assoc}
+use Rattle.std.specs.Option.{option_or}
 use Rattle.binlog_base.specs.declared.fault.Fault.{Fault}
-use Rattle.binlog_values.specs.JsonbDocuments.{Document, faulty, single, opened, Entries, no_entries, entry, weight, Position, inside, inside_from, positions, entries, document_of, option_or, fault_at, first_fault}
+use Rattle.binlog_values.specs.JsonbDocuments.{Document, faulty, single, opened, Entries, no_entries, entry, weight, Position, inside, inside_from, positions, entries, document_of, fault_at, first_fault}
 use Rattle.binlog_values.specs.JsonbValues.{element_at}
 use Rattle.binlog_values.specs.JsonbTrees.{entry_key}
 use Rattle.binlog_values.specs.JsonbLaws.{IsPosition, entries_in, entry_in, weight_before, IsEntry, NumbersAddUp, PositionsAreEntries, EntriesArePositions, PathsAreOne, EntriesAreElements, PositionsAreValues, FaultsAreAtNumbers, FaultsAreFirst}

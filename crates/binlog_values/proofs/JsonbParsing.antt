@@ -1,17 +1,18 @@
 -- What the result of reading a document says of the document.
 use Rattle.std.proofs.Common.{◌≡◌, ◌≢◌, ℕ, ◌+◌, ◌/◌, ◌≤◌, ◌<◌, length, Some, Result, Ok, Err, refl, sym, ap, subst, ◌∙◌, arith}
-use Rattle.std.specs.Prelude.{IfOk, OnOk, IfErr, IsOk, true}
+use Rattle.std.specs.Prelude.{IfOk, OnOk, IfErr, IsOk, true, Any}
+use Rattle.std.specs.Result.{result_err}
 use Rattle.binlog_base.specs.declared.fault.Fault.{Fault}
 use Rattle.binlog_base.specs.declared.fault.Fault.TheVariants as faults
 use Rattle.binlog_values.specs.declared.jsonb.dom.JsonDom.{JsonDom}
 use Rattle.binlog_values.specs.JsonbValues.{Frame, JsonbValue, scalar, nested}
 use Rattle.binlog_values.specs.JsonbTrees.{Tree, Denotes}
-use Rattle.binlog_values.specs.JsonbDocuments.{weight, depth, positions, fault_of, first_fault, limit_of}
+use Rattle.binlog_values.specs.JsonbDocuments.{weight, depth, positions, first_fault, limit_of}
 use Rattle.binlog_values.specs.Workings.JsonbVisits.{visit}
 use Rattle.binlog_values.specs.JsonbHeaders.{headers, AreDisjoint, IsWhole, IsWholeValue}
 use Rattle.binlog_values.specs.JsonbContainers.{IsScalar}
 use Rattle.binlog_values.specs.JsonbDoms.{Meets, IsTree, IsGiven}
-use Rattle.binlog_values.specs.JsonbParsed.{document, IsDenoted, IsWithinLimits, HasFault, SomeOf, is_simple, Parsed}
+use Rattle.binlog_values.specs.JsonbParsed.{document, IsDenoted, IsWithinLimits, HasFault, is_simple, Parsed}
 use Rattle.binlog_values.proofs.JsonbUnfolding.{document_is}
 use Rattle.binlog_values.proofs.JsonbFirstFault.{same_number, visit-number, walk_first}
 use Rattle.binlog_values.proofs.JsonbDenoting.{tree-given, tree-found}
@@ -57,7 +58,7 @@ few (nested c) w h = omega (arith, three_bytes_each c w h)
 
 fault : (v : JsonbValue) (r : Result JsonDom Fault) (n : ℕ) → IsRead v r n → IfErr r (λ f. f ≢ faults.Memory → first_fault (limit_of v) 0 (positions (document v)) ≡ Some (f, n))
 fault v (Ok d) n h = tt
-fault v (Err f) n h = λ not. sym (walk_first (limit_of v) (document v)) ∙ ap fault_of (h not)
+fault v (Err f) n h = λ not. sym (walk_first (limit_of v) (document v)) ∙ ap result_err (h not)
 
 abbrev failed : Fault → Result JsonDom Fault
 failed f = Err f
@@ -79,7 +80,7 @@ values v (Err f) n h e =
     let first = fault v (Err f) n h (λ m. cc) in
     values_are_many (limit_of v) v n (first ∙ ap (λ (g : Fault). Some (g, n)) is)
 
-other : (v : JsonbValue) (r : Result JsonDom Fault) (n : ℕ) → IsRead v r n → IfErr r (λ f. f ≢ faults.Memory → f ≢ faults.NestingTooDeep → f ≢ faults.TooManyValues → SomeOf (HasFault f) (positions (document v)))
+other : (v : JsonbValue) (r : Result JsonDom Fault) (n : ℕ) → IsRead v r n → IfErr r (λ f. f ≢ faults.Memory → f ≢ faults.NestingTooDeep → f ≢ faults.TooManyValues → Any (HasFault f) (positions (document v)))
 other v (Ok d) n h = tt
 other v (Err f) n h = λ not deep many. other_is_own (limit_of v) v f n (fault v (Err f) n h not) deep many
 

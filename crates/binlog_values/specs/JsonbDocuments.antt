@@ -1,6 +1,8 @@
 -- A binary JSON value with all that is inside it, faulty parts included; its positions in document
 -- order, and the first of them that has a fault.
 use Rattle.std.specs.Prelude.{ℕ, zero, suc, ◌+◌, ◌/◌, max, nat_lt, nat_le, List, [], ◌∷◌, ◌++◌, length, Option, Some, None, option_map, Result, Ok, Err, if◌then◌else◌}
+use Rattle.std.specs.Result.{result_err}
+use Rattle.std.specs.Option.{option_or}
 use Rattle.binlog_base.specs.declared.fault.Fault.{Fault}
 use Rattle.binlog_base.specs.declared.fault.Fault.TheVariants.{UnexpectedEof, NestingTooDeep, TooManyValues}
 use Rattle.binlog_values.specs.JsonbValues.{Scalar, JsonbValue, scalar, nested, Frame, element_at}
@@ -128,27 +130,17 @@ found limit n (Ok k) (faulty f) = Err f
 found limit n (Ok k) (single s) = in_limit limit n (Ok k)
 found limit n (Ok k) (opened c es) = in_limit limit n (Ok k)
 
--- the fault of a result, if it is one
-abbrev pub fault_of : {A E : Type 0} → Result A E → Option E
-fault_of (Ok x) = None
-fault_of (Err f) = Some f
-
--- the first, or the second where there is no first
-abbrev pub option_or : {A : Type 0} → Option A → Option A → Option A
-option_or None y = y
-option_or (Some x) y = Some x
-
 -- the fault of a value with `level` containers around it: that of a container's nesting, or that of
 -- a scalar in the tree
 abbrev pub fault_inside : ℕ → Document → Option Fault
 fault_inside level (faulty f) = Some f
-fault_inside level (single s) = fault_of (tree_scalar s)
+fault_inside level (single s) = result_err (tree_scalar s)
 fault_inside level (opened c es) = if nat_le max_depth level then Some NestingTooDeep else None
 
 -- the fault of the position with number n: its key's, its value's, that of the limit on values, and
 -- then that of its nesting or its scalar
 abbrev pub fault_at : ℕ → ℕ → Position → Option Fault
-fault_at limit n p = option_or (fault_of (found limit n p.key p.value)) (fault_inside (length p.path) p.value)
+fault_at limit n p = option_or (result_err (found limit n p.key p.value)) (fault_inside (length p.path) p.value)
 
 -- the first position with a fault, and its number; the first of the list has number n
 abbrev pub first_fault : ℕ → ℕ → List Position → Option (Fault × ℕ)

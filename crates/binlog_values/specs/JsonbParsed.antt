@@ -1,5 +1,5 @@
 -- What `parse` promises.
-use Rattle.std.specs.Prelude.{◌≡◌, ◌≢◌, ℕ, ◌+◌, ◌<◌, ◌≤◌, Bool, true, false, List, [], ◌∷◌, Some, IfErr, IfOk, IsOk, OnOk, Result, Ok, Err, ◌⊎◌}
+use Rattle.std.specs.Prelude.{◌≡◌, ◌≢◌, ℕ, ◌+◌, ◌<◌, ◌≤◌, Any, Bool, true, false, List, [], ◌∷◌, Some, IfErr, IfOk, IsOk, OnOk, Result, Ok, Err, ◌⊎◌}
 use Rattle.binlog_base.specs.declared.fault.Fault.{Fault}
 use Rattle.binlog_base.specs.declared.fault.Fault.TheVariants.{Memory, NestingTooDeep, TooManyValues}
 use Rattle.binlog_values.specs.declared.jsonb.dom.JsonDom.{JsonDom}
@@ -25,11 +25,6 @@ IsWithinLimits value = (depth (document value) ≤ max_depth) × (weight (docume
 -- the fault is that of the position's key, or of its value, or of its value as a scalar of the tree
 abbrev pub HasFault : Fault → Position → Type 0
 HasFault f p = (p.key ≡ Err f) ⊎ (fault_inside 0 p.value ≡ Some f)
-
--- one of the positions has the property
-abbrev pub SomeOf : (Position → Type 0) → List Position → Type 0
-SomeOf P [] = ⊥
-SomeOf P (p ∷ ps) = P p ⊎ SomeOf P ps
 
 -- a literal or a number
 abbrev pub is_simple : JsonbValue → Bool
@@ -63,7 +58,7 @@ pub record Parsed (value : JsonbValue) (result : Result JsonDom Fault) (read : �
   pub nesting : result ≡ Err NestingTooDeep → max_depth < depth (document value)
   pub values : result ≡ Err TooManyValues → limit_of value < weight (document value)
   pub other : IfErr result (λ f. f ≢ Memory → f ≢ NestingTooDeep → f ≢ TooManyValues →
-      SomeOf (HasFault f) (positions (document value)))
+      Any (HasFault f) (positions (document value)))
   pub bound : read ≤ limit_of value + 1
   pub unread : IsScalar value → read ≡ 0
   pub simple : is_simple value ≡ true → IsOk result

@@ -6,7 +6,6 @@ pub use Rattle.binlog_decimal.specs.TimeCharacters
 pub use Rattle.binlog_decimal.specs.Decimals
 pub use Rattle.binlog_decimal.specs.DecimalGroups
 pub use Rattle.binlog_decimal.specs.DecimalMasks
-pub use Rattle.binlog_decimal.specs.DecimalPacking
 pub use Rattle.binlog_decimal.specs.DecimalReads
 pub use Rattle.binlog_decimal.specs.PackedDecimals
 pub use Rattle.binlog_decimal.specs.LentDecimals

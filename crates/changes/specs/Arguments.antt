@@ -19,11 +19,21 @@ form_of false false = form.Json
 -- The positions of the file with this number among so many: the start position is that of the first file, and
 -- the stop position that of the last one.
 abbrev pub positions_of : Positions → ℕ → ℕ → Positions
-positions_of p files index = record { start = if index == 0 then p.start else None; stop = if index + 1 == files then p.stop else None }
+positions_of p files index = record {
+  start = if index == 0 then p.start else None;
+  stop = if index + 1 == files then p.stop else None;
+}
 
 -- what is printed of the file with this number
 abbrev pub settings_of : Arguments → ℕ → Settings
-settings_of a index = record { filter = record { tables = a.tables; operations = a.operations; positions = positions_of a.positions (length a.files.now) index }; form = form_of a.is_count a.is_text }
+settings_of a index = record {
+  filter = record {
+    tables = a.tables;
+    operations = a.operations;
+    positions = positions_of a.positions (length a.files.now) index;
+  };
+  form = form_of a.is_count a.is_text;
+}
 
 -- ---- what the words say
 

@@ -18,7 +18,11 @@ abbrev pub nothing : Changed
 nothing = record { inserted = 0; updated = 0; deleted = 0 }
 
 abbrev pub plus : Changed → Changed → Changed
-plus a b = record { inserted = up_to_most (a.inserted + b.inserted); updated = up_to_most (a.updated + b.updated); deleted = up_to_most (a.deleted + b.deleted) }
+plus a b = record {
+  inserted = up_to_most (a.inserted + b.inserted);
+  updated = up_to_most (a.updated + b.updated);
+  deleted = up_to_most (a.deleted + b.deleted);
+}
 
 -- so many rows more that an operation changed
 abbrev pub added : Operation → ℕ → Changed → Changed
@@ -61,7 +65,11 @@ abbrev pub sum_where : (Name → Bool) → (Operation → ℕ → ℕ) → List 
 sum_where test rows xs = up_to_most (sum_by (λ x. if test x.name then rows x.operation x.rows else 0) xs)
 
 abbrev pub changed_where : (Name → Bool) → List Counted → Changed
-changed_where test xs = record { inserted = sum_where test inserted_in xs; updated = sum_where test updated_in xs; deleted = sum_where test deleted_in xs }
+changed_where test xs = record {
+  inserted = sum_where test inserted_in xs;
+  updated = sum_where test updated_in xs;
+  deleted = sum_where test deleted_in xs;
+}
 
 -- ---- the counts
 
@@ -107,7 +115,11 @@ name_text n = utf8_lossy n.database.items ++ (codes "." ++ utf8_lossy n.table.it
 
 -- the numbers of several tables together
 abbrev pub sum_of : List Changed → Changed
-sum_of cs = record { inserted = up_to_most (sum_by (λ c. c.inserted) cs); updated = up_to_most (sum_by (λ c. c.updated) cs); deleted = up_to_most (sum_by (λ c. c.deleted) cs) }
+sum_of cs = record {
+  inserted = up_to_most (sum_by (λ c. c.inserted) cs);
+  updated = up_to_most (sum_by (λ c. c.updated) cs);
+  deleted = up_to_most (sum_by (λ c. c.deleted) cs);
+}
 
 abbrev pub is_nothing : Changed → Bool
 is_nothing c = c.inserted == 0 && (c.updated == 0 && c.deleted == 0)

@@ -17,4 +17,8 @@ abbrev pub is_chosen : List (Bor (List ℕ)) → Operation → Bool
 is_chosen letters o = length letters == 0 || list_any (λ letter. bytes_eq letter.now (letter_of o)) letters
 
 abbrev pub operations_of : List (Bor (List ℕ)) → Operations
-operations_of letters = record { inserts = is_chosen letters operation.Insert; updates = is_chosen letters operation.Update; deletes = is_chosen letters operation.Delete }
+operations_of letters = record {
+  inserts = is_chosen letters operation.Insert;
+  updates = is_chosen letters operation.Update;
+  deletes = is_chosen letters operation.Delete;
+}

@@ -11,7 +11,7 @@ ghost use Rattle.mysql_binlog_rows.specs.Images.{Pair, pair};
 ghost use Rattle.mysql_binlog_rows.specs.Cover.{Covers};
 ghost use Rattle.binlog_file.specs.declared.lent_changes.LentEvent.TheVariants as lent;
 ghost use Rattle.binlog_file.specs.SourceChanges.{Finds, spot_at, items_left};
-ghost use Rattle.binlog_file.specs.SourceWalks.{reading_in, kept_in};
+ghost use Rattle.binlog_file.specs.Workings.SourceWalks.{reading_in, kept_in};
 ghost use Rattle.changes.specs.declared.run.Form.TheVariants as Form;
 ghost use Rattle.changes.specs.declared.run.Ended.TheVariants.{Whole};
 ghost use Rattle.changes.specs.Filters.{wanted_by};

@@ -7,13 +7,11 @@ use Rattle.binlog_table.specs.TableMap.{TableMap, without_id}
 use Rattle.binlog_table.specs.ColumnTypes.{json_count}
 use Rattle.binlog_table.specs.Extracted.{field_fault}
 use Rattle.binlog_table.specs.TableColumns.{Column, column_at, table_columns}
-use Rattle.mysql_binlog_rows.specs.RowsEvent.{RowsEvent, image_columns}
+use Rattle.mysql_binlog_rows.specs.RowsEvent.{RowsEvent, image_columns, has_options}
 use Rattle.mysql_binlog_rows.specs.RowsEventWritten.{IsRowsEvent}
-use Rattle.mysql_binlog_rows.specs.Images.{has_options}
-use Rattle.mysql_binlog_rows.specs.Plans as Spec
-use Rattle.mysql_binlog_rows.specs.Plans.{Plan, Plans, planned_then, first_column, after_first, planned_from, unless_refused, plan_of, plans_by, plans_of, walked_in, walked_apart, same_columns, slot_count, planned_pair}
-use Rattle.mysql_binlog_rows.specs.Rows.{Made, Rows, IsOf, most_steps, made_by}
-use Rattle.mysql_binlog_rows.specs.Plans.{Reads}
+use Rattle.mysql_binlog_rows.specs.Workings.Plans as Spec
+use Rattle.mysql_binlog_rows.specs.Workings.Plans.{Plan, Plans, planned_then, first_column, after_first, planned_from, unless_refused, plan_of, plans_by, plans_of, walked_in, walked_apart, same_columns, slot_count, planned_pair, Reads}
+use Rattle.mysql_binlog_rows.specs.Rows.{Made, Rows, IsOf, event_steps, most_steps, made_by}
 use Rattle.mysql_binlog_rows.specs.Kept.{Planned, Serves, plans_kept}
 use Rattle.mysql_binlog_rows.proofs.PlanReads.{plans_read, slots_least}
 
@@ -64,9 +62,10 @@ reads_made true m t e reads x = reads x
 reads_made false m t e reads x = reads x
 
 -- plans that were made for these events are theirs
-pub of_events : (t : TableMap) (e : RowsEvent) (m : Made) (r : Rows) → IsRowsEvent e → m.plans ≡ plans_of t e → m.steps ≤ most_steps t e → r.plans ≡ m.plans → r.most_steps ≡ m.steps → IsOf t e r
-of_events t e m r is plans most same steps = record {
+pub of_events : (t : TableMap) (e : RowsEvent) (m : Made) (r : Rows) → IsRowsEvent e → m.plans ≡ plans_of t e → m.steps ≡ event_steps t e → m.steps ≤ most_steps t e → r.plans ≡ m.plans → r.due_steps ≡ m.steps → r.most_steps ≡ m.steps → IsOf t e r
+of_events t e m r is plans exact most same due steps = record {
   reads = subst (λ (p : Plans). Reads t e p) (sym (same ∙ plans)) (plans_read t e);
+  exact = due ∙ exact;
   most = omega (arith, most, steps);
   least = λ d. subst (λ (p : Plans). e.num_columns ≤ slot_count p) (sym (same ∙ plans)) (slots_least t e is d);
 }

@@ -2,6 +2,7 @@
 pub mod Covers
 pub mod Loop
 pub mod Plans
+pub mod Steps
 pub mod SamePlan
 pub mod PlanReads
 pub mod AlikePlans

@@ -5,7 +5,7 @@ use Rattle.binlog_base.specs.declared.fault.Fault.{Fault}
 use Rattle.binlog_base.specs.Format.{◌>>=◌}
 use Rattle.binlog_base.specs.Lemmas.Format.{ok_is, err_is}
 use Rattle.binlog_cells.specs.Cells.{Cell, one_more}
-use Rattle.mysql_binlog_rows.specs.Plans.{Slot, ends, slot_cell, slot_cells}
+use Rattle.mysql_binlog_rows.specs.Workings.Plans.{Slot, ends, slot_cell, slot_cells}
 
 abbrev pub Read : Type 0
 Read = Result (List (Option Cell) × List ℕ) Fault

@@ -15,13 +15,13 @@ use Rattle.binlog_table.specs.Keys.{unless}
 use Rattle.binlog_table.specs.Extracted.{field_fault}
 use Rattle.binlog_table.specs.TableColumns.{Column, column_at, column_then, columns_by, unless_faulty}
 use Rattle.binlog_table.specs.Lemmas.TableColumns.{no_column}
-use Rattle.mysql_binlog_rows.specs.RowsEvent.{RowsEvent, image_columns, has_before, has_after}
+use Rattle.mysql_binlog_rows.specs.RowsEvent.{RowsEvent, image_columns, has_before, has_after, has_options}
 use Rattle.mysql_binlog_rows.specs.RowsEventWritten.{IsRowsEvent}
 use Rattle.binlog_cells.specs.Cells.{Cell}
 use Rattle.binlog_cells.specs.Forms.{cell_by_form}
 use Rattle.binlog_cells.specs.Lemmas.Forms.{reads_by_form}
-use Rattle.mysql_binlog_rows.specs.Images.{BinlogRow, row_column, row_of, is_json, is_partial, nullable_cell, cells, options_of, image, maybe_image, has_options, pair}
-use Rattle.mysql_binlog_rows.specs.Plans.{Planned, slot_of, nothing_then, planned_then, first_column, after_first, planned_from, unless_refused, plan_of, plans_of, walked_in, slot_count, slot_cell, slot_cells, planned_image, planned_maybe, planned_pair}
+use Rattle.mysql_binlog_rows.specs.Images.{BinlogRow, row_column, row_of, is_json, is_partial, nullable_cell, cells, options_of, image, maybe_image, pair}
+use Rattle.mysql_binlog_rows.specs.Workings.Plans.{Planned, slot_of, nothing_then, planned_then, first_column, after_first, planned_from, unless_refused, plan_of, plans_of, walked_in, slot_count, slot_cell, slot_cells, planned_image, planned_maybe, planned_pair}
 use Rattle.mysql_binlog_rows.specs.Rows.{IsDescribed, columns_in}
 use Rattle.mysql_binlog_rows.proofs.SamePlan.{after_least}
 

@@ -5,7 +5,7 @@ use Rattle.binlog_base.specs.declared.fault.Fault.{Fault}
 use Rattle.binlog_base.specs.Values.{ColumnView}
 use Rattle.binlog_table.specs.TableMap.{TableMap}
 use Rattle.binlog_table.specs.TableColumns.{Column, PassesOver, FaultFirst, PassesMany}
-use Rattle.mysql_binlog_rows.specs.Plans.{Slot, Planned, nothing_then, column_then, planned_from, first_column, after_first}
+use Rattle.mysql_binlog_rows.specs.Workings.Plans.{Slot, Planned, nothing_then, column_then, planned_from, first_column, after_first}
 
 abbrev pub after_planned : List Slot → List ColumnView → ℕ → Planned → Planned
 after_planned slots columns walked others = record { slots = slots ++ others.slots; columns = columns ++ others.columns; walked = walked + others.walked; fault = others.fault }

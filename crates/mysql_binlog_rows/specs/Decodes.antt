@@ -20,7 +20,13 @@ pub record Input : Type 0 where
   pub ctx : RowsEventCtx
 
 abbrev pub input_of : Server → List ℕ → ℕ → List ℕ → RowsEventCtx → Input
-input_of server table table_post_header_len rows ctx = record { server = server; table = table; table_post_header_len = table_post_header_len; rows = rows; ctx = ctx }
+input_of server table table_post_header_len rows ctx = record {
+  server = server;
+  table = table;
+  table_post_header_len = table_post_header_len;
+  rows = rows;
+  ctx = ctx;
+}
 
 -- those of MySQL
 abbrev pub input : List ℕ → ℕ → List ℕ → RowsEventCtx → Input

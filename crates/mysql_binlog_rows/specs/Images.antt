@@ -8,14 +8,12 @@ use Rattle.binlog_base.specs.Format.{Format, no_bytes, check, sequence, map_valu
 use Rattle.binlog_base.specs.Bits.{count_set, bit_list}
 use Rattle.binlog_base.specs.Numbers.{lenenc}
 use Rattle.binlog_base.specs.Values.{ColumnView, column_flags_of, Null}
-use Rattle.binlog_consts.specs.declared.consts.event_type.EventType.{EventType}
-use Rattle.binlog_consts.specs.declared.consts.event_type.EventType.TheVariants as event
 use Rattle.binlog_table.specs.TableMap.{TableMap}
 use Rattle.binlog_table.specs.ColumnTypes.{json_count}
 use Rattle.binlog_table.specs.Keys.{unless}
 use Rattle.binlog_table.specs.Extracted.{field_fault}
 use Rattle.binlog_table.specs.TableColumns.{Column, column_at}
-use Rattle.mysql_binlog_rows.specs.RowsEvent.{RowsEvent, image_columns}
+use Rattle.mysql_binlog_rows.specs.RowsEvent.{RowsEvent, has_options, image_columns}
 use Rattle.binlog_cells.specs.Cells.{Cell, PlainCell, cell}
 
 -- ---- the columns of a row
@@ -35,7 +33,15 @@ row_flags unsigned is_key = flag 32 unsigned + flag 2 is_key
 
 -- column i of a table, as rows have it
 abbrev pub row_column : TableMap → ℕ → Column → ColumnView
-row_column t i c = record { column_type = c.column_type; schema = t.database; table = t.table; org_table = t.table; name = unwrap_or c.name (default_name i); flags = column_flags_of (row_flags c.unsigned c.is_key); character_set = c.charset }
+row_column t i c = record {
+  column_type = c.column_type;
+  schema = t.database;
+  table = t.table;
+  org_table = t.table;
+  name = unwrap_or c.name (default_name i);
+  flags = column_flags_of (row_flags c.unsigned c.is_key);
+  character_set = c.charset;
+}
 
 -- ---- images
 
@@ -63,8 +69,8 @@ nullable_cell is_null partials c = choice is_null (no_bytes (PlainCell Null)) (c
 
 -- The columns of the event from index i on, with a bit for each that says whether it is in the
 -- image. Each has a type, a character set, a name and a key flag without a fault; and then its cell
--- if it is in the image. `nulls` are the null bits of the image, and `before` is how many columns
--- before these are in the image: the next one that is has the null bit of this index.
+-- if it is in the image. `nulls` are the null bits of the image. `before` counts the columns before
+-- these that are in the image: it is the index of the null bit of the next one that is.
 unfoldable pub cells : TableMap → List Bool → List Bool → ℕ → ℕ → List Bool → Format (List (ColumnView × Cell))
 cells t partials nulls i before [] = no_bytes []
 cells t partials nulls i before (present ∷ others) =
@@ -102,11 +108,6 @@ Pair = Option BinlogRow × Option BinlogRow
 abbrev pub maybe_image : TableMap → Bool → Option (List Bool) → Format (Option BinlogRow)
 maybe_image t has_options None = no_bytes None
 maybe_image t has_options (Some present) = map_value (image t has_options present) Some
-
--- whether the images after the change have options
-abbrev pub has_options : EventType → Bool
-has_options event.PARTIAL_UPDATE_ROWS_EVENT = true
-has_options _ = false
 
 -- a pair: the image before the change and the image after it, each if the event has it
 unfoldable pub pair : TableMap → RowsEvent → Format Pair

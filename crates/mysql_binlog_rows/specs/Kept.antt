@@ -1,9 +1,8 @@
 -- A plan that is kept for later events, and the events that it serves.
 use Rattle.std.specs.Prelude.{◌≡◌, ℕ, ◌+◌, ◌*◌, Bool, List, length, Option, Some, None}
 use Rattle.binlog_table.specs.TableMap.{TableMap, without_id}
-use Rattle.mysql_binlog_rows.specs.RowsEvent.{RowsEvent, image_columns, bitmap_length}
-use Rattle.mysql_binlog_rows.specs.Images.{has_options}
-use Rattle.mysql_binlog_rows.specs.Plans.{Plans, plans_by}
+use Rattle.mysql_binlog_rows.specs.RowsEvent.{RowsEvent, image_columns, bitmap_length, has_options}
+use Rattle.mysql_binlog_rows.specs.Workings.Plans.{Plans, plans_by}
 use Rattle.mysql_binlog_rows.specs.Memory.{in_usize, plans_bytes}
 
 -- what a plan was made for: the table map event, whether the images after the change have options,

@@ -9,15 +9,13 @@ pub mod Images
 pub mod RowValues
 pub mod NotPlain
 pub mod Options
-pub mod Plans
-pub mod After
+pub mod Workings
 pub mod Memory
 pub mod Cover
 pub mod Laws
 pub mod Rows
 pub mod LentPairs
 pub mod Kept
-pub mod Columns
 pub mod Decodes
 pub use Rattle.binlog_cells.specs.Equality
 pub mod Lemmas

@@ -2,7 +2,7 @@
 -- hold the sizes of structs where addresses have eight bytes, and what the allocator adds to a block.
 use Rattle.std.specs.Prelude.{ℕ, ◌+◌, ◌*◌, ◌-◌, ◌^◌, min, List, length, sum_by, Bool, true, false, Option, Some, None}
 use Rattle.binlog_base.specs.Values.{ColumnView}
-use Rattle.mysql_binlog_rows.specs.Plans.{Plan, Plans}
+use Rattle.mysql_binlog_rows.specs.Workings.Plans.{Plan, Plans}
 
 -- the number; the greatest `usize` where it is greater
 abbrev pub in_usize : ℕ → ℕ

@@ -7,18 +7,20 @@ use Rattle.binlog_base.specs.Format.{Format}
 use Rattle.binlog_table.specs.TableMap.{TableMap}
 use Rattle.binlog_table.specs.Extracted.{field_fault}
 use Rattle.binlog_table.specs.TableColumns.{Column, column_at}
-use Rattle.mysql_binlog_rows.specs.RowsEvent.{RowsEvent}
+use Rattle.binlog_table.specs.Steps.{steps_after}
+use Rattle.mysql_binlog_rows.specs.RowsEvent.{RowsEvent, image_columns}
 use Rattle.mysql_binlog_rows.specs.Images.{Pair, pair}
-use Rattle.mysql_binlog_rows.specs.Plans.{Plans, Reads, plans_of, slot_count}
+use Rattle.mysql_binlog_rows.specs.Workings.Plans.{Plans, Reads, plans_of, slot_count, same_columns}
 use Rattle.mysql_binlog_rows.specs.Cover.{IsPair, NoPair, RestFault}
 
 -- The state of the iterator: how pairs are read, and the bytes that are left; whether the plans are
--- made, how many steps that took, and a bound on these steps.
+-- made; how many steps that took so far, how many it takes in all, and a bound on these.
 pub record Rows : Type 0 where
   pub plans : Plans
   pub left : List ℕ
   pub is_planned : Bool
   pub steps : ℕ
+  pub due_steps : ℕ
   pub most_steps : ℕ
 
 -- plans that were made, and the steps that this took
@@ -49,6 +51,30 @@ abbrev pub columns_in : Option (List Bool) → ℕ
 columns_in None = 0
 columns_in (Some present) = length present
 
+-- The steps of the plan of an image, if the event has the image: those of a walk over as many columns
+-- of the table as the event has.
+abbrev pub image_steps : TableMap → Option (List Bool) → ℕ
+image_steps t None = 0
+image_steps t (Some present) = steps_after t (length present)
+
+-- the steps of the plan of the image after the change: none where the plan of the image before it
+-- serves for both
+abbrev pub steps_apart : Bool → ℕ → ℕ
+steps_apart true n = 0
+steps_apart false n = n
+
+-- the steps of both plans, each by a bit for each column of the event
+abbrev pub steps_by : TableMap → Option (List Bool) → Option (List Bool) → ℕ
+steps_by t before after = image_steps t before + steps_apart (same_columns before after) (image_steps t after)
+
+-- the steps of the plans for the images of an event
+abbrev pub event_steps : TableMap → RowsEvent → ℕ
+event_steps t e = steps_by t (image_columns e.num_columns e.before) (image_columns e.num_columns e.after)
+
+-- how many steps are made for these two events
+abbrev pub steps_of_events : Events → ℕ
+steps_of_events e = event_steps e.table e.event
+
 -- at most one step for each column of the event and each byte of the optional metadata, for each of
 -- two images
 abbrev pub most_steps : TableMap → RowsEvent → ℕ
@@ -68,11 +94,12 @@ pub record IsDescribed (t : TableMap) (n : ℕ) : Type 0 where
 abbrev pub GivesPairsOf : TableMap → RowsEvent → Rows → Type 0
 GivesPairsOf t e r = Reads t e r.plans
 
--- The same, of an iterator whose plans are made for these two events. It makes at most two steps for
--- each column of the event and for each byte of the optional metadata, and at least one for each
--- column if no column has a fault.
+-- The same, of an iterator whose plans are made for these two events. It makes exactly the steps of
+-- their plans: at most two for each column of the event and for each byte of the optional metadata.
+-- The plans walk over each column of the event if no column has a fault.
 pub record IsOf (t : TableMap) (e : RowsEvent) (r : Rows) : Type 0 where
   pub reads : GivesPairsOf t e r
+  pub exact : r.due_steps ≡ event_steps t e
   pub most : r.most_steps ≤ most_steps t e
   pub least : IsDescribed t e.num_columns → e.num_columns ≤ slot_count r.plans
 
@@ -107,6 +134,7 @@ pub record PlansOnce (s : Rows) (r : Option (Result Pair Fault)) (t : Rows) : Ty
   pub once : s.is_planned ≡ true → (t.is_planned ≡ true) × (t.steps ≡ s.steps)
   pub waits : s.left ≡ [] → (t.is_planned ≡ s.is_planned) × (t.steps ≡ s.steps)
   pub made : s.left ≢ [] → r ≢ Some (Err Memory) → t.is_planned ≡ true
+  pub due : t.due_steps ≡ s.due_steps
   pub most : t.most_steps ≤ s.most_steps
 
 -- What a call of `next` does: r is its result, and s and t are the states before and after it. Of an

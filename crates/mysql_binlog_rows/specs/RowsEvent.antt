@@ -25,6 +25,19 @@ has_after event.DELETE_ROWS_EVENT = false
 has_after event.DELETE_ROWS_EVENT_V1 = false
 has_after _ = true
 
+-- whether the images after the change have options
+abbrev pub has_options : EventType → Bool
+has_options event.PARTIAL_UPDATE_ROWS_EVENT = true
+has_options _ = false
+
+-- the types whose events are written with extra data
+abbrev pub writes_extra_data : EventType → Bool
+writes_extra_data event.WRITE_ROWS_EVENT = true
+writes_extra_data event.UPDATE_ROWS_EVENT = true
+writes_extra_data event.DELETE_ROWS_EVENT = true
+writes_extra_data event.PARTIAL_UPDATE_ROWS_EVENT = true
+writes_extra_data _ = false
+
 -- a rows event, whatever its place in memory
 pub record RowsEvent : Type 0 where
   pub event_type : EventType
@@ -56,7 +69,16 @@ rows_event ctx =
     sequence (bitmap (has_before ctx.event_type) count) (λ before.
     sequence (bitmap (has_after ctx.event_type) count) (λ after.
     map_value all_left (λ rows.
-    record { event_type = ctx.event_type; table_id = id; flags = flags; extra_data = extra; num_columns = count; before = before; after = after; rows_data = rows })))))))
+    record {
+      event_type = ctx.event_type;
+      table_id = id;
+      flags = flags;
+      extra_data = extra;
+      num_columns = count;
+      before = before;
+      after = after;
+      rows_data = rows;
+    })))))))
 
 -- the last of the bytes are these
 abbrev pub EndsWith : List ℕ → List ℕ → Type 0

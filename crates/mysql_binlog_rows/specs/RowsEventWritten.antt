@@ -1,13 +1,11 @@
 -- What is written of a rows event.
-use Rattle.std.specs.Prelude.{◌≡◌, ◌≢◌, ℕ, ◌+◌, ◌<◌, ◌≤◌, ◌^◌, ◌==◌, Bool, true, false, List, [], ◌++◌, length, Option, Some, None, Ok, if◌then◌else◌}
+use Rattle.std.specs.Prelude.{◌≡◌, ◌≢◌, ℕ, ◌+◌, ◌<◌, ◌≤◌, ◌^◌, ◌==◌, Bool, false, List, [], ◌++◌, length, Option, Some, None, Ok, if◌then◌else◌}
 use Rattle.std.specs.Option.{ForSome, is_some}
 use Rattle.binlog_base.specs.Endian.{little_bytes}
 use Rattle.binlog_base.specs.Numbers.{lenenc_bytes}
 use Rattle.binlog_base.specs.Bits.{bitmap_len}
-use Rattle.binlog_consts.specs.declared.consts.event_type.EventType.{EventType}
-use Rattle.binlog_consts.specs.declared.consts.event_type.EventType.TheVariants as event
 use Rattle.mysql_binlog_rows.specs.declared.rows_event.event.RowsEventCtx.{RowsEventCtx}
-use Rattle.mysql_binlog_rows.specs.RowsEvent.{RowsEvent, has_before, has_after, rows_event}
+use Rattle.mysql_binlog_rows.specs.RowsEvent.{RowsEvent, has_before, has_after, rows_event, writes_extra_data}
 
 -- the bits of an image: they are there where the event's type has the image, in as many bytes as
 -- they take
@@ -25,14 +23,6 @@ pub record IsRowsEvent (e : RowsEvent) : Type 0 where
   pub before : IsBitmap (has_before e.event_type) e.num_columns e.before
   pub after : IsBitmap (has_after e.event_type) e.num_columns e.after
   pub rows_data : length e.rows_data < 256 ^ 8
-
--- the types whose events are written with extra data
-abbrev pub writes_extra_data : EventType → Bool
-writes_extra_data event.WRITE_ROWS_EVENT = true
-writes_extra_data event.UPDATE_ROWS_EVENT = true
-writes_extra_data event.DELETE_ROWS_EVENT = true
-writes_extra_data event.PARTIAL_UPDATE_ROWS_EVENT = true
-writes_extra_data _ = false
 
 -- extra data after its length with the two bytes of the length, or nothing
 unfoldable pub extra_data_bytes : Bool → List ℕ → List ℕ

@@ -4,6 +4,7 @@ mod decode;
 mod event;
 mod kept;
 mod rows;
+mod types;
 
 pub use decode::{
     Decoded, decode_pairs, decode_pairs_of, pairs_by, pairs_by_shared, pairs_if_served, pairs_of,

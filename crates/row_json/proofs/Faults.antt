@@ -1,10 +1,11 @@
 -- Which fault is the first.
 use Rattle.std.proofs.Common.{◌≡◌, ◌<◌, ℕ, zero, suc, Bool, true, false, List, [], ◌∷◌, length, get_or, refl, sym, ap, ◌∙◌, subst, arith, inl, inr}
 use Rattle.std.specs.Prelude.{Option, Some, None, Ok, slice_get}
+use Rattle.std.specs.Result.{result_err}
 use Rattle.binlog_base.specs.declared.fault.Fault.{Fault}
 use Rattle.binlog_values.specs.declared.jsonb.dom.JsonDom.{JsonDom}
 use Rattle.binlog_values.specs.JsonbValues.{JsonbValue}
-use Rattle.binlog_values.specs.JsonbDocuments.{document_of, limit_of, positions, first_fault, fault_of}
+use Rattle.binlog_values.specs.JsonbDocuments.{document_of, limit_of, positions, first_fault}
 use Rattle.binlog_values.specs.JsonbParsed.{IsDenoted, IsWithinLimits}
 use Rattle.binlog_values.specs.JsonDiffs.{Diff}
 use Rattle.binlog_values.proofs.JsonbFirstFault.{walk_first}
@@ -24,7 +25,7 @@ use Rattle.row_json.proofs.Diffs.{any_at}
 pub no_fault : (value : JsonbValue) (dom : JsonDom) → IsDenoted value dom → IsWithinLimits value → HasNone (IsFaultOf value)
 no_fault value dom t within = λ e w.
     let given = tree-given t.0 (Ok value) (limit_of value) 100 0 t.1 within.0 (omega (arith, within.1)) in
-    let first : first_fault (limit_of value) 0 (positions (document_of (Ok value))) ≡ None = sym (walk_first (limit_of value) (document_of (Ok value))) ∙ ap fault_of given in
+    let first : first_fault (limit_of value) 0 (positions (document_of (Ok value))) ≡ None = sym (walk_first (limit_of value) (document_of (Ok value))) ∙ ap result_err given in
     let is = w.1 in
     absurd (cc)
 

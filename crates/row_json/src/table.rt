@@ -5,7 +5,7 @@ ghost use Rattle.std.specs.Option.{option_map};
 ghost use Rattle.std.specs.String.{string_bytes};
 ghost use Rattle.binlog_base.specs.declared.fault.Fault.TheVariants as Fault;
 ghost use Rattle.binlog_base.specs.Items.{before_fault};
-ghost use Rattle.binlog_table.specs.ColumnsLeft.{seen_column};
+ghost use Rattle.binlog_table.specs.Workings.ColumnsLeft.{seen_column};
 ghost use Rattle.row_json.specs.Columns.{name_of, column_of, columns_from, columns_of, names_after};
 
 use crate::charset::charset_of;

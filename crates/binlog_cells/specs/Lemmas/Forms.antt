@@ -21,7 +21,7 @@ use Rattle.binlog_cells.specs.declared.value.form.Form.{Form}
 use Rattle.binlog_cells.specs.declared.value.form.Form.TheVariants as way
 use Rattle.binlog_cells.specs.declared.value.form.Width.TheVariants as width
 use Rattle.binlog_cells.specs.Cells.{Cell, PlainCell, text_cell, length_bytes, varchar_length, string_length, blob_cell, enum_cell, with_first, with_two, plain_cell, element_cell, inner_cell, cell}
-use Rattle.binlog_cells.specs.Forms.{bytes_in, plain_by, length_width, first_byte, first_two, blob_widths, blob_form, variant_widths, variant_form, two_form, plain_form, element_form, typed_form, array_form, form_of, cell_by, cell_by_form}
+use Rattle.binlog_cells.specs.Forms.{bytes_in, plain_by, length_width, first_byte, first_two, blob_widths, blob_form, variant_widths, variant_form, two_form, plain_form, element_form, typed_form, form_of, cell_by, cell_by_form}
 use Rattle.binlog_cells.specs.Lemmas.Cells.{exact_integer, exact_long_integer, exact_float_bits, exact_double_bits, exact_timestamp_cell, exact_time_cell, exact_datetime_cell, exact_year_cell, exact_date_cell, exact_timestamp2_cell, exact_datetime2_cell, exact_time2_cell, exact_decimal_cell, exact_fixed_bytes, exact_text_cell, exact_variant_cell, exact_json_cell, exact_cell}
 
 -- ---- a form reads what the type and metadata say

@@ -10,13 +10,13 @@ use std::marker::Model;
 
 // The sign of a decimal, and its digits before and after the point.
 #[derive(Drop)]
-pub(super) struct Lent<'a> {
+pub(super) struct LentDigits<'a> {
     pub negative: bool,
     pub integer: &'a [u8],
     pub fraction: &'a [u8],
 }
 
-impl<'a> Model for Lent<'a> {
+impl<'a> Model for LentDigits<'a> {
     ghost use Rattle.binlog_decimal.specs.Decimals.{DecimalView, IsDecimal};
 
     ghost Value = { DecimalView };
@@ -35,12 +35,12 @@ impl<'a> Model for Lent<'a> {
         }) };
 }
 
-impl<'a> Lent<'a> {
+impl<'a> LentDigits<'a> {
     // Returns positive zero, with one digit before the point and none after it.
-    pub fn zero() -> Lent<'a>
+    pub fn zero() -> LentDigits<'a>
         ensures { result ≡ zero_decimal }
     {
-        Lent {
+        LentDigits {
             negative: false,
             integer: &[0],
             fraction: &[],
@@ -49,14 +49,14 @@ impl<'a> Lent<'a> {
 
     // Drops the groups at the start of the digits before the point that are all zeros. The result
     // is positive zero of one digit where no digit is left.
-    pub fn trimmed(self) -> Lent<'a>
+    pub fn trimmed(self) -> LentDigits<'a>
         ensures { result ≡ trimmed_decimal self.entry }
     {
         let integer = without_zero_groups(self.integer);
         if no_digit(integer, self.fraction) {
-            return Lent::zero();
+            return LentDigits::zero();
         }
-        Lent {
+        LentDigits {
             negative: self.negative,
             integer,
             fraction: self.fraction,
@@ -81,11 +81,11 @@ impl<'a> Lent<'a> {
 
 impl Decimal {
     // Lends the digits.
-    pub(super) fn lent(&self) -> Lent<'_>
+    pub(super) fn lent(&self) -> LentDigits<'_>
         ensures { result ≡ self.now }
     {
         let (integer, fraction) = self.digits.split_at(self.before);
-        Lent {
+        LentDigits {
             negative: self.negative,
             integer,
             fraction,

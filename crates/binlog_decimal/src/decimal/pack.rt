@@ -8,7 +8,7 @@ ghost use Rattle.binlog_base.specs.declared.fault.Fault.TheVariants.{Reader};
 ghost use Rattle.binlog_base.specs.Failures.{CountsFailure};
 ghost use Rattle.binlog_decimal.specs.Decimals.{group_bytes, packed_bytes};
 ghost use Rattle.binlog_decimal.specs.DecimalMasks.{masked_bytes};
-ghost use Rattle.binlog_decimal.specs.DecimalPacking.{group_left, plain_left, groups_left, packed_left, AreDigits, TakesDigits, TakesGroup};
+ghost use Rattle.binlog_decimal.specs.Workings.DecimalPacking.{group_left, plain_left, groups_left, packed_left, AreDigits, TakesDigits, TakesGroup};
 
 use super::group::{group_width, number_of_digits};
 use super::mask::mask;

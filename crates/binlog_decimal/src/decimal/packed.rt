@@ -148,6 +148,7 @@ impl<'a> PackedDecimal<'a> {
             Err(_) => Err(AllocError),
         }
     }
+
     // Returns the decimal's text, which is put into the room.
     fn bytes_in<'r>(&self, room: &'r mut [u8; MAX_TEXT]) -> &'r [u8]
         ensures text { result.now ≡ decimal_text self.now }

@@ -13,7 +13,7 @@ ghost use Rattle.binlog_decimal.specs.PackedDecimals.{packed_decimal, counted_de
 ghost use Rattle.binlog_decimal.specs.DecimalText.{decimal_text};
 
 use super::group::digits_size;
-use super::lent::Lent;
+use super::lent::LentDigits;
 use super::short::{MAX_FRACTION, MAX_INTEGER, short_text};
 use super::text::long_text;
 use super::unpack::unpack;
@@ -96,7 +96,7 @@ impl Decimal {
     {
         let (integer, fraction) = digits.split_at_mut(digits.len() - scale);
         let negative = unpack(bytes, integer, fraction)?;
-        let decimal = Lent {
+        let decimal = LentDigits {
             negative,
             integer,
             fraction,

@@ -5,7 +5,7 @@ ghost use Rattle.std.specs.Fmt.{WritesOnOk};
 ghost use Rattle.std.specs.Int.Digits.{AllBelowBase};
 ghost use Rattle.binlog_decimal.specs.DecimalText.{decimal_text, integer_text, shown_digits};
 
-use super::lent::Lent;
+use super::lent::LentDigits;
 use super::{DIG_PER_DEC, Decimal};
 use crate::digits::{leading_zeros, write_digits, write_fraction};
 use std::fmt;
@@ -31,7 +31,7 @@ fn write_integer<W: fmt::Write>(f: &mut fmt::Formatter<W>, digits: &[u8]) -> fmt
     }
 }
 
-impl<'a> fmt::Display for Lent<'a> {
+impl<'a> fmt::Display for LentDigits<'a> {
     ghost output = { λ d. Some (decimal_text d) };
 
     #[tactic(auto, unfolding(crate::specs::DecimalText::decimal_text))]

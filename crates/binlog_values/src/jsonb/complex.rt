@@ -20,13 +20,13 @@ use std::marker::{Model, PhantomData};
 
 /// A container of a storage format and a kind, over bytes that it borrows.
 #[derive(Drop)]
-pub(crate) struct Lent<'a, T: StorageFormat, U: ComplexType> {
+pub(crate) struct LentContainer<'a, T: StorageFormat, U: ComplexType> {
     element_count: u32,
     bytes: &'a [u8],
     format: PhantomData<(T, U)>,
 }
 
-impl<'a, T: StorageFormat, U: ComplexType> Model for Lent<'a, T, U> {
+impl<'a, T: StorageFormat, U: ComplexType> Model for LentContainer<'a, T, U> {
     ghost use Rattle.std.specs.Prelude.{◌≤◌, length};
     ghost use Rattle.binlog_values.specs.JsonbLayout.{header_len};
     ghost use Rattle.binlog_values.specs.JsonbValues.{Frame};
@@ -65,7 +65,7 @@ fn offset_width<T: StorageFormat>() -> usize
     usize::from(T::OFFSET_SIZE)
 }
 
-impl<'a, T: StorageFormat, U: ComplexType> Lent<'a, T, U> {
+impl<'a, T: StorageFormat, U: ComplexType> LentContainer<'a, T, U> {
     /// Reads a container at the start of the bytes, and takes as many bytes as its size says.
     #[tactic(auto, unfolding(crate::specs::JsonbValues::container))]
     pub fn read(buf: &mut ParseBuf<'a>) -> Result<Self, Fault>
@@ -82,7 +82,7 @@ impl<'a, T: StorageFormat, U: ComplexType> Lent<'a, T, U> {
             return Err(Fault::Jsonb(JsonbError::SizeOverflow));
         }
         buf.0 = &bytes[size..];
-        Ok(Lent {
+        Ok(LentContainer {
             element_count,
             bytes: &bytes[..size],
             format: PhantomData,
@@ -217,7 +217,7 @@ impl<'a, T: StorageFormat, U: ComplexType> ComplexValue<'a, T, U> {
     pub(super) fn read(buf: &mut ParseBuf<'a>) -> Result<Self, Fault>
         ensures { Parses (container U.IS_ARRAY T.IS_LARGE) result buf.old.0.now buf.new.0.now }
     {
-        let lent: Lent<'a, T, U> = Lent::read(buf)?;
+        let lent: LentContainer<'a, T, U> = LentContainer::read(buf)?;
         Ok(ComplexValue {
             element_count: lent.element_count,
             bytes: CowSlice::Borrowed(lent.bytes),
@@ -226,10 +226,10 @@ impl<'a, T: StorageFormat, U: ComplexType> ComplexValue<'a, T, U> {
     }
 
     // Returns the same container over the bytes of this one.
-    pub(super) fn lent(&self) -> Lent<'_, T, U>
+    pub(super) fn lent(&self) -> LentContainer<'_, T, U>
         ensures { result ≡ self.now }
     {
-        Lent {
+        LentContainer {
             element_count: self.element_count,
             bytes: self.bytes.as_slice(),
             format: PhantomData,
@@ -267,14 +267,14 @@ impl<'a, T: StorageFormat, U: ComplexType> ComplexValue<'a, T, U> {
     pub(super) fn parts(&self) -> (u8, i128, &[u8])
         ensures { parts_seen result ≡ parts_of (nested self.now) }
     {
-        let number = match (U::IS_ARRAY, T::IS_LARGE) {
-            (false, false) => 0,
-            (false, true) => 1,
-            (true, false) => 2,
-            (true, true) => 3,
+        let value_type = match (U::IS_ARRAY, T::IS_LARGE) {
+            (false, false) => JsonbType::JSONB_TYPE_SMALL_OBJECT,
+            (false, true) => JsonbType::JSONB_TYPE_LARGE_OBJECT,
+            (true, false) => JsonbType::JSONB_TYPE_SMALL_ARRAY,
+            (true, true) => JsonbType::JSONB_TYPE_LARGE_ARRAY,
         };
         (
-            number,
+            value_type as u8,
             i128::from(self.element_count),
             self.bytes.as_slice(),
         )

@@ -10,7 +10,7 @@ ghost use Rattle.binlog_values.specs.JsonbHeaders.{IsWhole};
 ghost use Rattle.binlog_values.specs.JsonbContainers.{frame, lent_scalar, node_view};
 ghost use Rattle.binlog_values.specs.Workings.JsonbVisits.{IsEntryFault};
 
-use super::complex::Lent;
+use super::complex::LentContainer;
 use super::format::{Array, ComplexType, Large, Object, Small, StorageFormat};
 use super::types::{JsonbType, LiteralType};
 use super::value::{Value, read_byte};
@@ -23,10 +23,10 @@ use binlog_base::fault::Fault;
 // A container of one of the four kinds.
 #[derive(Drop)]
 pub(crate) enum Container<'a> {
-    SmallArray(Lent<'a, Small, Array>),
-    LargeArray(Lent<'a, Large, Array>),
-    SmallObject(Lent<'a, Small, Object>),
-    LargeObject(Lent<'a, Large, Object>),
+    SmallArray(LentContainer<'a, Small, Array>),
+    LargeArray(LentContainer<'a, Large, Array>),
+    SmallObject(LentContainer<'a, Small, Object>),
+    LargeObject(LentContainer<'a, Large, Object>),
 }
 
 // A scalar, over bytes that it borrows.
@@ -82,16 +82,16 @@ impl<'a> Node<'a> {
     {
         let value = match value_type {
             JsonbType::JSONB_TYPE_SMALL_ARRAY => {
-                return Ok(Node::Container(Container::SmallArray(Lent::read(buf)?)));
+                return Ok(Node::Container(Container::SmallArray(LentContainer::read(buf)?)));
             }
             JsonbType::JSONB_TYPE_LARGE_ARRAY => {
-                return Ok(Node::Container(Container::LargeArray(Lent::read(buf)?)));
+                return Ok(Node::Container(Container::LargeArray(LentContainer::read(buf)?)));
             }
             JsonbType::JSONB_TYPE_SMALL_OBJECT => {
-                return Ok(Node::Container(Container::SmallObject(Lent::read(buf)?)));
+                return Ok(Node::Container(Container::SmallObject(LentContainer::read(buf)?)));
             }
             JsonbType::JSONB_TYPE_LARGE_OBJECT => {
-                return Ok(Node::Container(Container::LargeObject(Lent::read(buf)?)));
+                return Ok(Node::Container(Container::LargeObject(LentContainer::read(buf)?)));
             }
             JsonbType::JSONB_TYPE_LITERAL => read_literal(buf)?,
             JsonbType::JSONB_TYPE_INT16 => LentScalar::I16(LeI16::deserialize(buf)?),
@@ -151,7 +151,7 @@ impl<'a> Node<'a> {
     }
 }
 
-impl<'a, T: StorageFormat, U: ComplexType> Lent<'a, T, U> {
+impl<'a, T: StorageFormat, U: ComplexType> LentContainer<'a, T, U> {
     // Returns the bytes of an entry's key, which are none in an array.
     fn entry_key(&self, pos: u32) -> Result<&'a [u8], Fault>
         requires { pos < self.now.count }

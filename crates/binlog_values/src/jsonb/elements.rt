@@ -10,7 +10,7 @@ ghost use Rattle.binlog_values.specs.JsonbElements.{from, entry_at, elem_in, key
 ghost use Rattle.binlog_values.specs.JsonbContainers.{frame, node_view};
 ghost use Rattle.binlog_values.specs.JsonbViews.{view_of};
 
-use super::complex::{ComplexValue, Lent};
+use super::complex::{ComplexValue, LentContainer};
 use super::container::{Container, Node};
 use super::format::{Array, ComplexType, Object, StorageFormat};
 use super::strings::ObjectKey;
@@ -19,7 +19,7 @@ use binlog_base::below::ParseBuf;
 use binlog_base::fault::Fault;
 use std::borrow::CowSlice;
 
-impl<'a, T: StorageFormat, U: ComplexType> Lent<'a, T, U> {
+impl<'a, T: StorageFormat, U: ComplexType> LentContainer<'a, T, U> {
     // Returns the value of an element.
     #[tactic(auto, unfolding(crate::specs::JsonbValues::element))]
     fn element(&self, pos: u32) -> Result<Value<'a>, Fault>

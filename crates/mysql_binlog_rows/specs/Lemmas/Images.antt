@@ -14,9 +14,9 @@ use Rattle.binlog_table.specs.Keys.{unless}
 use Rattle.binlog_table.specs.Extracted.{field_fault}
 use Rattle.binlog_table.specs.TableColumns.{Column, column_at}
 use Rattle.binlog_table.specs.Lemmas.TableColumns.{column_fault_of_bytes, field_fault_of_bytes}
-use Rattle.mysql_binlog_rows.specs.RowsEvent.{RowsEvent, image_columns}
+use Rattle.mysql_binlog_rows.specs.RowsEvent.{RowsEvent, image_columns, has_options}
 use Rattle.binlog_cells.specs.Lemmas.Cells.{exact_cell}
-use Rattle.mysql_binlog_rows.specs.Images.{is_partial, nullable_cell, cells, partial_bits, image, maybe_image, has_options, pair}
+use Rattle.mysql_binlog_rows.specs.Images.{is_partial, nullable_cell, cells, partial_bits, image, maybe_image, pair}
 
 exact_nullable_cell : (is_null : Bool) (partials : List Bool) (c : Column) → IsExact (nullable_cell is_null partials c)
 unfolding nullable_cell

@@ -8,8 +8,8 @@ use Rattle.binlog_base.specs.Lemmas.NumbersWritten.{little_written, lenenc_writt
 use Rattle.binlog_consts.specs.declared.consts.event_type.EventType.{EventType}
 use Rattle.binlog_table.specs.Lemmas.TableMapWritten.{table_id_written}
 use Rattle.mysql_binlog_rows.specs.declared.rows_event.event.RowsEventCtx.{RowsEventCtx}
-use Rattle.mysql_binlog_rows.specs.RowsEvent.{RowsEvent, has_before, has_after, extra_data, bitmap, rows_event}
-use Rattle.mysql_binlog_rows.specs.RowsEventWritten.{IsBitmap, IsRowsEvent, writes_extra_data, extra_data_bytes, bitmap_bytes, columns_bytes, written_rows_event, KeepsExtraData, WrittenEventsSpellThemselves, ReadEventsKeepExtraData, WrittenEventsReadBack}
+use Rattle.mysql_binlog_rows.specs.RowsEvent.{RowsEvent, has_before, has_after, extra_data, bitmap, rows_event, writes_extra_data}
+use Rattle.mysql_binlog_rows.specs.RowsEventWritten.{IsBitmap, IsRowsEvent, extra_data_bytes, bitmap_bytes, columns_bytes, written_rows_event, KeepsExtraData, WrittenEventsSpellThemselves, ReadEventsKeepExtraData, WrittenEventsReadBack}
 use Rattle.mysql_binlog_rows.specs.Lemmas.RowsEvent.{exact_rows_event}
 
 extra_data_written : (b : Bool) (extra : List ℕ) → length extra ≤ 65533 → (b ≡ false → extra ≡ []) → (choice b extra_data (no_bytes [])).spells (extra_data_bytes b extra) extra

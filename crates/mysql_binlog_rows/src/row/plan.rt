@@ -1,17 +1,19 @@
 //! Reads the images of rows, by a plan that is made once for an event.
 
-ghost use Rattle.std.specs.Prelude.{◌≡◌, ◌≤◌, ◌<◌, ◌+◌, ◌^◌, ◌++◌, ◌∷◌, ℕ, [], true, false, IfOk, IfErr, OnOk, map, drop, length, slice_index_or, vec_len, vec_capacity, Some};
+ghost use Rattle.std.specs.Prelude.{◌≡◌, ◌≤◌, ◌<◌, ◌+◌, ◌^◌, ◌++◌, ◌∷◌, ℕ, suc, [], true, false, IfOk, IfErr, OnOk, map, drop, length, slice_index_or, vec_len, vec_capacity, Some};
 ghost use Rattle.std.specs.Option.{option_map};
 ghost use Rattle.binlog_base.specs.declared.fault.Fault.TheVariants as Fault;
 ghost use Rattle.binlog_base.specs.Format.{Parses, ParsesAs, OrMemory};
 ghost use Rattle.binlog_base.specs.Items.{result_map};
-ghost use Rattle.binlog_table.specs.ColumnsLeft.{seen_column};
+ghost use Rattle.binlog_table.specs.Workings.ColumnsLeft.{seen_column};
+ghost use Rattle.binlog_table.specs.TableColumns.{steps_then};
+ghost use Rattle.binlog_table.specs.Steps.{steps_after};
 ghost use Rattle.binlog_cells.specs.Cells.{cell_of, json_cell, one_more};
 ghost use Rattle.binlog_cells.specs.LentCells.{lent_values};
 ghost use Rattle.binlog_base.specs.Values.{column_flags_of};
 ghost use Rattle.mysql_binlog_rows.specs.Images.{default_name, row_flags};
 ghost use Rattle.mysql_binlog_rows.specs.Memory.{in_usize, names_bytes, plan_bytes};
-ghost use Rattle.mysql_binlog_rows.specs.Plans.{column_in, json_place_of, slot_of, first_column, after_first, planned_from, plan_of, planned_options, planned_image, is_partial_slot, slot_cell, slot_cells};
+ghost use Rattle.mysql_binlog_rows.specs.Workings.Plans.{column_in, json_place_of, slot_of, first_column, after_first, planned_from, plan_of, planned_options, planned_image, is_partial_slot, slot_cell, slot_cells};
 
 use super::binlog_row::BinlogRow;
 use super::lent_row::LentRow;
@@ -41,7 +43,7 @@ struct Slot {
 }
 
 impl Model for Slot {
-    ghost use Rattle.mysql_binlog_rows.specs.Plans as Spec;
+    ghost use Rattle.mysql_binlog_rows.specs.Workings.Plans as Spec;
 
     ghost Value = { Spec.Slot };
 
@@ -59,7 +61,7 @@ struct Planned {
 }
 
 impl Model for Planned {
-    ghost use Rattle.mysql_binlog_rows.specs.Plans as Spec;
+    ghost use Rattle.mysql_binlog_rows.specs.Workings.Plans as Spec;
 
     ghost Value = { Spec.Planned };
 
@@ -85,7 +87,7 @@ pub(crate) struct Plan {
 
 impl Model for Plan {
     ghost use Rattle.std.specs.Rc.{rc_slice_items};
-    ghost use Rattle.mysql_binlog_rows.specs.Plans as Spec;
+    ghost use Rattle.mysql_binlog_rows.specs.Workings.Plans as Spec;
 
     ghost Value = { Spec.Plan };
 
@@ -174,6 +176,8 @@ fn next_column<'a>(walk: &mut TableColumns<'a>) -> Result<TableColumn<'a>, Fault
     ensures steps { IfOk result (λ _. walk.old.steps + 1 ≤ walk.new.steps) }
     ensures grows { walk.old.steps ≤ walk.new.steps }
     ensures most { walk.new.most ≤ walk.old.most + 1 }
+    ensures last { IfErr result (λ _. walk.new.columns ≡ []) }
+    ensures exact { (n : ℕ) → steps_then walk.new n ≡ steps_then walk.old (suc n) }
 {
     match walk.take_column() {
         None => Err(Fault::NoColumnType),
@@ -238,6 +242,8 @@ fn plan_columns(
     ensures planned { IfOk result (λ p. p ≡ planned_from table.now 0 walk.old.columns present.now) }
     ensures least { IfOk result (λ p. walk.old.steps + p.walked ≤ walk.new.steps) }
     ensures most { IfOk result (λ _. walk.new.most ≤ walk.old.most + length present.now) }
+    ensures exact { IfOk result (λ _. (n : ℕ)
+        → steps_then walk.new n ≡ steps_then walk.old (length present.now + n)) }
     ensures err { IfErr result (λ e. e ≡ Fault.Memory) }
 {
     let mut slots = Vec::with_capacity(alloc, count)?;
@@ -292,6 +298,10 @@ impl Plan {
         ensures least { IfOk result (λ p. steps.old + p.planned.walked ≤ steps.new) }
         ensures most { IfOk result (λ _. steps.new
             ≤ steps.old + length present.now + length table.now.optional_metadata) }
+        // A step for each column that is walked over, and for what is read of the optional
+        // metadata.
+        ensures exact { IfOk result (λ _. steps.new
+            ≡ steps.old + steps_after table.now (length present.now)) }
         ensures fits { IfOk result (λ _. steps.new < steps.old + 2 ^ 70) }
         ensures err { IfErr result (λ e. e ≡ Fault.Memory) }
     {
@@ -352,7 +362,7 @@ impl Plan {
 
     /// Reads one image: the options, if it has any, the null bits, and then the cells that aren't
     /// NULL. `has_options` says that the image begins with options.
-    #[tactic(auto, unfolding(crate::specs::Plans::planned_image))]
+    #[tactic(auto, unfolding(crate::specs::Workings::Plans::planned_image))]
     pub fn read(
         &self,
         alloc: Global,
@@ -370,7 +380,7 @@ impl Plan {
 
     /// Reads one image into a row that lends its cells, as `read` does. What the row held before is
     /// gone, and its memory is used again.
-    #[tactic(auto, unfolding(crate::specs::Plans::planned_image))]
+    #[tactic(auto, unfolding(crate::specs::Workings::Plans::planned_image))]
     pub fn read_lent<'b>(
         &self,
         has_options: bool,
@@ -473,7 +483,7 @@ fn add_json(
 
 // Adds NULL if the null bit is set, and reads the cell and adds it otherwise. There is room for it.
 #[inline(always)]
-#[tactic(auto, unfolding(crate::specs::Plans::slot_cell, binlog_cells::specs::Forms::cell_by, binlog_cells::specs::Cells::one_more))]
+#[tactic(auto, unfolding(crate::specs::Workings::Plans::slot_cell, binlog_cells::specs::Forms::cell_by, binlog_cells::specs::Cells::one_more))]
 fn add_nullable_cell(
     alloc: Global,
     slot: &Slot,
@@ -532,7 +542,7 @@ fn read_lent_cells<'b>(
 // Puts NULL at the end of the cells if the null bit is set, and reads the cell otherwise. There is
 // room for it.
 #[inline(always)]
-#[tactic(auto, unfolding(crate::specs::Plans::slot_cell, binlog_cells::specs::Forms::cell_by, binlog_cells::specs::Cells::one_more))]
+#[tactic(auto, unfolding(crate::specs::Workings::Plans::slot_cell, binlog_cells::specs::Forms::cell_by, binlog_cells::specs::Cells::one_more))]
 fn put_lent_cell<'b>(
     slot: &Slot,
     partials: &BitView<'_>,

@@ -7,7 +7,7 @@ ghost use Rattle.mysql_binlog_rows.specs.Images.{pair};
 ghost use Rattle.mysql_binlog_rows.specs.Cover.{Covers};
 ghost use Rattle.binlog_table.specs.TableMap.{TableMap};
 ghost use Rattle.mysql_binlog_rows.specs.RowsEvent.{RowsEvent as Event};
-ghost use Rattle.mysql_binlog_rows.specs.Plans.{Reads};
+ghost use Rattle.mysql_binlog_rows.specs.Workings.Plans.{Reads};
 ghost use Rattle.mysql_binlog_rows.specs.Kept.{KeptServes};
 ghost use Rattle.mysql_binlog_rows.specs.Decodes.{input, input_of, DecodesAs};
 

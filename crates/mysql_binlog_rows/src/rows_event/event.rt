@@ -5,6 +5,7 @@ ghost use Rattle.mysql_binlog_rows.specs.RowsEvent.{EndsWith, has_before, has_af
 
 mod write;
 
+use super::types::{has_after, has_before};
 use binlog_base::below::{
     BareBytes, EofBytes, IntRepr, LeU16, LenEnc, MyDeserialize, ParseBuf, RawBytes, lenenc_int_len,
 };
@@ -304,30 +305,6 @@ fn bitmap_length(bitmap: &Option<Bitmap<'_>>) -> usize
         None => 0,
         Some(bitmap) => bitmap.len(),
     }
-}
-
-// Returns whether events of the type have images of the rows before the change.
-fn has_before(event_type: EventType) -> bool
-    ensures { result ≡ has_before event_type }
-{
-    matches!(
-        event_type,
-        EventType::UPDATE_ROWS_EVENT
-            | EventType::UPDATE_ROWS_EVENT_V1
-            | EventType::PARTIAL_UPDATE_ROWS_EVENT
-            | EventType::DELETE_ROWS_EVENT
-            | EventType::DELETE_ROWS_EVENT_V1
-    )
-}
-
-// Returns whether events of the type have images of the rows after the change.
-fn has_after(event_type: EventType) -> bool
-    ensures { result ≡ has_after event_type }
-{
-    !matches!(
-        event_type,
-        EventType::DELETE_ROWS_EVENT | EventType::DELETE_ROWS_EVENT_V1
-    )
 }
 
 impl<'de> MyDeserialize<'de> for RowsEvent<'de> {

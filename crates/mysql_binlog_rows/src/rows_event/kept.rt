@@ -9,12 +9,13 @@ ghost use Rattle.binlog_table.specs.TableMap.{TableMap};
 ghost use Rattle.mysql_binlog_rows.specs.RowsEvent.{RowsEvent as Event, bitmap_length};
 ghost use Rattle.mysql_binlog_rows.specs.RowsEventWritten.{IsRowsEvent};
 ghost use Rattle.mysql_binlog_rows.specs.Rows.{plans_of_events};
-ghost use Rattle.mysql_binlog_rows.specs.Plans.{Reads};
+ghost use Rattle.mysql_binlog_rows.specs.Workings.Plans.{Reads};
 ghost use Rattle.mysql_binlog_rows.specs.Kept.{Serves, KeptServes, kept_bytes, told_bytes};
 ghost use Rattle.mysql_binlog_rows.specs.Memory.{in_usize};
 
 use super::event::RowsEvent;
-use super::rows::{Events, Plans, RowsEventRows, Shared, has_options};
+use super::rows::{Events, Plans, RowsEventRows, Shared};
+use super::types::has_options;
 use binlog_base::below::same_bytes;
 use binlog_base::fault::Fault;
 use binlog_table::table_map::TableMapEvent;

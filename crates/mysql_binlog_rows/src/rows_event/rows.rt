@@ -6,23 +6,22 @@ ghost use Rattle.binlog_base.specs.declared.fault.Fault.TheVariants as Fault;
 ghost use Rattle.binlog_base.specs.Format.{Parses, OrMemory};
 ghost use Rattle.binlog_table.specs.TableMap.{TableMap};
 ghost use Rattle.mysql_binlog_rows.specs.RowsEvent.{RowsEvent as Event};
-ghost use Rattle.mysql_binlog_rows.specs.Images.{has_options, pair};
-ghost use Rattle.mysql_binlog_rows.specs.Plans.{plan_of, walked_in, walked_apart, slot_count, same_columns, planned_maybe, planned_pair};
-ghost use Rattle.mysql_binlog_rows.specs.After.{after_in, is_same, walked_after};
+ghost use Rattle.mysql_binlog_rows.specs.Images.{pair};
+ghost use Rattle.mysql_binlog_rows.specs.Workings.Plans.{Reads, plan_of, walked_in, walked_apart, slot_count, same_columns, planned_maybe, planned_pair};
+ghost use Rattle.mysql_binlog_rows.specs.Workings.After.{after_in, is_same, walked_after};
 ghost use Rattle.mysql_binlog_rows.specs.Memory.{in_usize, maybe_bytes, plans_bytes};
-ghost use Rattle.mysql_binlog_rows.specs.Rows.{PairGives, at_rest, columns_in, plans_of_events, most_of_events};
-ghost use Rattle.mysql_binlog_rows.specs.Plans.{Reads};
-ghost use Rattle.mysql_binlog_rows.specs.Columns.{plans_in, is_planned, PlansKept};
+ghost use Rattle.mysql_binlog_rows.specs.Rows.{PairGives, at_rest, columns_in, image_steps, steps_apart, plans_of_events, steps_of_events, most_of_events};
+ghost use Rattle.mysql_binlog_rows.specs.Workings.State.{plans_in, is_planned, PlansKept};
 
 mod lent;
 
 pub use self::lent::LentPair;
 use super::event::RowsEvent;
+use super::types::has_options;
 use crate::row::{BinlogRow, Plan};
 use binlog_base::below::ParseBuf;
 use binlog_base::bits::BitView;
 use binlog_base::fault::Fault;
-use binlog_consts::consts::EventType;
 use binlog_table::table_map::TableMapEvent;
 use std::alloc::Global;
 use std::marker::Model;
@@ -50,8 +49,8 @@ pub(super) struct Plans {
 
 impl Model for Plans {
     ghost use Rattle.std.specs.Prelude.{◌≤◌, ◌+◌};
-    ghost use Rattle.mysql_binlog_rows.specs.Plans.{walked_in};
-    ghost use Rattle.mysql_binlog_rows.specs.After.{after_in, is_same, walked_after};
+    ghost use Rattle.mysql_binlog_rows.specs.Workings.Plans.{walked_in};
+    ghost use Rattle.mysql_binlog_rows.specs.Workings.After.{after_in, is_same, walked_after};
     ghost use Rattle.mysql_binlog_rows.specs.Rows.{Made};
 
     ghost Value = { Made };
@@ -105,7 +104,7 @@ impl Model for Shared {
 /// The events before the first pair is read, and the plans from then on. Plans that are kept are there
 /// from the start. The plans are behind a pointer, so that an iterator is small where it is moved.
 #[derive(Drop)]
-enum Columns<'a> {
+enum State<'a> {
     Events(Events<'a>),
     Plans(Shared),
 }
@@ -119,29 +118,23 @@ enum Columns<'a> {
 pub struct RowsEventRows<'a> {
     alloc: Global,
     rows_data: &'a [u8],
-    columns: Columns<'a>,
+    state: State<'a>,
 }
 
 impl<'a> Model for RowsEventRows<'a> {
     ghost use Rattle.mysql_binlog_rows.specs.Rows.{Rows};
-    ghost use Rattle.mysql_binlog_rows.specs.Columns.{plans_in, is_planned, steps_in, most_in};
+    ghost use Rattle.mysql_binlog_rows.specs.Workings.State.{plans_in, is_planned, steps_in, due_in, most_in};
 
     ghost Value = { Rows };
 
     ghost view = { λ r. record {
-      plans = plans_in r.columns;
+      plans = plans_in r.state;
       left = r.rows_data.now;
-      is_planned = is_planned r.columns;
-      steps = steps_in r.columns;
-      most_steps = most_in r.columns;
+      is_planned = is_planned r.state;
+      steps = steps_in r.state;
+      due_steps = due_in r.state;
+      most_steps = most_in r.state;
     } };
-}
-
-// Returns whether the images after the change have options.
-pub(super) fn has_options(event_type: EventType) -> bool
-    ensures { result ≡ has_options event_type }
-{
-    matches!(event_type, EventType::PARTIAL_UPDATE_ROWS_EVENT)
 }
 
 // Makes the plan of an image, if the event has it, and adds the steps that it took.
@@ -156,6 +149,7 @@ fn maybe_plan(
     ensures least { IfOk result (λ p. steps.old + walked_in p ≤ steps.new) }
     ensures most { IfOk result (λ _.
         steps.new ≤ steps.old + (columns_in present.now + length table.now.optional_metadata)) }
+    ensures exact { IfOk result (λ _. steps.new ≡ steps.old + image_steps table.now present.now) }
     ensures fits { IfOk result (λ _. steps.new < steps.old + 2 ^ 70) }
     ensures err { IfErr result (λ e. e ≡ Fault.Memory) }
 {
@@ -218,6 +212,8 @@ fn plan_after(
     ensures least { IfOk result (λ a. steps.old + walked_after a ≤ steps.new) }
     ensures most { IfOk result (λ _.
         steps.new ≤ steps.old + (columns_in after.now + length table.now.optional_metadata)) }
+    ensures exact { IfOk result (λ _. steps.new ≡ steps.old
+        + steps_apart (same_columns before.now after.now) (image_steps table.now after.now)) }
     ensures err { IfErr result (λ e. e ≡ Fault.Memory) }
 {
     if same_columns(before, after) {
@@ -231,6 +227,7 @@ impl Plans {
     pub(super) fn make(alloc: Global, events: &Events<'_>) -> Result<Plans, Fault>
         ensures plans { IfOk result (λ p. p.plans ≡ plans_of_events events.now) }
         ensures most { IfOk result (λ p. p.steps ≤ most_of_events events.now) }
+        ensures exact { IfOk result (λ p. p.steps ≡ steps_of_events events.now) }
         ensures err { IfErr result (λ e. e ≡ Fault.Memory) }
     {
         let mut steps = 0;
@@ -275,7 +272,7 @@ impl Plans {
         }
     }
 
-    #[tactic(auto, unfolding(crate::specs::Plans::planned_pair))]
+    #[tactic(auto, unfolding(crate::specs::Workings::Plans::planned_pair))]
     fn read(&self, alloc: Global, buf: &mut ParseBuf<'_>) -> Result<RowPair, Fault>
         ensures { OrMemory result
             (Parses (planned_pair self.now.plans) result buf.old.0.now buf.new.0.now) }
@@ -310,6 +307,7 @@ impl Shared {
     pub(super) fn make(alloc: Global, events: &Events<'_>) -> Result<Shared, Fault>
         ensures plans { IfOk result (λ s. s.plans ≡ plans_of_events events.now) }
         ensures most { IfOk result (λ s. s.steps ≤ most_of_events events.now) }
+        ensures exact { IfOk result (λ s. s.steps ≡ steps_of_events events.now) }
         ensures err { IfErr result (λ e. e ≡ Fault.Memory) }
     {
         let plans = Rc::new(alloc, Plans::make(alloc, events)?)?;
@@ -332,21 +330,21 @@ impl Shared {
 // first if there are none yet.
 fn pair_from<'a>(
     alloc: Global,
-    columns: &mut Columns<'a>,
+    state: &mut State<'a>,
     rows_data: &'a [u8],
 ) -> Result<(RowPair, &'a [u8]), Fault>
-    ensures pair { (t : TableMap) (e : Event) → Reads t e (plans_in columns.old)
+    ensures pair { (t : TableMap) (e : Event) → Reads t e (plans_in state.old)
         → PairGives (pair t e) rows_data.now (at_rest result) }
     ensures shrinks { IfOk result (λ r. length r.1.now < length rows_data.now) }
-    ensures plans { PlansKept columns.old columns.new }
-    ensures made { result ≢ Err Fault.Memory → is_planned columns.new ≡ true }
+    ensures plans { PlansKept state.old state.new }
+    ensures made { result ≢ Err Fault.Memory → is_planned state.new ≡ true }
 {
-    match &*columns {
-        Columns::Plans(shared) => shared.plans.next_pair(alloc, rows_data),
-        Columns::Events(events) => {
+    match &*state {
+        State::Plans(shared) => shared.plans.next_pair(alloc, rows_data),
+        State::Events(events) => {
             let shared = Shared::make(alloc, events)?;
             let answer = shared.plans.next_pair(alloc, rows_data);
-            *columns = Columns::Plans(shared);
+            *state = State::Plans(shared);
             answer
         }
     }
@@ -376,7 +374,7 @@ impl<'a> RowsEvent<'a> {
         RowsEventRows {
             alloc,
             rows_data: self.rows_data(),
-            columns: Columns::Events(Events { table, event: self }),
+            state: State::Events(Events { table, event: self }),
         }
     }
 }
@@ -389,13 +387,14 @@ impl<'a> RowsEventRows<'a> {
           left = rows_data.now;
           is_planned = true;
           steps = plans.steps;
+          due_steps = plans.steps;
           most_steps = plans.steps;
         } }
     {
         RowsEventRows {
             alloc,
             rows_data,
-            columns: Columns::Plans(plans),
+            state: State::Plans(plans),
         }
     }
 
@@ -409,12 +408,13 @@ impl<'a> RowsEventRows<'a> {
     /// an earlier event.
     pub fn metadata_steps(&self) -> u128
         ensures value { result ≡ self.now.steps }
+        ensures exact { self.now.is_planned ≡ true → result ≡ self.now.due_steps }
         ensures most { result ≤ self.now.most_steps }
         ensures least { self.now.is_planned ≡ true → slot_count self.now.plans ≤ result }
     {
-        match &self.columns {
-            Columns::Events(_) => 0,
-            Columns::Plans(shared) => shared.steps(),
+        match &self.state {
+            State::Events(_) => 0,
+            State::Plans(shared) => shared.steps(),
         }
     }
 }
@@ -434,7 +434,7 @@ impl<'a> Iterator for RowsEventRows<'a> {
         if self.rows_data.is_empty() {
             return None;
         }
-        match pair_from(self.alloc, &mut self.columns, self.rows_data) {
+        match pair_from(self.alloc, &mut self.state, self.rows_data) {
             Ok((pair, rest)) => {
                 self.rows_data = rest;
                 Some(Ok(pair))

@@ -27,17 +27,20 @@ fn nothing_for_times(rt: HostRuntime) {
     assert!(rt; my_time_packed_from_binary(&mut bytes, 0) == Ok(0x1_9000 << 24));
 }
 
-/// The table d.t of `a`, an unsigned LONG and key column, and `b`, a VARCHAR of the character set 33.
+/// The table d.t of `a`, an unsigned LONG and key column, and `b`, a VARCHAR of character set 33.
 const TWO_NAMED: &[u8] = b"\x01\0\0\0\0\0\x01\0\x01d\0\x01t\0\x02\x03\x0f\x02\x0a\0\x02\
     \x01\x01\x80\x04\x04\x01a\x01b\x08\x01\0\x02\x01\x21";
 
 /// Returns whether a table has four fields of optional metadata and two columns, in nine steps.
 fn has_fields_and_columns(table: &TableMapEvent<'_>) -> bool {
+    let mut fields = table.iter_optional_meta();
+    for _ in 0..4 {
+        if !matches!(fields.next(), Some(Ok(_))) {
+            return false;
+        }
+    }
     let mut columns = TableColumns::new(table);
-    table.iter_optional_meta().all(|field| field.is_ok())
-        && table.iter_optional_meta().count() == 4
-        && columns.skip_columns(2).is_ok()
-        && columns.steps() == 9
+    fields.next().is_none() && matches!(columns.skip_columns(2), Ok(())) && columns.steps() == 9
 }
 
 /// Returns whether the bytes are such a table.

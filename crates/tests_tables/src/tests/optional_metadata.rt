@@ -160,11 +160,9 @@ const TWO_SIGNS: &[u8] = b"\x01\0\0\0\0\0\x01\0\x01d\0\x01t\0\x02\x03\x0f\x02\x0
 const UNKNOWN_FIRST: &[u8] = b"\x01\0\0\0\0\0\x01\0\x01d\0\x01t\0\x02\x03\x0f\x02\x0a\0\x02\
     \x0e\x01\xff\x01\x02\x80\0\x04\x02\x01a";
 /// The table with a field of names that is cut.
-const CUT_NAMES: &[u8] =
-    b"\x01\0\0\0\0\0\x01\0\x01d\0\x01t\0\x02\x03\x0f\x02\x0a\0\x02\x04\x05a";
+const CUT_NAMES: &[u8] = b"\x01\0\0\0\0\0\x01\0\x01d\0\x01t\0\x02\x03\x0f\x02\x0a\0\x02\x04\x05a";
 /// The table with a field of no known kind that is cut.
-const CUT_UNKNOWN: &[u8] =
-    b"\x01\0\0\0\0\0\x01\0\x01d\0\x01t\0\x02\x03\x0f\x02\x0a\0\x02\x0e\x05a";
+const CUT_UNKNOWN: &[u8] = b"\x01\0\0\0\0\0\x01\0\x01d\0\x01t\0\x02\x03\x0f\x02\x0a\0\x02\x0e\x05a";
 
 /// Returns whether the fields of a table are this fault, and then the name `a` alone.
 fn has_fault_and_name(bytes: &[u8], fault: Fault) -> Result<bool, Fault> {

@@ -104,8 +104,8 @@ fn cut_events(rt: HostRuntime) {
     }
 }
 
-/// Tables d.t whose counts are out of range, with their faults. In the last three all that follows
-/// the count of columns is there.
+/// Tables d.t whose counts are out of range, with their faults. In the last three the rest of a table
+/// of two columns follows the count.
 const HOSTILE: [(&[u8], Fault); 8] = [
     (b"\x01\0\0\0\0\0\x01\0\x01d\0\x01t\0\xfb", Fault::BadLenEnc),
     (

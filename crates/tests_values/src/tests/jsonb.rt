@@ -238,9 +238,9 @@ pub(super) fn has_keys(bytes: &[u8], text: &str) -> bool {
     }
 }
 
-/// An object of the key `a` and the literal null, and the same with a key inside the entries.
+/// An object of the key `a` and the literal null.
 const NULL: &[u8] = b"\0\x01\0\x0c\0\x0b\0\x01\0\x04\0\0a";
-
+/// The same with the key inside the entries.
 pub(super) const BAD_KEY: &[u8] = b"\0\x01\0\x0c\0\x0a\0\x01\0\x04\0\0a";
 /// An object whose key is empty, at its end.
 const EMPTY_KEY: &[u8] = b"\0\x01\0\x0b\0\x0b\0\0\0\x05\x01\0";

@@ -1,6 +1,6 @@
 use Rattle.std.proofs.Common.{◌≤◌, length}
 use Rattle.binlog_file.specs.Changes.{most_left}
-use Rattle.binlog_file.specs.Walks.{spot_of}
+use Rattle.binlog_file.specs.Workings.Walks.{spot_of}
 use Rattle.binlog_count_lent.proofs.json.add_change.Given as goal
 
 abbrev pub invariant-loop-item : goal.invariant-loop-item

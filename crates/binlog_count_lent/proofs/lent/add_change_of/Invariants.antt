@@ -1,6 +1,6 @@
 use Rattle.std.proofs.Common.{◌≤◌, length}
 use Rattle.binlog_file.specs.SourceChanges.{items_left}
-use Rattle.binlog_file.specs.SourceWalks.{reading_in}
+use Rattle.binlog_file.specs.Workings.SourceWalks.{reading_in}
 use Rattle.binlog_count_lent.proofs.lent.add_change_of.Given as goal
 
 abbrev pub invariant-loop-item : goal.invariant-loop-item

@@ -1,5 +1,5 @@
 use Rattle.binlog_file.specs.Changes.{most_left}
-use Rattle.binlog_file.specs.Walks.{spot_of}
+use Rattle.binlog_file.specs.Workings.Walks.{spot_of}
 use Rattle.binlog_count_lent.proofs.lent.add_file.Given as goal
 
 abbrev pub decreases-loop-pair : goal.decreases-loop-pair

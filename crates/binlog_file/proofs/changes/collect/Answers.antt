@@ -1,7 +1,7 @@
 use Rattle.std.proofs.Common.{Result, Ok, Err, Some, None, [], ap, ◌∙◌, subst}
 use Rattle.binlog_events.specs.declared.error.FileError.{FileError}
 use Rattle.binlog_file.specs.Changes.{Wanted, Change, IsMemory, ChangeGives, Left, first_spot}
-use Rattle.binlog_file.specs.Walks.{spot_of}
+use Rattle.binlog_file.specs.Workings.Walks.{spot_of}
 use Rattle.binlog_file.proofs.Followed.{listed_so_far, ended_file, whole_file}
 use Rattle.binlog_file.proofs.changes.collect.Goals as goal
 

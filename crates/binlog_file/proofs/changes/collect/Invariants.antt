@@ -1,6 +1,6 @@
 use Rattle.std.proofs.Common.{◌≡◌, ℕ, List}
 use Rattle.binlog_file.specs.Changes.{Follows, first_spot}
-use Rattle.binlog_file.specs.Walks.{spot_of}
+use Rattle.binlog_file.specs.Workings.Walks.{spot_of}
 use Rattle.binlog_file.proofs.changes.collect.Given as goal
 
 abbrev pub invariant-loop-item : goal.invariant-loop-item

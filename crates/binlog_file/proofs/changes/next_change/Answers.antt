@@ -1,7 +1,7 @@
 use Rattle.std.proofs.Common.{Option, subst, arith}
 use Rattle.binlog_file.specs.TableMaps.{held_by}
 use Rattle.binlog_file.specs.Changes.{Change, IsMemory, TakeGives}
-use Rattle.binlog_file.specs.Walks.{spot_of}
+use Rattle.binlog_file.specs.Workings.Walks.{spot_of}
 use Rattle.binlog_file.proofs.Followed.{glance_onward, change_given}
 use Rattle.binlog_file.proofs.changes.next_change.Goals as goal
 

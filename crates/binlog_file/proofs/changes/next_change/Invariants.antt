@@ -1,6 +1,6 @@
 use Rattle.std.proofs.Common.{◌≡◌, ◌≤◌, None}
 use Rattle.binlog_file.specs.Changes.{IsMemory, TakeGives, most_left}
-use Rattle.binlog_file.specs.Walks.{spot_of, most_kept_in}
+use Rattle.binlog_file.specs.Workings.Walks.{spot_of, most_kept_in}
 use Rattle.binlog_file.proofs.changes.next_change.Given as goal
 
 abbrev pub invariant-loop-error : goal.invariant-loop-error

@@ -3,8 +3,8 @@ use Rattle.binlog_events.specs.declared.error.FileError.{FileError}
 use Rattle.binlog_file.specs.Events.{Glance}
 use Rattle.binlog_file.specs.Changes.{spot}
 use Rattle.binlog_file.specs.TableMaps.{held_by}
-use Rattle.binlog_file.specs.Walks.{spot_of}
-use Rattle.binlog_file.specs.AskedGlances.{is_glance_asked, GlanceAsked}
+use Rattle.binlog_file.specs.Workings.Walks.{spot_of}
+use Rattle.binlog_file.specs.Workings.AskedGlances.{is_glance_asked, GlanceAsked}
 use Rattle.binlog_file.proofs.LentFollowed.{item_shrinks}
 use Rattle.binlog_file.proofs.AskedFollowed.{Passes, none_passed, one_passed}
 use Rattle.binlog_file.proofs.changes.pass_over.Goals as goal

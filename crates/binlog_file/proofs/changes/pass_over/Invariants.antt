@@ -1,5 +1,5 @@
 use Rattle.std.proofs.Common.{◌≡◌, ◌≤◌, None, length}
-use Rattle.binlog_file.specs.Walks.{spot_of, most_kept_in}
+use Rattle.binlog_file.specs.Workings.Walks.{spot_of, most_kept_in}
 use Rattle.binlog_file.proofs.AskedFollowed.{Passes}
 use Rattle.binlog_file.proofs.changes.pass_over.Given as goal
 

@@ -1,9 +1,9 @@
 use Rattle.std.proofs.Common.{◌∙◌, Some, Result, subst, sym}
 use Rattle.binlog_events.specs.declared.error.FileError.{FileError}
 use Rattle.binlog_file.specs.Events.{Glance}
-use Rattle.binlog_file.specs.Glances.{GlanceSteps}
+use Rattle.binlog_file.specs.Workings.Glances.{GlanceSteps}
 use Rattle.binlog_file.specs.TableMaps.{held_by}
-use Rattle.binlog_file.specs.Walks.{spot_of}
+use Rattle.binlog_file.specs.Workings.Walks.{spot_of}
 use Rattle.binlog_file.proofs.LentFollowed.{item_refused, item_failed_if}
 use Rattle.binlog_file.proofs.changes.show_item.Goals as goal
 

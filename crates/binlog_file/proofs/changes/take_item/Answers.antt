@@ -2,7 +2,7 @@ use Rattle.std.proofs.Common.{None, Result, Some, subst, inl, inr}
 use Rattle.binlog_events.specs.declared.error.FileError.{FileError}
 use Rattle.binlog_file.specs.Events.{Glance}
 use Rattle.binlog_file.specs.Changes.{IsMemory, spot}
-use Rattle.binlog_file.specs.Glances.{GlanceSteps}
+use Rattle.binlog_file.specs.Workings.Glances.{GlanceSteps}
 use Rattle.binlog_file.specs.TableMaps.{held_by}
 use Rattle.binlog_file.proofs.Followed.{error_taken, other_taken}
 use Rattle.binlog_file.proofs.changes.take_item.Goals as goal

@@ -3,7 +3,7 @@ use Rattle.std.proofs.lemmas.List.{length-take-le}
 use Rattle.binlog_base.specs.Format.{Parses}
 use Rattle.binlog_events.specs.declared.error.EventError.TheVariants as error
 use Rattle.binlog_file.specs.Stream.{Fills}
-use Rattle.binlog_file.specs.Readers.{raw_in}
+use Rattle.binlog_file.specs.Workings.Readers.{raw_in}
 use Rattle.binlog_file.proofs.RawRead.{Refused, in_head, full, found_error, head_cut, header_refused, size_refused, rest_cut, whole}
 use Rattle.binlog_file.proofs.reader.fill_event.Goals as goal
 

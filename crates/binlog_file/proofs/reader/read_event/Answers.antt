@@ -3,7 +3,7 @@ use Rattle.binlog_base.specs.Format.{Parses}
 use Rattle.binlog_file.specs.Description.{Description}
 use Rattle.binlog_file.specs.Events.{Raw, event_of_raw}
 use Rattle.binlog_file.specs.Stream.{RawGives}
-use Rattle.binlog_file.specs.Readers.{kept_by}
+use Rattle.binlog_file.specs.Workings.Readers.{kept_by}
 use Rattle.binlog_file.proofs.EventRead.{handed_on, raw_refused, event_refused, event_read}
 use Rattle.binlog_file.proofs.reader.read_event.Goals as goal
 

@@ -3,8 +3,8 @@ use Rattle.binlog_file.specs.Events.{Raw, Glance}
 use Rattle.binlog_file.specs.declared.reader.Filled.{Filled}
 use Rattle.std.specs.Option.{option_map}
 use Rattle.binlog_file.specs.Stream.{RawGives, GlanceGives}
-use Rattle.binlog_file.specs.Readers.{kept_by, raw_in, glance_in}
-use Rattle.binlog_file.specs.Taken.{TakesRaw}
+use Rattle.binlog_file.specs.Workings.Readers.{kept_by, raw_in, glance_in}
+use Rattle.binlog_file.specs.Workings.Taken.{TakesRaw}
 use Rattle.binlog_file.proofs.Bodies.{begins_longer, taken_begins}
 use Rattle.binlog_file.proofs.EventRead.{raw_refused, sighting_error, glance_read, glance_refused}
 use Rattle.binlog_file.proofs.reader.sight.Goals as goal

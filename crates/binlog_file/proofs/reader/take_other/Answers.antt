@@ -2,7 +2,7 @@ use Rattle.std.proofs.Common.{ℕ, List, Ok, Option, subst}
 use Rattle.binlog_base.specs.Format.{Parses}
 use Rattle.binlog_file.specs.Description.{Description}
 use Rattle.binlog_file.specs.Events.{event_of_raw}
-use Rattle.binlog_file.specs.Readers.{kept_by}
+use Rattle.binlog_file.specs.Workings.Readers.{kept_by}
 use Rattle.binlog_file.proofs.reader.take_other.Goals as goal
 
 pub returns-clause-takes : goal.returns-clause-takes

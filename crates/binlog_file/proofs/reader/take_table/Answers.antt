@@ -5,10 +5,10 @@ use Rattle.binlog_events.specs.declared.error.EventError.{EventError}
 use Rattle.binlog_file.specs.Description.{Description}
 use Rattle.binlog_file.specs.Events.{Raw, Glance, event_of_raw}
 use Rattle.binlog_file.specs.Tables.{InForce}
-use Rattle.binlog_file.specs.TableBodies.{event_with, LeavesTable}
+use Rattle.binlog_file.specs.Workings.TableBodies.{event_with, LeavesTable}
 use Rattle.binlog_file.specs.Stream.{Kept, kept, kept_after}
-use Rattle.binlog_file.specs.Taken.{TakesRaw}
-use Rattle.binlog_file.specs.Readers.{kept_by}
+use Rattle.binlog_file.specs.Workings.Taken.{TakesRaw}
+use Rattle.binlog_file.specs.Workings.Readers.{kept_by}
 use Rattle.binlog_file.specs.TableMaps.{held_by}
 use Rattle.binlog_file.proofs.reader.take_table.Goals as goal
 

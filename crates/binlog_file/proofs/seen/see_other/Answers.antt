@@ -3,7 +3,7 @@ use Rattle.binlog_file.specs.Description.{Description}
 use Rattle.binlog_file.specs.Events.{Glance, glance_of}
 use Rattle.binlog_file.specs.Tables.{in_force_after}
 use Rattle.binlog_file.specs.TableMaps.{held_by}
-use Rattle.binlog_file.specs.Glances.{seen}
+use Rattle.binlog_file.specs.Workings.Glances.{seen}
 use Rattle.binlog_file.proofs.TablesLeft.{held_as}
 use Rattle.binlog_file.proofs.seen.see_other.Goals as goal
 

@@ -5,9 +5,9 @@ use Rattle.binlog_events.specs.declared.error.EventError.{EventError}
 use Rattle.binlog_file.specs.Description.{Description}
 use Rattle.binlog_file.specs.Events.{Raw, Glance}
 use Rattle.binlog_file.specs.Tables.{InForce, in_force_after}
-use Rattle.binlog_file.specs.TableBodies.{event_with}
+use Rattle.binlog_file.specs.Workings.TableBodies.{event_with}
 use Rattle.binlog_file.specs.TableMaps.{held_by}
-use Rattle.binlog_file.specs.Glances.{Seen, seen, SeesRaw}
+use Rattle.binlog_file.specs.Workings.Glances.{Seen, seen, SeesRaw}
 use Rattle.binlog_file.proofs.TablesLeft.{held_as}
 use Rattle.binlog_file.proofs.seen.see_table.Goals as goal
 

@@ -1,6 +1,6 @@
 use Rattle.std.proofs.Common.{◌≡◌, ◌≤◌, None}
 use Rattle.binlog_file.specs.SourceChanges.{SourceTakes, items_left, turns}
-use Rattle.binlog_file.specs.SourceWalks.{reading_in, most_kept_by}
+use Rattle.binlog_file.specs.Workings.SourceWalks.{reading_in, most_kept_by}
 use Rattle.binlog_file.proofs.source_changes.next_change.Given as goal
 
 abbrev pub invariant-loop-alloc : goal.invariant-loop-alloc

@@ -1,8 +1,8 @@
 use Rattle.std.proofs.Common.{◌≡◌, None, Ok, Option, rules, subst}
 use Rattle.binlog_file.specs.Events.{Glance}
 use Rattle.binlog_file.specs.Stream.{MayGoOn, ReaderGlances}
-use Rattle.binlog_file.specs.Readers.{reading_of}
-use Rattle.binlog_file.specs.SourceWalks.{reading_in}
+use Rattle.binlog_file.specs.Workings.Readers.{reading_of}
+use Rattle.binlog_file.specs.Workings.SourceWalks.{reading_in}
 use Rattle.binlog_file.proofs.SourceLent.{source_glanced, source_refused, fewer_left}
 use Rattle.binlog_file.proofs.source_changes.next_event.Goals as goal
 

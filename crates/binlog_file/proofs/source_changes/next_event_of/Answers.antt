@@ -4,11 +4,11 @@ use Rattle.binlog_file.specs.declared.sighting.Sighting.{Sighting}
 use Rattle.binlog_file.specs.declared.lent_changes.LentEvent.{LentEvent}
 use Rattle.binlog_file.specs.Events.{Glance}
 use Rattle.binlog_file.specs.Stream.{ReaderGlances}
-use Rattle.binlog_file.specs.Readers.{item_in}
-use Rattle.binlog_file.specs.SourceWalks.{reading_in, kept_in}
+use Rattle.binlog_file.specs.Workings.Readers.{item_in}
+use Rattle.binlog_file.specs.Workings.SourceWalks.{reading_in, kept_in}
 use Rattle.binlog_file.specs.SourceChanges.{SourceAsked}
 use Rattle.binlog_file.specs.Asked.{is_asked}
-use Rattle.binlog_file.specs.AskedGlances.{SourceSights}
+use Rattle.binlog_file.specs.Workings.AskedGlances.{SourceSights}
 use Rattle.binlog_file.proofs.SourceLent.{source_glanced}
 use Rattle.binlog_file.proofs.SourceAsked.{asked_after}
 use Rattle.binlog_file.proofs.AskedFollowed.{result_asked}

@@ -3,11 +3,11 @@ use Rattle.std.specs.Option.{option_map}
 use Rattle.binlog_events.specs.declared.error.FileError.{FileError}
 use Rattle.binlog_file.specs.declared.sighting.Sighting.{Sighting}
 use Rattle.binlog_file.specs.Stream.{MayGoOn, ReaderGlances}
-use Rattle.binlog_file.specs.Readers.{reading_of, glance_in, item_in}
-use Rattle.binlog_file.specs.SourceWalks.{reading_in}
+use Rattle.binlog_file.specs.Workings.Readers.{reading_of, glance_in, item_in}
+use Rattle.binlog_file.specs.Workings.SourceWalks.{reading_in}
 use Rattle.binlog_file.specs.SourceChanges.{SourcePasses}
 use Rattle.binlog_file.specs.Asked.{is_asked}
-use Rattle.binlog_file.specs.AskedGlances.{SourceSights}
+use Rattle.binlog_file.specs.Workings.AskedGlances.{SourceSights}
 use Rattle.binlog_file.proofs.SourceFollowed.{fewer_turns_after}
 use Rattle.binlog_file.proofs.SourceLent.{source_ended, source_refused, source_over, source_pending, fewer_left}
 use Rattle.binlog_file.proofs.SourceAsked.{none_passed, one_passed, asked_after}

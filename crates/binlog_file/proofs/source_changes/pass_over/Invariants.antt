@@ -1,6 +1,6 @@
 use Rattle.std.proofs.Common.{◌≡◌, ◌≤◌}
 use Rattle.binlog_file.specs.SourceChanges.{SourcePasses, items_left, turns}
-use Rattle.binlog_file.specs.SourceWalks.{reading_in, most_kept_by}
+use Rattle.binlog_file.specs.Workings.SourceWalks.{reading_in, most_kept_by}
 use Rattle.binlog_file.proofs.source_changes.pass_over.Given as goal
 
 abbrev pub invariant-loop-walk : goal.invariant-loop-walk

@@ -1,8 +1,8 @@
 use Rattle.std.proofs.Common.{Option, Ok, subst}
 use Rattle.binlog_file.specs.Events.{Glance}
 use Rattle.binlog_file.specs.Stream.{ReaderGlances}
-use Rattle.binlog_file.specs.Readers.{reading_of}
-use Rattle.binlog_file.specs.SourceWalks.{reading_in}
+use Rattle.binlog_file.specs.Workings.Readers.{reading_of}
+use Rattle.binlog_file.specs.Workings.SourceWalks.{reading_in}
 use Rattle.binlog_file.proofs.SourceFollowed.{glance_taken_from, fewer_turns_after, glance_refused_from}
 use Rattle.binlog_file.proofs.source_changes.read_one.Goals as goal
 

@@ -3,7 +3,7 @@ use Rattle.binlog_file.specs.Events.{Glance}
 use Rattle.binlog_file.specs.Tables.{Tables, InForce}
 use Rattle.binlog_file.specs.Stream.{IsOutside}
 use Rattle.binlog_file.specs.Changes.{Gives, EventGives, at_position}
-use Rattle.binlog_file.specs.SourceWalks.{kept_in}
+use Rattle.binlog_file.specs.Workings.SourceWalks.{kept_in}
 use Rattle.binlog_file.proofs.Followed.{event_taken, nothing_taken}
 use Rattle.binlog_file.proofs.source_changes.take.Goals as goal
 

@@ -5,8 +5,8 @@ ghost use Rattle.std.specs.Iterator.{YieldsFirst, item_count};
 ghost use Rattle.std.specs.Option.{option_map};
 ghost use Rattle.binlog_base.specs.Items.{items};
 ghost use Rattle.binlog_table.specs.Charsets.{charset_items};
-ghost use Rattle.binlog_table.specs.KeysLeft.{Agree};
-ghost use Rattle.binlog_table.specs.CharsetsLeft.{charset_of, charsets_of, charsets_taken, row_charset, NoCharsetsLeft};
+ghost use Rattle.binlog_table.specs.Workings.KeysLeft.{Agree};
+ghost use Rattle.binlog_table.specs.Workings.CharsetsLeft.{charset_of, charsets_of, charsets_taken, row_charset, NoCharsetsLeft};
 ghost use Rattle.binlog_base.specs.Numbers.{lenenc_bytes};
 ghost use Rattle.binlog_table.specs.Lists as Spec;
 ghost use Rattle.binlog_table.specs.Lists.{pair_with, low_bits, default_charset, Spends};
@@ -190,7 +190,7 @@ impl<'a> Model for IterCharset<'a> {
     ghost use Rattle.std.specs.Prelude.{◌+◌, length};
     ghost use Rattle.binlog_base.specs.Items.{items};
     ghost use Rattle.binlog_table.specs.Lists.{low_bits, pair_with};
-    ghost use Rattle.binlog_table.specs.CharsetsLeft.{CharsetsLeft, with_head, NoneLeft};
+    ghost use Rattle.binlog_table.specs.Workings.CharsetsLeft.{CharsetsLeft, with_head, NoneLeft};
 
     ghost Value = { CharsetsLeft };
 

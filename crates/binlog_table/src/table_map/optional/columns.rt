@@ -12,10 +12,10 @@ ghost use Rattle.binlog_base.specs.Servers.{numeric_group, character_group, enum
 ghost use Rattle.binlog_table.specs.ColumnTypes.{some_of, real_type};
 ghost use Rattle.binlog_table.specs.RawTypes.{has_charset};
 ghost use Rattle.binlog_table.specs.Fields.{fields};
-ghost use Rattle.binlog_table.specs.CharsetsLeft.{row_charset, charsets_taken};
+ghost use Rattle.binlog_table.specs.Workings.CharsetsLeft.{row_charset, charsets_taken};
 ghost use Rattle.binlog_table.specs.TableColumns.{one_more, typed, named, column_by, columns_by, column_at, table_columns, steps_then, PassesFirst, PassesOver, PassesMany};
 ghost use Rattle.binlog_table.specs.Extracted.{kept_of, kept_bytes, field_fault, fields_of};
-ghost use Rattle.binlog_table.specs.ColumnsLeft.{seen_column, bit_here, bits_after, charset_here, parts_left, columns_left, Follows, Advances, HasRoom, NoListsLeft, walk_at, steps_of, steps_ahead, most_of};
+ghost use Rattle.binlog_table.specs.Workings.ColumnsLeft.{seen_column, bit_here, bits_after, charset_here, parts_left, columns_left, Follows, Advances, HasRoom, NoListsLeft, walk_at, steps_of, steps_ahead, most_of};
 ghost use Rattle.binlog_table.specs.Steps.{columns_read, steps_after};
 ghost use Rattle.binlog_table.specs.Lists.{Spends, count_of, taken_after};
 ghost use Rattle.binlog_table.specs.declared.table_map.optional.columns.Walk.{Walk};
@@ -181,7 +181,7 @@ fn json_columns(raw: u8) -> usize
 
 // Takes the next column.
 #[inline(always)]
-#[tactic(auto, unfolding(crate::specs::ColumnsLeft::parts_left))]
+#[tactic(auto, unfolding(crate::specs::Workings::ColumnsLeft::parts_left))]
 fn next_column<'a>(walk: &mut Walk<'a>) -> Result<TableColumn<'a>, Fault>
     requires room { HasRoom walk.old }
     ensures now { result_map seen_column result ≡ column_by (parts_left walk.old) 0 }
@@ -398,7 +398,7 @@ pub struct TableColumns<'a> {
 
 impl<'a> Model for TableColumns<'a> {
     ghost use Rattle.binlog_table.specs.TableColumns.{ToCome};
-    ghost use Rattle.binlog_table.specs.ColumnsLeft.{columns_left, steps_of, all_ahead, most_of, HasRoom};
+    ghost use Rattle.binlog_table.specs.Workings.ColumnsLeft.{columns_left, steps_of, all_ahead, most_of, HasRoom};
 
     ghost Value = { ToCome };
 

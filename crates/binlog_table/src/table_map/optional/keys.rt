@@ -4,7 +4,7 @@ ghost use Rattle.std.specs.Prelude.{◌≡◌, ◌<◌, ◌+◌, ◌++◌, ◌^�
 ghost use Rattle.std.specs.Iterator.{YieldsFirst, item_count};
 ghost use Rattle.binlog_base.specs.Items.{items};
 ghost use Rattle.binlog_table.specs.Keys.{key_items};
-ghost use Rattle.binlog_table.specs.KeysLeft.{keys_left, keys_taken, head_of, next_if, key_from};
+ghost use Rattle.binlog_table.specs.Workings.KeysLeft.{keys_left, keys_taken, head_of, next_if, key_from};
 ghost use Rattle.binlog_table.specs.TableColumns.{one_more};
 ghost use Rattle.binlog_table.specs.Steps.{is_of_key};
 ghost use Rattle.binlog_base.specs.Numbers.{lenenc, lenenc_bytes};
@@ -110,7 +110,7 @@ impl<'a> Model for IterPrimaryKey<'a> {
     ghost use Rattle.binlog_base.specs.Items.{items};
     ghost use Rattle.binlog_base.specs.Numbers.{lenenc, lenenc_bytes};
     ghost use Rattle.binlog_table.specs.Lists.{pair_with};
-    ghost use Rattle.binlog_table.specs.KeysLeft.{KeysLeft, keys_left, IsHeadFirst};
+    ghost use Rattle.binlog_table.specs.Workings.KeysLeft.{KeysLeft, keys_left, IsHeadFirst};
 
     ghost Value = { KeysLeft };
 

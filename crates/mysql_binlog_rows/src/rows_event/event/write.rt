@@ -2,26 +2,13 @@
 
 ghost use Rattle.std.specs.Prelude.{◌≡◌, ◌≤◌, ◌++◌, IfOk, length};
 ghost use Rattle.binlog_base.specs.Writing.{Appends};
-ghost use Rattle.mysql_binlog_rows.specs.RowsEvent.{rows_event};
-ghost use Rattle.mysql_binlog_rows.specs.RowsEventWritten.{writes_extra_data, extra_data_bytes, bitmap_bytes, columns_bytes, written_rows_event, ReadsAsWritten, KeepsExtraData};
+ghost use Rattle.mysql_binlog_rows.specs.RowsEvent.{rows_event, writes_extra_data};
+ghost use Rattle.mysql_binlog_rows.specs.RowsEventWritten.{extra_data_bytes, bitmap_bytes, columns_bytes, written_rows_event, ReadsAsWritten, KeepsExtraData};
 
+use super::super::types::writes_extra_data;
 use super::{Bitmap, RowsEvent, RowsEventCtx};
 use binlog_base::below::{BareBytes, IntRepr, LeU16, LenEnc, MySerialize, RawBytes, write_bytes};
-use binlog_consts::consts::EventType;
 use std::alloc::{AllocError, Global};
-
-// Returns whether events of the type are written with extra data.
-fn writes_extra_data(event_type: EventType) -> bool
-    ensures { result ≡ writes_extra_data event_type }
-{
-    matches!(
-        event_type,
-        EventType::WRITE_ROWS_EVENT
-            | EventType::UPDATE_ROWS_EVENT
-            | EventType::DELETE_ROWS_EVENT
-            | EventType::PARTIAL_UPDATE_ROWS_EVENT
-    )
-}
 
 // Writes extra data after its length, which counts its own two bytes as well; or nothing.
 #[tactic(auto, using(binlog_base::proofs::Appending::appending), unfolding(crate::specs::RowsEventWritten::extra_data_bytes))]

@@ -9,15 +9,14 @@ ghost use Rattle.binlog_base.specs.Format.{ParsesAs, OrMemory};
 ghost use Rattle.binlog_table.specs.TableMap.{TableMap};
 ghost use Rattle.mysql_binlog_rows.specs.RowsEvent.{RowsEvent as Event};
 ghost use Rattle.mysql_binlog_rows.specs.Images as images;
-ghost use Rattle.mysql_binlog_rows.specs.Plans.{planned_maybe, planned_pair};
+ghost use Rattle.mysql_binlog_rows.specs.Workings.Plans.{planned_maybe, planned_pair, Reads};
 ghost use Rattle.mysql_binlog_rows.specs.Rows.{PairGives, NextGives};
-ghost use Rattle.mysql_binlog_rows.specs.Plans.{Reads};
 ghost use Rattle.mysql_binlog_rows.specs.LentPairs.{row_if, lent_at_rest, lent_item, EmptyUnlessRead};
 ghost use Rattle.mysql_binlog_rows.specs.Lemmas.Equality.{options_per};
 ghost use Rattle.mysql_binlog_rows.specs.contracts.row.lent_row.LentRowPartialEq.TheImpl.Laws.{laws-law};
-ghost use Rattle.mysql_binlog_rows.specs.Columns.{plans_in, is_planned, PlansKept};
+ghost use Rattle.mysql_binlog_rows.specs.Workings.State.{plans_in, is_planned, PlansKept};
 
-use super::{Columns, Plans, RowPair, RowsEventRows, Shared};
+use super::{Plans, RowPair, RowsEventRows, Shared, State};
 use crate::row::{BinlogRow, LentRow, Plan};
 use binlog_base::below::ParseBuf;
 use binlog_base::fault::Fault;
@@ -175,7 +174,7 @@ fn own_row(alloc: Global, row: Option<&LentRow<'_>>) -> Result<Option<BinlogRow>
 }
 
 impl Plans {
-    #[tactic(auto, unfolding(crate::specs::Plans::planned_pair))]
+    #[tactic(auto, unfolding(crate::specs::Workings::Plans::planned_pair))]
     fn read_lent<'d>(&self, pair: &mut LentPair<'d>, buf: &mut ParseBuf<'d>) -> Result<(), Fault>
         ensures { OrMemory result
             (ParsesAs (λ _. pair.new) (planned_pair self.now.plans) result buf.old.0.now buf.new.0.now) }
@@ -209,22 +208,22 @@ impl Plans {
 // there are none yet.
 fn lent_pair_from<'a>(
     alloc: Global,
-    columns: &mut Columns<'a>,
+    state: &mut State<'a>,
     rows_data: &'a [u8],
     pair: &mut LentPair<'a>,
 ) -> Result<&'a [u8], Fault>
-    ensures pair { (t : TableMap) (e : Event) → Reads t e (plans_in columns.old)
+    ensures pair { (t : TableMap) (e : Event) → Reads t e (plans_in state.old)
         → PairGives (images.pair t e) rows_data.now (lent_at_rest pair.new result) }
     ensures shrinks { IfOk result (λ rest. length rest.now < length rows_data.now) }
-    ensures plans { PlansKept columns.old columns.new }
-    ensures made { result ≢ Err Fault.Memory → is_planned columns.new ≡ true }
+    ensures plans { PlansKept state.old state.new }
+    ensures made { result ≢ Err Fault.Memory → is_planned state.new ≡ true }
 {
-    match &*columns {
-        Columns::Plans(shared) => shared.plans.next_lent_pair(rows_data, pair),
-        Columns::Events(events) => {
+    match &*state {
+        State::Plans(shared) => shared.plans.next_lent_pair(rows_data, pair),
+        State::Events(events) => {
             let shared = Shared::make(alloc, events)?;
             let answer = shared.plans.next_lent_pair(rows_data, pair);
-            *columns = Columns::Plans(shared);
+            *state = State::Plans(shared);
             answer
         }
     }
@@ -244,7 +243,7 @@ impl<'a> RowsEventRows<'a> {
             pair.clear();
             return None;
         }
-        match lent_pair_from(self.alloc, &mut self.columns, self.rows_data, pair) {
+        match lent_pair_from(self.alloc, &mut self.state, self.rows_data, pair) {
             Ok(rest) => {
                 self.rows_data = rest;
                 Some(Ok(()))

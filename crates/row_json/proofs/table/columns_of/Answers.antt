@@ -1,5 +1,5 @@
 use Rattle.std.proofs.Common.{rules, ap, ◌∙◌}
-use Rattle.binlog_table.specs.ColumnsLeft.{seen_column}
+use Rattle.binlog_table.specs.Workings.ColumnsLeft.{seen_column}
 use Rattle.row_json.specs.Columns.{column_of}
 use Rattle.row_json.proofs.Tables.{columns_step}
 use Rattle.row_json.proofs.table.columns_of.Goals as goal

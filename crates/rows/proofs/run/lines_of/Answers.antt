@@ -2,8 +2,8 @@ use Rattle.std.proofs.Common.{List, ℕ, [], ◌∷◌, ◌++◌, Some, Result, 
 use Rattle.std.proofs.lemmas.List.Concat.{flat_map-append}
 use Rattle.binlog_base.specs.declared.fault.Fault.{Fault}
 use Rattle.mysql_binlog_rows.specs.Images.{pair}
-use Rattle.mysql_binlog_rows.specs.Plans.{Plans}
-use Rattle.mysql_binlog_rows.specs.Plans.{Reads}
+use Rattle.mysql_binlog_rows.specs.Workings.Plans.{Plans}
+use Rattle.mysql_binlog_rows.specs.Workings.Plans.{Reads}
 use Rattle.mysql_binlog_rows.specs.LentPairs.{lent_result}
 use Rattle.mysql_binlog_rows.proofs.Pairs.{item_is_pair, item_is_fault}
 use Rattle.mysql_binlog_rows.proofs.Covers.{one_pair_more, covers_from}

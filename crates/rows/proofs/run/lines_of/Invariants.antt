@@ -2,7 +2,7 @@ use Rattle.std.proofs.Common.{◌≡◌, List, length}
 use Rattle.binlog_table.specs.TableMap.{TableMap}
 use Rattle.mysql_binlog_rows.specs.RowsEvent.{RowsEvent}
 use Rattle.mysql_binlog_rows.specs.Images.{Pair, pair}
-use Rattle.mysql_binlog_rows.specs.Plans.{Reads}
+use Rattle.mysql_binlog_rows.specs.Workings.Plans.{Reads}
 use Rattle.mysql_binlog_rows.proofs.Covers.{SoFar}
 use Rattle.row_lines.specs.Lines.{lines_text}
 use Rattle.rows.proofs.run.lines_of.Given as goal

@@ -1,6 +1,6 @@
 use Rattle.std.proofs.Common.{◌≡◌, ℕ, List, Option}
 use Rattle.std.specs.Io.KnownBytes.{Appends}
-use Rattle.binlog_decimal.specs.DecimalPacking.{groups_left}
+use Rattle.binlog_decimal.specs.Workings.DecimalPacking.{groups_left}
 use Rattle.binlog_decimal.proofs.decimal.Decimal.write_bin.Given as goal
 
 -- bytes that are appended for the groups that are left complete those of the whole

@@ -4,10 +4,10 @@ use Rattle.std.proofs.KnownBytes.{Keeps-refl}
 use Rattle.binlog_base.specs.Failures.{CountedState}
 use Rattle.binlog_file.specs.Events.{magic}
 use Rattle.binlog_file.specs.Stream.{NoHeader}
-use Rattle.binlog_file.specs.Readers.{kept_by}
+use Rattle.binlog_file.specs.Workings.Readers.{kept_by}
 use Rattle.binlog_file.specs.declared.reader.EventStreamReader.{EventStreamReader}
 use Rattle.binlog_file.specs.SourceChanges.{spot_at}
-use Rattle.binlog_file.specs.SourceWalks.{reading_in, kept_in}
+use Rattle.binlog_file.specs.Workings.SourceWalks.{reading_in, kept_in}
 use Rattle.changes.specs.declared.error.Failure.TheVariants as failure
 use Rattle.changes.specs.Filters.{wanted_by}
 use Rattle.changes.specs.CountedFiles.{AreCountedToEnd, AreFirstCounted}

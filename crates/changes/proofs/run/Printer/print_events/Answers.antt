@@ -3,8 +3,8 @@ use Rattle.binlog_events.specs.declared.error.FileError.{FileError}
 use Rattle.binlog_file.specs.declared.lent_changes.LentEvent.{LentEvent}
 use Rattle.binlog_file.specs.declared.source_changes.SourceWalk.{SourceWalk}
 use Rattle.binlog_file.specs.declared.reader.EventStreamReader.{EventStreamReader}
-use Rattle.binlog_file.specs.Readers.{kept_by}
-use Rattle.binlog_file.specs.SourceWalks.{reading_in}
+use Rattle.binlog_file.specs.Workings.Readers.{kept_by}
+use Rattle.binlog_file.specs.Workings.SourceWalks.{reading_in}
 use Rattle.changes.specs.declared.error.Failure.TheVariants as failure
 use Rattle.changes.specs.declared.run.Form.{Form}
 use Rattle.changes.specs.declared.filter.Filter.{Filter}

@@ -1,6 +1,6 @@
 use Rattle.std.proofs.Common.{◌≡◌, ℕ, List, None}
 use Rattle.binlog_file.specs.SourceChanges.{Finds, spot_at, items_left}
-use Rattle.binlog_file.specs.SourceWalks.{reading_in, kept_in}
+use Rattle.binlog_file.specs.Workings.SourceWalks.{reading_in, kept_in}
 use Rattle.changes.specs.Filters.{wanted_by}
 use Rattle.changes.specs.Printers.{IsSame}
 use Rattle.changes.specs.declared.run.Form.TheVariants as form

@@ -1,6 +1,8 @@
 use Rattle.std.proofs.lemmas.Grind.{common_steps}
-use Rattle.std.proofs.Common.{◌≡◌, Err, sym, arith}
-use Rattle.mysql_binlog_rows.specs.Plans.{first_column}
+use Rattle.std.proofs.Common.{◌≡◌, ◌+◌, Err, sym, ap, ◌∙◌, length, rules, arith}
+use Rattle.mysql_binlog_rows.specs.Workings.Plans.{first_column}
+use Rattle.binlog_table.specs.TableColumns.{steps_then}
+use Rattle.mysql_binlog_rows.proofs.Steps.{next_then, skip_then, end_then}
 use Rattle.mysql_binlog_rows.proofs.Plans.{plan_passes, plan_stops, plan_stops_after, plan_ends}
 use Rattle.mysql_binlog_rows.proofs.row.plan.plan_columns.Goals as goal
 use Rattle.mysql_binlog_rows.proofs.row.plan.plan_columns.Goals.{else-loop-index-test, then-loop-index-test+then-is_set+in-Err, then-loop-index-test+else-is_set+in-Err-skip_columns}
@@ -15,7 +17,22 @@ loop-index-preserved c = record {
   within = c.absent_from-absent.ensures.within;
   least = omega (arith, c.in-Ok-skip_columns.ensures.steps, c.loop-index.invariant.least);
   most = omega (arith, c.in-Ok-skip_columns.ensures.most, c.loop-index.invariant.most);
+  exact = skip_then c.skip_columns.new.self c.loop-index.walk c.args.walk.now c.loop-index.index c.absent_from-absent.result c.in-Ok-skip_columns.ensures.exact c.loop-index.invariant.exact;
 }
+
+pub returns-clause-exact : goal.returns-clause-exact
+returns-clause-exact c =
+    elim c.loop-index-test.branch [
+      | else-loop-index-test w ↦ λ n.
+          let whole : c.loop-index.index + n ≡ length c.args.present.now + n = omega (arith, c.loop-index.invariant.within) in
+          rw w.walk-is (c.loop-index.invariant.exact n ∙ ap (steps_then c.args.walk.now) whole)
+      | then-loop-index-test+then-is_set+in-Err w ↦
+          rw w.walk-is (end_then w.next_column.new.walk c.args.walk.now (c.loop-index.index + 1) (length c.args.present.now) w.in-Err.ensures.last (omega arith)
+          (next_then w.next_column.new.walk c.loop-index.walk c.args.walk.now c.loop-index.index w.in-Err.ensures.exact c.loop-index.invariant.exact))
+      | then-loop-index-test+else-is_set+in-Err-skip_columns w ↦
+          rw w.walk-is (end_then w.skip_columns.new.self c.args.walk.now (c.loop-index.index + w.absent_from-absent.result) (length c.args.present.now) w.in-Err-skip_columns.ensures.last w.absent_from-absent.ensures.within
+          (skip_then w.skip_columns.new.self c.loop-index.walk c.args.walk.now c.loop-index.index w.absent_from-absent.result w.in-Err-skip_columns.ensures.exact c.loop-index.invariant.exact))
+    ]
 
 pub returns-clause-planned : goal.returns-clause-planned
 returns-clause-planned c =
@@ -32,10 +49,37 @@ returns-clause-planned c =
     ]
 
 pub loop-index-preserved-in_ok-push-in-Ok : goal.loop-index-preserved-in_ok-push-in-Ok
-loop-index-preserved-in_ok-push-in-Ok c = grind (arith, common_steps)
+loop-index-preserved-in_ok-push-in-Ok c = record {
+  so_far = grind (arith, common_steps);
+  schema = (search rules);
+  table = (search rules);
+  no_fault = (search rules);
+  within = (search rules);
+  least = (search rules);
+  most = (search rules);
+  exact = next_then c.next_column.new.walk c.loop-index.walk c.args.walk.now c.loop-index.index c.in-Ok.ensures.exact c.loop-index.invariant.exact;
+}
 
 pub loop-index-preserved-in_ok-push-in-Ok-2 : goal.loop-index-preserved-in_ok-push-in-Ok-2
-loop-index-preserved-in_ok-push-in-Ok-2 c = grind (arith, common_steps)
+loop-index-preserved-in_ok-push-in-Ok-2 c = record {
+  so_far = grind (arith, common_steps);
+  schema = (search rules);
+  table = (search rules);
+  no_fault = (search rules);
+  within = (search rules);
+  least = (search rules);
+  most = (search rules);
+  exact = next_then c.next_column.new.walk c.loop-index.walk c.args.walk.now c.loop-index.index c.in-Ok.ensures.exact c.loop-index.invariant.exact;
+}
 
 pub loop-index-preserved-in_ok-push-in-Ok-3 : goal.loop-index-preserved-in_ok-push-in-Ok-3
-loop-index-preserved-in_ok-push-in-Ok-3 c = grind (arith, common_steps)
+loop-index-preserved-in_ok-push-in-Ok-3 c = record {
+  so_far = grind (arith, common_steps);
+  schema = (search rules);
+  table = (search rules);
+  no_fault = (search rules);
+  within = (search rules);
+  least = (search rules);
+  most = (search rules);
+  exact = next_then c.next_column.new.walk c.loop-index.walk c.args.walk.now c.loop-index.index c.in-Ok.ensures.exact c.loop-index.invariant.exact;
+}

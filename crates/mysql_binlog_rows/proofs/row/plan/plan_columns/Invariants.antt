@@ -1,5 +1,6 @@
-use Rattle.std.proofs.Common.{◌≡◌, ◌+◌, ◌-◌, ◌≤◌, drop, length, None}
-use Rattle.mysql_binlog_rows.specs.Plans.{planned_from}
+use Rattle.std.proofs.Common.{ℕ, ◌≡◌, ◌+◌, ◌-◌, ◌≤◌, drop, length, None}
+use Rattle.binlog_table.specs.TableColumns.{steps_then}
+use Rattle.mysql_binlog_rows.specs.Workings.Plans.{planned_from}
 use Rattle.mysql_binlog_rows.proofs.Plans.{after_planned}
 use Rattle.mysql_binlog_rows.proofs.row.plan.plan_columns.Given as goal
 
@@ -12,6 +13,7 @@ invariant-loop-index l = record {
   within : l.index ≤ length l.present;
   least : l.fn.walk.steps + l.index ≤ l.walk.steps;
   most : l.walk.most ≤ l.fn.walk.most + l.index;
+  exact : (n : ℕ) → steps_then l.walk n ≡ steps_then l.fn.walk (l.index + n);
 }
 
 abbrev pub decreases-loop-index : goal.decreases-loop-index

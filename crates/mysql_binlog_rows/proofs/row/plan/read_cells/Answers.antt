@@ -1,7 +1,7 @@
 use Rattle.std.proofs.Common.{◌≡◌, Bool, false, Ok, get_or, ap, sym, ◌∙◌, map, arith}
 use Rattle.std.specs.Option.{option_map}
 use Rattle.std.proofs.lemmas.Result.{err_from_is_err_and}
-use Rattle.mysql_binlog_rows.specs.Plans.{slot_cell}
+use Rattle.mysql_binlog_rows.specs.Workings.Plans.{slot_cell}
 use Rattle.binlog_cells.specs.Cells.{cell_of, one_more}
 use Rattle.mysql_binlog_rows.proofs.Loop.{puts_on, put_stops, all_well, all_ill}
 use Rattle.mysql_binlog_rows.proofs.row.plan.read_cells.Goals as goal

@@ -1,7 +1,7 @@
 use Rattle.std.proofs.Common.{◌≡◌, ◌≤◌, length, drop, map, vec_len, vec_capacity}
 use Rattle.std.specs.Option.{option_map}
 use Rattle.binlog_cells.specs.Cells.{cell_of}
-use Rattle.mysql_binlog_rows.specs.Plans.{slot_cells}
+use Rattle.mysql_binlog_rows.specs.Workings.Plans.{slot_cells}
 use Rattle.mysql_binlog_rows.proofs.Loop.{with_front}
 use Rattle.mysql_binlog_rows.proofs.row.plan.read_cells.Given as goal
 

@@ -1,6 +1,6 @@
 use Rattle.std.proofs.Common.{◌≡◌, Bool, false, Ok, get_or, ap, sym, ◌∙◌, arith}
 use Rattle.std.proofs.lemmas.Result.{err_from_is_err_and}
-use Rattle.mysql_binlog_rows.specs.Plans.{slot_cell}
+use Rattle.mysql_binlog_rows.specs.Workings.Plans.{slot_cell}
 use Rattle.binlog_cells.specs.Cells.{one_more}
 use Rattle.binlog_cells.specs.LentCells.{lent_values}
 use Rattle.mysql_binlog_rows.proofs.Loop.{puts_on, put_stops, all_well, all_ill}

@@ -1,6 +1,6 @@
 use Rattle.std.proofs.Common.{◌≡◌, ◌≤◌, length, drop, vec_len, vec_capacity}
 use Rattle.binlog_cells.specs.LentCells.{lent_values}
-use Rattle.mysql_binlog_rows.specs.Plans.{slot_cells}
+use Rattle.mysql_binlog_rows.specs.Workings.Plans.{slot_cells}
 use Rattle.mysql_binlog_rows.proofs.Loop.{with_front}
 use Rattle.mysql_binlog_rows.proofs.row.plan.read_lent_cells.Given as goal
 

@@ -1,7 +1,6 @@
 use Rattle.std.proofs.Common.{Some, None, sym, subst, ◌∙◌}
 use Rattle.mysql_binlog_rows.specs.Images.{pair}
-use Rattle.mysql_binlog_rows.specs.Plans.{Plans}
-use Rattle.mysql_binlog_rows.specs.Plans.{Reads}
+use Rattle.mysql_binlog_rows.specs.Workings.Plans.{Plans, Reads}
 use Rattle.mysql_binlog_rows.proofs.Pairs.{item_is_pair, item_is_fault}
 use Rattle.mysql_binlog_rows.proofs.Covers.{one_pair_more, covers_from}
 use Rattle.mysql_binlog_rows.proofs.rows_event.decode.collect.Goals as goal

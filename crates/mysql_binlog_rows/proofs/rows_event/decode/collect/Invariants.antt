@@ -2,7 +2,7 @@ use Rattle.std.proofs.Common.{◌≡◌}
 use Rattle.binlog_table.specs.TableMap.{TableMap}
 use Rattle.mysql_binlog_rows.specs.RowsEvent.{RowsEvent}
 use Rattle.mysql_binlog_rows.specs.Images.{pair}
-use Rattle.mysql_binlog_rows.specs.Plans.{Reads}
+use Rattle.mysql_binlog_rows.specs.Workings.Plans.{Reads}
 use Rattle.mysql_binlog_rows.proofs.Covers.{SoFar}
 use Rattle.mysql_binlog_rows.proofs.rows_event.decode.collect.Given as goal
 

@@ -1,5 +1,5 @@
 use Rattle.std.proofs.Common.{rules, refl, arith}
-use Rattle.binlog_table.specs.ColumnsLeft.{walk_at}
+use Rattle.binlog_table.specs.Workings.ColumnsLeft.{walk_at}
 use Rattle.binlog_table.proofs.ColumnWalk.{passes_one}
 use Rattle.binlog_table.proofs.table_map.optional.columns.pass_column.Goals as goal
 

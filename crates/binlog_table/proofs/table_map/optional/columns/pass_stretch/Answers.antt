@@ -1,6 +1,6 @@
 use Rattle.std.proofs.Common.{◌≡◌, ◌+◌, rules, ap, sym}
 use Rattle.binlog_table.specs.declared.table_map.optional.columns.Walk.{Walk}
-use Rattle.binlog_table.specs.ColumnsLeft.{columns_left, walk_at, NoListsLeft}
+use Rattle.binlog_table.specs.Workings.ColumnsLeft.{columns_left, walk_at, NoListsLeft}
 use Rattle.binlog_table.proofs.ColumnWalk.{passes_more}
 use Rattle.binlog_table.proofs.table_map.optional.columns.pass_stretch.Goals as goal
 

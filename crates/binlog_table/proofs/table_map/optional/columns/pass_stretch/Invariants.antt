@@ -1,6 +1,6 @@
 use Rattle.std.proofs.Common.{◌≡◌, ◌+◌, ◌-◌, ◌≤◌, length}
 use Rattle.binlog_table.specs.TableColumns.{PassesOver}
-use Rattle.binlog_table.specs.ColumnsLeft.{columns_left, walk_at}
+use Rattle.binlog_table.specs.Workings.ColumnsLeft.{columns_left, walk_at}
 use Rattle.binlog_table.proofs.table_map.optional.columns.pass_stretch.Given as goal
 
 abbrev pub invariant-loop-passed : goal.invariant-loop-passed

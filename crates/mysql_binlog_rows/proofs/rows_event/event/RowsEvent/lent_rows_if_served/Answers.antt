@@ -1,6 +1,6 @@
 use Rattle.std.proofs.Common.{false, sym, subst}
 use Rattle.mysql_binlog_rows.specs.Rows.{Made, Rows}
-use Rattle.mysql_binlog_rows.specs.Plans.{Reads}
+use Rattle.mysql_binlog_rows.specs.Workings.Plans.{Reads}
 use Rattle.mysql_binlog_rows.proofs.AlikePlans.{made_reads}
 use Rattle.mysql_binlog_rows.proofs.rows_event.event.RowsEvent.lent_rows_if_served.Goals as goal
 

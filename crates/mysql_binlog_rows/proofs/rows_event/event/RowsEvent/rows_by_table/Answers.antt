@@ -1,5 +1,5 @@
-use Rattle.std.proofs.Common.{◌≤◌, sym, ap, subst, ◌∙◌}
-use Rattle.mysql_binlog_rows.specs.Rows.{Made, Rows, IsOf, most_steps}
+use Rattle.std.proofs.Common.{◌≡◌, ◌≤◌, sym, ap, subst, ◌∙◌}
+use Rattle.mysql_binlog_rows.specs.Rows.{Made, Rows, IsOf, event_steps, most_steps}
 use Rattle.mysql_binlog_rows.proofs.AlikePlans.{of_events}
 use Rattle.mysql_binlog_rows.proofs.rows_event.event.RowsEvent.rows_by_table.Goals as goal
 
@@ -10,8 +10,10 @@ is_of c =
     let value = c.in_ok-plans.ensures.ok in
     of_events t e c.in_ok-plans.plans.value c.by_plans.result c.in_ok-new.ensures.event
     (ap (λ (m : Made). m.plans) value ∙ c.in_ok-make.ensures.plans)
+    (subst (λ (m : Made). m.steps ≡ event_steps t e) (sym value) c.in_ok-make.ensures.exact)
     (subst (λ (m : Made). m.steps ≤ most_steps t e) (sym value) c.in_ok-make.ensures.most)
     (ap (λ (r : Rows). r.plans) c.by_plans.ensures)
+    (ap (λ (r : Rows). r.due_steps) c.by_plans.ensures)
     (ap (λ (r : Rows). r.most_steps) c.by_plans.ensures)
 
 pub returns-clause-anew : goal.returns-clause-anew

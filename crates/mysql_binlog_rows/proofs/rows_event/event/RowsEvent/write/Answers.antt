@@ -4,8 +4,8 @@ use Rattle.std.proofs.lemmas.Result.{err_from_is_err_and}
 use Rattle.binlog_base.specs.Endian.{little_bytes}
 use Rattle.binlog_base.specs.Writing.{Begins}
 use Rattle.binlog_base.proofs.Appending.{begins_more, begins_then, appends_then}
-use Rattle.mysql_binlog_rows.specs.RowsEvent.{RowsEvent as Event}
-use Rattle.mysql_binlog_rows.specs.RowsEventWritten.{writes_extra_data, extra_data_bytes, columns_bytes, written_rows_event}
+use Rattle.mysql_binlog_rows.specs.RowsEvent.{RowsEvent as Event, writes_extra_data}
+use Rattle.mysql_binlog_rows.specs.RowsEventWritten.{extra_data_bytes, columns_bytes, written_rows_event}
 use Rattle.mysql_binlog_rows.proofs.rows_event.event.RowsEvent.write.Goals as goal
 
 pub returns-in_err-serialize : goal.returns-in_err-serialize

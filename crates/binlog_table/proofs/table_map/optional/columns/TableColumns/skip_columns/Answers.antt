@@ -1,6 +1,6 @@
 use Rattle.std.proofs.Common.{ap, ◌∙◌, ◌+◌, rules, arith, subst, ℕ}
 use Rattle.binlog_table.specs.TableColumns.{PassesOver, ToCome, steps_then}
-use Rattle.binlog_table.specs.ColumnsLeft.{columns_left}
+use Rattle.binlog_table.specs.Workings.ColumnsLeft.{columns_left}
 use Rattle.binlog_table.proofs.ColumnWalk.{passes_then, passes_more, passed_one, passed_fault, passed_end}
 use Rattle.binlog_table.proofs.StepByStep.{more_steps, one_step, last_steps}
 use Rattle.binlog_table.proofs.table_map.optional.columns.TableColumns.skip_columns.Goals as goal

@@ -1,6 +1,6 @@
 use Rattle.std.proofs.Common.{suc, rules, refl, ap, ◌∙◌}
 use Rattle.binlog_table.specs.TableColumns.{ToCome, steps_then}
-use Rattle.binlog_table.specs.ColumnsLeft.{seen_column}
+use Rattle.binlog_table.specs.Workings.ColumnsLeft.{seen_column}
 use Rattle.binlog_table.proofs.ColumnWalk.{walk_next, walk_fault, walk_end}
 use Rattle.binlog_table.proofs.StepByStep.{next_steps, fault_steps}
 use Rattle.binlog_table.proofs.table_map.optional.columns.TableColumns.take_column.Goals as goal

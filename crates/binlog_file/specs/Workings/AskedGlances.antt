@@ -4,7 +4,7 @@ use Rattle.binlog_events.specs.declared.error.FileError.{FileError}
 use Rattle.binlog_file.specs.Events.{Glance, Place}
 use Rattle.binlog_file.specs.Tables.{InForce}
 use Rattle.binlog_file.specs.Changes.{Wanted, Spot, spot}
-use Rattle.binlog_file.specs.Glances.{GlanceSteps}
+use Rattle.binlog_file.specs.Workings.Glances.{GlanceSteps}
 use Rattle.binlog_file.specs.Stream.{Reading, ReaderGlances, MayGoOn}
 use Rattle.binlog_file.specs.Asked.{is_asked}
 use Rattle.binlog_file.specs.LentEvents.{PassesOver}

@@ -3,7 +3,7 @@
 use Rattle.std.specs.Prelude.{ℕ, Bool, true, false, Option}
 use Rattle.mysql_binlog_rows.specs.declared.rows_event.rows.After.{After}
 use Rattle.mysql_binlog_rows.specs.declared.rows_event.rows.After.TheVariants as after
-use Rattle.mysql_binlog_rows.specs.Plans.{Plan, walked_in}
+use Rattle.mysql_binlog_rows.specs.Workings.Plans.{Plan, walked_in}
 
 -- the plan, which may be that of the images before the change
 abbrev pub after_in : Option Plan → After → Option Plan

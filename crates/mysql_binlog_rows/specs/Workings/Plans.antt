@@ -15,10 +15,10 @@ use Rattle.binlog_table.specs.ColumnTypes.{json_count}
 use Rattle.binlog_table.specs.Extracted.{field_fault}
 use Rattle.binlog_table.specs.TableColumns.{Column, table_columns}
 use Rattle.binlog_cells.specs.declared.value.form.Form.{Form}
-use Rattle.mysql_binlog_rows.specs.RowsEvent.{RowsEvent, image_columns}
+use Rattle.mysql_binlog_rows.specs.RowsEvent.{RowsEvent, image_columns, has_options}
 use Rattle.binlog_cells.specs.Cells.{Cell, PlainCell}
 use Rattle.binlog_cells.specs.Forms.{form_of, cell_by}
-use Rattle.mysql_binlog_rows.specs.Images.{BinlogRow, Pair, default_name, row_flags, row_column, is_json, partial_bits, has_options, pair}
+use Rattle.mysql_binlog_rows.specs.Images.{BinlogRow, Pair, default_name, row_flags, row_column, is_json, partial_bits, pair}
 
 -- ---- what is kept
 
@@ -38,7 +38,15 @@ pub record Planned : Type 0 where
 
 -- column i of a table, as rows have it, by the names of the table in a list of columns
 abbrev pub column_in : ColumnList → ℕ → Column → ColumnView
-column_in l i c = record { column_type = c.column_type; schema = l.schema; table = l.table; org_table = l.table; name = unwrap_or c.name (default_name i); flags = column_flags_of (row_flags c.unsigned c.is_key); character_set = c.charset }
+column_in l i c = record {
+  column_type = c.column_type;
+  schema = l.schema;
+  table = l.table;
+  org_table = l.table;
+  name = unwrap_or c.name (default_name i);
+  flags = column_flags_of (row_flags c.unsigned c.is_key);
+  character_set = c.charset;
+}
 
 -- for a JSON column, how many columns before it have the raw type JSON
 abbrev pub json_place_of : Column → Option ℕ
@@ -59,7 +67,12 @@ nothing_then fault = record { slots = []; columns = []; walked = 0; fault = faul
 
 -- a column of index i, and the columns after it
 abbrev pub column_then : TableMap → ℕ → Column → Bool → Planned → Planned
-column_then t i c present others = record { slots = when_present present (slot_of c) others.slots; columns = when_present present (row_column t i c) others.columns; walked = suc others.walked; fault = others.fault }
+column_then t i c present others = record {
+  slots = when_present present (slot_of c) others.slots;
+  columns = when_present present (row_column t i c) others.columns;
+  walked = suc others.walked;
+  fault = others.fault;
+}
 
 -- the same, or the fault of the column, after which no column is read
 abbrev pub planned_then : TableMap → ℕ → Result Column Fault → Bool → Planned → Planned
@@ -96,7 +109,11 @@ pub record Plan : Type 0 where
 
 -- the plan of images that have the columns with a set bit
 abbrev pub plan_of : TableMap → List Bool → Plan
-plan_of t present = record { count = count_set present; json_columns = json_count t.types; planned = unless_refused (field_fault t) (planned_from t 0 (table_columns t) present) }
+plan_of t present = record {
+  count = count_set present;
+  json_columns = json_count t.types;
+  planned = unless_refused (field_fault t) (planned_from t 0 (table_columns t) present);
+}
 
 -- how many columns were walked over for a plan
 abbrev pub walked_in : Option Plan → ℕ
@@ -125,7 +142,13 @@ walked_apart false p = walked_in p
 
 -- the plans of both images, each by a bit for each column of the event
 abbrev pub plans_by : TableMap → Bool → Option (List Bool) → Option (List Bool) → Plans
-plans_by t options before after = record { before = option_map (plan_of t) before; after = option_map (plan_of t) after; is_one = same_columns before after; has_options = options; walked = walked_in (option_map (plan_of t) before) + walked_apart (same_columns before after) (option_map (plan_of t) after) }
+plans_by t options before after = record {
+  before = option_map (plan_of t) before;
+  after = option_map (plan_of t) after;
+  is_one = same_columns before after;
+  has_options = options;
+  walked = walked_in (option_map (plan_of t) before) + walked_apart (same_columns before after) (option_map (plan_of t) after);
+}
 
 -- the plans for the images of an event
 abbrev pub plans_of : TableMap → RowsEvent → Plans
@@ -165,7 +188,10 @@ unfoldable pub planned_image : Bool → Plan → Format BinlogRow
 planned_image options p =
     sequence (planned_options options p) (λ partials.
     sequence (bit_list LeastSignificantFirst p.count) (λ nulls.
-    map_value (slot_cells partials p.planned.slots p.planned.fault nulls) (λ values. record { columns = p.planned.columns; values = values })))
+    map_value (slot_cells partials p.planned.slots p.planned.fault nulls) (λ values. record {
+      columns = p.planned.columns;
+      values = values;
+    })))
 
 -- the image, if the event has it
 abbrev pub planned_maybe : Bool → Option Plan → Format (Option BinlogRow)

@@ -33,4 +33,8 @@ tables_after old ended e y = (if is_there e.description || ended then [] else ol
 
 -- what is stored after an event of these bytes; ended: whether a statement ended with the event before
 abbrev pub stored_after : Stored → Bool → Event → List ℕ → Stored
-stored_after s ended e y = record { description = description_after s.description e y; gtid = gtid_after s.gtid e y; tables = tables_after s.tables ended e y }
+stored_after s ended e y = record {
+  description = description_after s.description e y;
+  gtid = gtid_after s.gtid e y;
+  tables = tables_after s.tables ended e y;
+}

@@ -14,14 +14,22 @@ use Rattle.binlog_table.specs.Chunks.{ChunksLeft, chunk_left}
 use Rattle.binlog_table.specs.ColumnTypes.{raw_type_of, real_type_of, json_count}
 use Rattle.binlog_table.specs.Fields.{is_numeric_number}
 use Rattle.binlog_table.specs.Lists.{taken_after}
-use Rattle.binlog_table.specs.KeysLeft.{key_left, keys_taken}
-use Rattle.binlog_table.specs.CharsetsLeft.{row_charset, charsets_taken, NoCharsetsLeft}
+use Rattle.binlog_table.specs.Workings.KeysLeft.{key_left, keys_taken}
+use Rattle.binlog_table.specs.Workings.CharsetsLeft.{row_charset, charsets_taken, NoCharsetsLeft}
 use Rattle.binlog_table.specs.TableColumns.{Column, Parts, column_by, columns_by, typed, named, charset_by, ordinal_of}
 use Rattle.binlog_table.specs.Steps.{count_to, reads_name, takes_key}
 
 -- a column, without its place in memory
 abbrev pub seen_column : TableColumn → Column
-seen_column c = record { column_type = c.column_type; metadata = option_map (λ m. m.now) c.metadata; unsigned = c.unsigned; charset = c.charset; name = c.name; is_key = c.is_key; json_place = c.json_place }
+seen_column c = record {
+  column_type = c.column_type;
+  metadata = option_map (λ m. m.now) c.metadata;
+  unsigned = c.unsigned;
+  charset = c.charset;
+  name = c.name;
+  is_key = c.is_key;
+  json_place = c.json_place;
+}
 
 -- the sign bit of the next numeric column; false where none is left
 abbrev pub first_bit : List Bool → Bool

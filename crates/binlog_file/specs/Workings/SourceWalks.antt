@@ -3,7 +3,7 @@
 use Rattle.std.specs.Prelude.{ℕ, ◌+◌}
 use Rattle.binlog_file.specs.TableMaps.{most_kept}
 use Rattle.binlog_file.specs.Stream.{Kept, Reading}
-use Rattle.binlog_file.specs.Readers.{kept_by, reading_of}
+use Rattle.binlog_file.specs.Workings.Readers.{kept_by, reading_of}
 use Rattle.binlog_file.specs.declared.source_changes.SourceWalk.{SourceWalk}
 
 abbrev pub reading_in : SourceWalk → Reading

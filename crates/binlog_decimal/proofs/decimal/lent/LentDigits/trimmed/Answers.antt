@@ -1,7 +1,7 @@
 use Rattle.std.proofs.Common.{refl, ◌∙◌, ap}
 use Rattle.binlog_decimal.specs.Decimals.{DecimalView, trimmed_decimal}
 use Rattle.binlog_decimal.proofs.DecimalTexts.{AreLeft, trimmed_decimal-none, trimmed_decimal-some, trimmed_decimal-decimal}
-use Rattle.binlog_decimal.proofs.decimal.lent.Lent.trimmed.Goals as goal
+use Rattle.binlog_decimal.proofs.decimal.lent.LentDigits.trimmed.Goals as goal
 
 pub returns-then-no_digit : goal.returns-then-no_digit
 returns-then-no_digit c =

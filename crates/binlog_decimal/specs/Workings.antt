@@ -1,0 +1,3 @@
+-- What the code keeps, and how it reads by that. The other definitions know nothing of it, and a
+-- reader of the contracts can skip it.
+pub mod DecimalPacking

@@ -42,9 +42,9 @@ CALLER = """//! Reads binlog files. The first word says what is printed of each 
 
 ghost use Rattle.std.specs.Prelude.{◌≤◌};
 ghost use Rattle.binlog_file.specs.Changes.{most_left};
-ghost use Rattle.binlog_file.specs.Walks.{spot_of};
+ghost use Rattle.binlog_file.specs.Workings.Walks.{spot_of};
 ghost use Rattle.binlog_file.specs.SourceChanges.{items_left};
-ghost use Rattle.binlog_file.specs.SourceWalks.{reading_in};
+ghost use Rattle.binlog_file.specs.Workings.SourceWalks.{reading_in};
 
 use binlog_base::below::{Counted, Source};
 use binlog_file::change::Change;
@@ -268,11 +268,11 @@ fn print_pair<O: Write>(alloc: Global, out: &mut O, owned: Option<&RowPair>, pai
 # What is kept and what gets smaller in the caller's loops over lent changes, by function.
 MEMORY = """use Rattle.std.proofs.Common.{◌≤◌, length}
 use Rattle.binlog_file.specs.Changes.{most_left}
-use Rattle.binlog_file.specs.Walks.{spot_of}
+use Rattle.binlog_file.specs.Workings.Walks.{spot_of}
 """
 SOURCE = """use Rattle.std.proofs.Common.{◌≤◌, length}
 use Rattle.binlog_file.specs.SourceChanges.{items_left}
-use Rattle.binlog_file.specs.SourceWalks.{reading_in}
+use Rattle.binlog_file.specs.Workings.SourceWalks.{reading_in}
 """
 EVENTS = """
 abbrev pub decreases-loop-event : goal.decreases-loop-event

@@ -7,6 +7,7 @@ pub mod LentShown
 pub mod Bodies
 pub mod LentFollowed
 pub mod AskedFollowed
+pub mod ChangesCollected
 pub mod Filled
 pub mod RawRead
 pub mod EventRead

@@ -14,7 +14,7 @@ use Rattle.binlog_file.specs.SourceChanges.{Found, Finds, place_at, spot_at, Sou
 use Rattle.binlog_file.proofs.SourceFollowed.{took, empty, fewer_turns_after}
 use Rattle.binlog_file.proofs.LentFollowed.{fails_now, pending_now, event_shown, event_failed}
 
-outside : (d : EventError) → IsMemory d → IsOutside d
+pub outside : (d : EventError) → IsMemory d → IsOutside d
 outside d memory = inr memory
 
 pub here : (r : Reading) (old : Option (List ℕ)) (x : List ℕ) → MayGoOn r → Finds r old x → (old ≡ Some x) × (r.kept.at + length x < 2 ^ 64)

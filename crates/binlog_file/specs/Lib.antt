@@ -14,6 +14,7 @@ pub mod Changes
 pub mod LentChanges
 pub mod Asked
 pub mod LentEvents
+pub mod CollectedChanges
 pub mod Stream
 pub mod SourceChanges
 pub mod Checkpoints

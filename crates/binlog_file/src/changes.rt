@@ -389,10 +389,11 @@ impl<'a, C: Choice + Drop> Iterator for FileChanges<'a, C> {
     ghost use Rattle.std.specs.Prelude.{◌≡◌};
     ghost use Rattle.std.specs.Iterator.{at_most};
     ghost use Rattle.binlog_file.specs.Changes.{ChangeSteps, most_left};
-    ghost use Rattle.binlog_file.specs.Workings.Walks.{spot_of};
+    ghost use Rattle.binlog_file.specs.Workings.Walks.{spot_of, most_kept_in};
 
     ghost next_gives = { λ s r t. (t.choice ≡ s.choice)
-        × ChangeSteps (C.wanted s.choice) (spot_of s.walk) r (spot_of t.walk) };
+        × ChangeSteps (C.wanted s.choice) (spot_of s.walk) r (spot_of t.walk)
+        × (most_kept_in t.walk ≡ most_kept_in s.walk) };
 
     ghost remaining = { λ s. at_most (most_left (spot_of s.walk)) };
 

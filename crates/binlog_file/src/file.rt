@@ -1,10 +1,11 @@
 //! Binlog files over a source of bytes.
 
-ghost use Rattle.std.specs.Prelude.{◌≡◌, None, true, false, IfOk, IfErr};
+ghost use Rattle.std.specs.Prelude.{◌≡◌, ◌≤◌, ◌*◌, None, true, false, IfOk, IfErr};
 ghost use Rattle.std.specs.Io.KnownBytes.{Consumes};
 ghost use Rattle.binlog_file.specs.Events.{is_binlog, magic};
 ghost use Rattle.binlog_file.specs.Events as Events;
 ghost use Rattle.binlog_file.specs.Stream as Spec;
+ghost use Rattle.binlog_file.specs.TableMaps.{most_kept};
 ghost use Rattle.binlog_file.specs.Workings.Readers.{kept_by, reading_of};
 
 use crate::error::{EventError, FileError};
@@ -82,6 +83,7 @@ impl<S: Source + Drop> BinlogFile<S> {
         ensures err { IfErr result (Spec.NoHeader (S.remaining source)) }
         ensures kept { IfOk result (λ f. kept_by f.reader.kept ≡ Spec.first_kept) }
         ensures goes_on { IfOk result (λ f. f.reader.is_over ≡ false) }
+        ensures most { IfOk result (λ f. most_kept f.reader.kept.tables ≤ 8 * 1024 * 1024) }
     {
         let mut source = source;
         BinlogFileHeader::read(alloc, &mut source)?;
@@ -94,6 +96,7 @@ impl<S: Source + Drop> BinlogFile<S> {
         ensures source { result.source ≡ source }
         ensures kept { kept_by result.reader.kept ≡ Spec.first_kept }
         ensures goes_on { result.reader.is_over ≡ false }
+        ensures most { most_kept result.reader.kept.tables ≤ 8 * 1024 * 1024 }
     {
         BinlogFile {
             source,
@@ -110,8 +113,9 @@ impl<S: Source + Drop> BinlogFile<S> {
 
     /// Reads the next event into the buffer, as `EventStreamReader::read` does.
     pub fn read<'b>(&mut self, buffer: &'b mut EventBuffer) -> Result<Option<Event<'b>>, FileError>
-        ensures { Spec.ReaderGives (S.remaining self.old.source) (reading_of self.old.reader) result
+        ensures gives { Spec.ReaderGives (S.remaining self.old.source) (reading_of self.old.reader) result
             (S.remaining self.new.source) (reading_of self.new.reader) }
+        ensures most { most_kept self.new.reader.kept.tables ≡ most_kept self.old.reader.kept.tables }
     {
         self.reader.read(&mut self.source, buffer)
     }

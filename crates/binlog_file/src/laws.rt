@@ -1,16 +1,18 @@
 //! Laws of binlog files, as public calls that do nothing.
 
-ghost use Rattle.std.specs.Prelude.{ℕ, List, Option, Result};
+ghost use Rattle.std.specs.Prelude.{◌≡◌, true, ℕ, List, Option, Result};
 ghost use Rattle.mysql_binlog_rows.specs.Images.{Pair};
 ghost use Rattle.binlog_events.specs.declared.error.FileError.{FileError};
 ghost use Rattle.binlog_file.specs.declared.lent_changes.LentEvent.{LentEvent};
 ghost use Rattle.binlog_file.specs.Description.{Description};
-ghost use Rattle.binlog_file.specs.Events.{Event, AreEvents};
+ghost use Rattle.binlog_file.specs.Events.{Event, AreEvents, is_binlog};
 ghost use Rattle.binlog_file.specs.Tables.{InForce};
 ghost use Rattle.binlog_file.specs.Stream.{IsOutside, Kept};
-ghost use Rattle.binlog_file.specs.Changes.{Wanted, IsMemory, Spot};
+ghost use Rattle.binlog_file.specs.Changes.{Wanted, Change, IsMemory, Spot, Left, first_spot};
+ghost use Rattle.binlog_file.specs.Changes.{AreChangesOfFile};
 ghost use Rattle.binlog_file.specs.LentChanges.{LentChange, PairGives, CoversOn};
 ghost use Rattle.binlog_file.specs.LentEvents.{NextEvent, NextAsked, ChangesOn};
+ghost use Rattle.binlog_file.specs.CollectedChanges.{CollectsAll};
 ghost use Rattle.binlog_file.specs.Checkpoints.{Reached, LeadsTo, GoesOnWith, checkpoint_of};
 
 /// The checkpoint of a reader leads back to where the reader is: after its events, the same
@@ -39,4 +41,22 @@ pub fn lent_changes_are_the_changes()
     ensures asked_from_source { (wanted : Wanted) (types : List ℕ) (old : Spot)
         (item : Option (Result LentEvent FileError)) (new : Spot)
         → NextAsked IsOutside wanted types old item new → ChangesOn IsOutside wanted old item new }
+{}
+
+/// All changes that are collected from the pairs of a reading, from any spot on, are those that own
+/// their pairs, with the error that follows them: by calls of `next_event`, or of `next_event_of`
+/// whatever the types are, and for each rows event calls of `next_pair` until it gives none, or an
+/// error, after which nothing is asked for. From the start of a file they are the changes of the file.
+///
+/// Where memory is refused, or the source fails, that is the error.
+pub fn collected_changes_are_the_changes()
+    ensures in_memory { (wanted : Wanted) → CollectsAll IsMemory wanted (NextEvent IsMemory wanted) }
+    ensures from_source { (wanted : Wanted) → CollectsAll IsOutside wanted (NextEvent IsOutside wanted) }
+    ensures asked_in_memory { (wanted : Wanted) (types : List ℕ)
+        → CollectsAll IsMemory wanted (NextAsked IsMemory wanted types) }
+    ensures asked_from_source { (wanted : Wanted) (types : List ℕ)
+        → CollectsAll IsOutside wanted (NextAsked IsOutside wanted types) }
+    ensures of_file { (wanted : Wanted) (x : List ℕ) (changes : List Change) (out : Option FileError)
+        → is_binlog x ≡ true → Left wanted (first_spot x) changes out
+        → AreChangesOfFile wanted x changes out }
 {}

@@ -1,8 +1,9 @@
 //! The changes of a file one at a time, from a source of bytes.
 
-ghost use Rattle.std.specs.Prelude.{◌≡◌, ◌<◌, ◌≤◌, ◌*◌, ◌↔◌, ◌⊎◌, true, length, Some, None, Ok, IfOk, IfErr, IsErr, IsTrue, IsSome};
+ghost use Rattle.std.specs.Prelude.{◌≡◌, ◌<◌, ◌≤◌, ◌+◌, ◌*◌, ◌↔◌, ◌⊎◌, true, length, Some, None, Ok, IfOk, IfErr, IsErr, IsTrue, IsSome};
 ghost use Rattle.binlog_file.specs.Events.{Event, Place, NextGives, glance_of};
 ghost use Rattle.binlog_file.specs.Tables.{InForce, in_force_after};
+ghost use Rattle.binlog_file.specs.TableMaps.{most_kept};
 ghost use Rattle.binlog_file.specs.Changes.{Gives, TakeGives, spot, LessensTo};
 ghost use Rattle.binlog_file.specs.Stream.{IsOutside, MayGoOn};
 ghost use Rattle.binlog_file.specs.SourceChanges as Spec;
@@ -328,7 +329,8 @@ impl<S: Source + Drop, C: Choice + Drop> SourceChanges<S, C> {
         ensures source { result.source ≡ file.source }
         ensures reader { result.walk.reader ≡ file.reader }
         ensures pending { result.walk.pending ≡ None }
-        ensures most { result.walk.plans.stored.most ≡ 24 * 1024 * 1024 }
+        ensures most { most_kept_by result.walk
+            ≡ most_kept file.reader.kept.tables + 24 * 1024 * 1024 }
     {
         SourceChanges::with_plans(alloc, file, choice, MOST_BYTES - MOST_BYTES / 4)
     }
@@ -464,11 +466,12 @@ impl<S: Source + Drop, C: Choice + Drop> Iterator for SourceChanges<S, C> {
     ghost use Rattle.std.specs.Prelude.{◌≡◌};
     ghost use Rattle.std.specs.Iterator.{at_most};
     ghost use Rattle.binlog_file.specs.SourceChanges.{SourceSteps, items_left};
-    ghost use Rattle.binlog_file.specs.Workings.SourceWalks.{reading_in};
+    ghost use Rattle.binlog_file.specs.Workings.SourceWalks.{reading_in, most_kept_by};
 
     ghost next_gives = { λ s r t. (t.choice ≡ s.choice)
         × SourceSteps (C.wanted s.choice) (S.remaining s.source) (reading_in s.walk) s.walk.pending r
-        (S.remaining t.source) (reading_in t.walk) t.walk.pending };
+        (S.remaining t.source) (reading_in t.walk) t.walk.pending
+        × (most_kept_by t.walk ≡ most_kept_by s.walk) };
 
     ghost remaining = { λ s. at_most (items_left (reading_in s.walk) s.walk.pending) };
 

@@ -4,8 +4,9 @@
 # usage: scripts/arguments.sh PROGRAM
 #
 # PROGRAM is the built program (crates/changes/out/changes). Each case has the status that is wanted, a text that must be in standard output or
-# standard error, and the words; some have the number of lines of standard output. The file `f` is the one in crates/changes/data, of 34 rows.
-# Prints each case that fails, and last 'N passed, M failed'. The status is 0 if all passed, 1 if not, and 2 if there is no program.
+# standard error, and the words; some have the number of lines of standard output. The file `f` is the one in crates/changes/data, of 34 rows;
+# Python makes the others by scripts/make_file.py. Prints each case that fails, and last 'N passed, M failed'. The status is 0 if all passed, 1 if
+# not, and 2 if there is no program.
 set -u
 here=$(cd "$(dirname "$0")/.." && pwd)
 program=${1:-}
@@ -45,15 +46,30 @@ case_of() {
     judge "$*" "$wanted" "$text"
 }
 
+# Takes in that the case that passed last has failed after all.
+take_back() {
+    echo "$1"
+    passed=$((passed - 1))
+    failed=$((failed + 1))
+}
+
 # The same, and standard output must have so many lines: lines_of STATUS LINES TEXT WORD..
 lines_of() {
     local wanted=$1 lines=$2 text=$3 before=$failed
     shift 3
     case_of "$wanted" "$text" "$@"
     if [ "$failed" -eq "$before" ] && [ "$(wc -l <out)" -ne "$lines" ]; then
-        echo "$*: $(wc -l <out) lines, not $lines"
-        passed=$((passed - 1))
-        failed=$((failed + 1))
+        take_back "$*: $(wc -l <out) lines, not $lines"
+    fi
+}
+
+# The same, and standard error must have so many lines with the text: notes_of LINES TEXT WORD..
+notes_of() {
+    local lines=$1 text=$2 before=$failed
+    shift 2
+    case_of 0 '' "$@"
+    if [ "$failed" -eq "$before" ] && [ "$(grep -cF -- "$text" err)" -ne "$lines" ]; then
+        take_back "$*: $(grep -cF -- "$text" err) lines with '$text', not $lines"
     fi
 }
 
@@ -84,6 +100,10 @@ lines_of 0 3 '"pos":6224' --start-position 5982 --op d,c --op u --table db_F.pk_
 case_of 1 'no event begins at 5983' --start-position 5983 f
 case_of 1 'no event begins at 965' --stop-position 965 f
 lines_of 0 0 '' --stop-position 964 f
+lines_of 0 0 '' --start-position 964 --stop-position 964 f
+case_of 1 'no event begins at 965' --start-position 965 --stop-position 965 f
+case_of 2 'the start position is after the stop position' --start-position 6224 --stop-position 964 f
+lines_of 0 1 '"pos":6224' --start-position 6224 --stop-position 964 f f
 lines_of 0 34 '"pos":964' --stop-position "$size" f
 case_of 1 "no event begins at $((size + 1))" --stop-position "$((size + 1))" f
 lines_of 0 68 '"pos":964' f f
@@ -92,7 +112,14 @@ lines_of 0 34 '"pos":964' --stop-position 964 f f
 lines_of 0 4 '           4            2            1  db_F.pk_auto' --count f
 lines_of 0 4 '          12           13            9  (all)' --count f
 lines_of 0 3 '           0            2            0  (all)' --count --op u --table db_F.pk_auto f
-case_of 0 'the server logged no signs' f
+lines_of 0 4 '          24           26           18  (all)' --count f f
+lines_of 1 0 'changes: no/file: ' no/file f
+lines_of 1 34 'changes: no/file: ' f no/file f
+lines_of 1 2 '           0            0            0  (all)' --count no/file f
+notes_of 2 'the server logged no signs' f
+notes_of 2 'the server logged no signs' f f
+notes_of 0 'changes:' --quiet f
+notes_of 0 'changes:' --count f
 
 head -c 700 f >cut
 case_of 1 'changes: cut at 595: the event is cut: 105 of 184 bytes are there' cut
@@ -104,6 +131,83 @@ judge 'a cut event of standard input' 1 'changes: - at 595: the event is cut: 14
 status=0
 "$program" - <f >out 2>err || status=$?
 judge '- as standard input' 0 '{"op":"c","source":{"file":"-","pos":964,"row":0'
+
+# An event with a statement begins with the thread, the seconds, the length of the database, an error, and the length of the status variables.
+python3 - "$here/scripts" <<'END' || exit 2
+import struct, sys
+sys.path.insert(0, sys.argv[1])
+from make_file import File, Shape, table_map
+
+def write(path, *events):
+    """A file of events after the description: their types and bodies."""
+    with open(path, "wb") as out:
+        file = File(out, None)
+        for event in events:
+            file.event(*event)
+
+def statement(text, variables=b""):
+    return struct.pack("<IIBHH", 1, 0, 1, 0, len(variables)) + variables + b"d\0" + text
+
+def named(table):
+    """The map of a table without metadata, under the id 18, and a rows event of it whose only row has no columns present."""
+    body = table_map(table, Shape(12, 12, 12, False))
+    return (0x13, bytes([18]) + body[1:]), (0x17, bytes([18]) + bytes(5) + b"\1\0" + b"\x0c\1\0\0\0\0\0\0")
+
+said = [statement(text) for text in (b"insert into t values (1)", b" \n\tReplace t", b"CREATE TABLE t (a int)", b"", b"INSER")]
+write("statements", *((2, body) for body in said), (2, statement(b"DELETE", b"\0\0")), (2, b"short"), (0x12, b""), (0xA5, b""), (0xA5, b"x"))
+write("payload", (0x28, b"\0"))
+write("compressed", (0xA6, b"\0"))
+write("encrypted_events", (0xA4, b"\1" + bytes(16)))
+first, second = named(0), named(1)
+write("two_tables", *first, *second)
+with open("two_descriptions", "wb") as out:
+    file = File(out, None)
+    for event in first:
+        file.event(*event)
+    with open("f", "rb") as real:
+        real.seek(4)
+        size = struct.unpack("<I", real.read(13)[9:])[0]
+        real.seek(4)
+        raw = real.read(size)
+    file.event(15, raw[19:-4])
+    for event in second:
+        file.event(*event)
+END
+case_of 0 'changes: statements: 4 statements were logged as text, so that their rows' statements
+case_of 0 'changes: statements: 2 statements are compressed' statements
+notes_of 0 'changes:' --quiet statements
+notes_of 0 'logged as text' --start-position 4 --stop-position 4 statements
+case_of 1 'payload at 256: the transaction is compressed: turn off binlog_transaction_compression' payload
+case_of 1 'compressed at 256: the event is compressed: turn off log_bin_compress' compressed
+case_of 1 'encrypted_events at 256: the events are encrypted: turn off encrypt_binlog' encrypted_events
+printf '\xfdbin' >encrypted
+case_of 1 'encrypted at 0: the file is encrypted: turn off binlog_encryption, or encrypt_binlog' encrypted
+echo text >text
+case_of 1 'text at 0: this isn'"'"'t a binlog file' text
+notes_of 1 'shop.items: the server logged no signs' two_descriptions
+notes_of 1 'shop.items1: the server logged no signs' two_descriptions
+
+# The output waits for a second, and so what is told of progress comes.
+python3 "$here/scripts/make_file.py" 2000 many single >/dev/null || exit 2
+status=0
+"$program" --progress many 2>err | { sleep 1.2; cat >out; }
+grep -E '^many [0-9,]+ of [0-9,]+ bytes, [0-9]+ %, [0-9,]+ rows/s$' err >line
+judge 'progress of a file' 0 ''
+[ -s line ] || take_back "progress of a file: $(cat err)"
+"$program" --progress - <many 2>err | { sleep 1.2; cat >out; }
+grep -E '^- [0-9,]+ bytes, [0-9,]+ rows/s$' err >line
+judge 'progress of standard input' 0 ''
+[ -s line ] || take_back "progress of standard input: $(cat err)"
+mkfifo pipe
+cat many >pipe &
+"$program" --progress pipe 2>err | { sleep 1.2; cat >out; }
+grep -E '^pipe [0-9,]+ bytes, [0-9,]+ rows/s$' err >line
+judge 'progress of a pipe' 0 ''
+[ -s line ] || take_back "progress of a pipe: $(cat err)"
+"$program" --progress --quiet many 2>err | { sleep 1.2; cat >out; }
+judge 'quiet progress' 0 ''
+[ ! -s err ] || take_back "quiet progress: $(cat err)"
+
 status=0
 { "$program" --quiet f f f f f f f f f 2>err; echo $? >status; } | head -n 1 >out
 status=$(cat status)
@@ -116,6 +220,23 @@ status=0
 "$program" f >/dev/full 2>err || status=$?
 : >out
 judge 'an output that is full' 1 "changes: the output can't be written"
+
+# Whoever reads the numbers went away, or nothing can be said on standard error: the status is what it would be.
+{ sleep 0.3; "$program" --count no/file 2>err; echo $? >status; } | true
+status=$(cat status)
+judge 'numbers into a closed pipe after an error' 1 'changes: no/file: '
+{ sleep 0.3; "$program" --count f 2>err; echo $? >status; } | true
+status=$(cat status)
+judge 'numbers into a closed pipe' 0 ''
+status=0
+"$program" no/file >out 2>/dev/full || status=$?
+judge 'an error that cannot be told' 1 ''
+status=0
+"$program" --op x f >out 2>/dev/full || status=$?
+judge 'wrong arguments that cannot be told' 2 ''
+status=0
+"$program" --database $'\xff' f >out 2>/dev/full || status=$?
+judge 'an argument that is not UTF-8, which cannot be told' 2 ''
 
 echo "$passed passed, $failed failed"
 [ "$failed" -eq 0 ]

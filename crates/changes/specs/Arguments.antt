@@ -1,6 +1,7 @@
 -- What is printed of which file. It is a module of its own because Arguments is a type of the code.
-use Rattle.std.specs.Prelude.{◌≡◌, ℕ, ◌+◌, ◌==◌, ◌&&◌, not, Bool, true, false, if◌then◌else◌, List, [], length, map, codes, Some, None, unwrap_or, option_map}
+use Rattle.std.specs.Prelude.{◌≡◌, ℕ, ◌+◌, ◌==◌, ◌&&◌, not, nat_lt, Bool, true, false, if◌then◌else◌, List, [], length, map, codes, Some, None, unwrap_or, option_map}
 use Rattle.std.specs.Borrow.{Bor}
+use Rattle.std.specs.Option.{is_some}
 use Rattle.clap.specs.Matches.{matched_of, one_text, raw_values}
 use Rattle.clap.specs.declared.parser.matches.Found.{Found}
 use Rattle.changes.specs.declared.filter.Positions.{Positions}
@@ -34,6 +35,14 @@ settings_of a index = record {
   };
   form = form_of a.is_count a.is_text;
 }
+
+-- the start position is after the stop position
+abbrev pub is_after_stop : Positions → Bool
+is_after_stop p = is_some p.start && (is_some p.stop && nat_lt (unwrap_or p.stop 0) (unwrap_or p.start 0))
+
+-- both positions are those of one file, and the start position is after the stop position
+abbrev pub starts_after_stop : Arguments → Bool
+starts_after_stop a = length a.files.now == 1 && is_after_stop a.positions
 
 -- ---- what the words say
 

@@ -1,5 +1,5 @@
 -- Which changes are wanted. It is a module of its own because Filter is a type of the code.
-use Rattle.std.specs.Prelude.{ℕ, Bool, false, ◌==◌, ◌&&◌, ◌||◌, List, length, bytes_eq, Option, Some, None}
+use Rattle.std.specs.Prelude.{ℕ, ◌≤◌, ⊤, Bool, false, ◌==◌, ◌&&◌, ◌||◌, if◌then◌else◌, List, length, bytes_eq, Option, Some, None}
 use Rattle.std.specs.List.{list_any}
 use Rattle.binlog_consts.specs.declared.consts.event_type.EventType.{EventType}
 use Rattle.binlog_consts.specs.declared.consts.event_type.EventType.TheVariants as types
@@ -31,6 +31,29 @@ is_wanted o (Some operation.Delete) = o.deletes
 
 abbrev pub is_among : Positions → ℕ → Bool
 is_among p at = is_from p.start at && is_before p.stop at
+
+-- ---- the start position
+
+-- a position, if it is among those that are wanted
+abbrev pub wanted_position : Positions → Option ℕ → Option ℕ
+wanted_position p None = None
+wanted_position p (Some at) = if is_among p at then Some at else None
+
+-- the start position, where it is before the stop position: else nothing is wanted, whatever begins there
+abbrev pub start_sought : Positions → Option ℕ
+start_sought p = wanted_position p p.start
+
+-- it isn't past a position
+abbrev pub IsUpTo : Option ℕ → ℕ → Type 0
+IsUpTo None at = ⊤
+IsUpTo (Some start) at = at ≤ start
+
+-- once an event begins there, it is looked for no more
+abbrev pub start_after : Option ℕ → ℕ → Option ℕ
+start_after None at = None
+start_after (Some start) at = if start == at then None else Some start
+
+-- ---- the tables
 
 -- no names, or one of the databases or of the tables is the table's
 abbrev pub is_named : TableNames → List ℕ → List ℕ → Bool

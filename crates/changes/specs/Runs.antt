@@ -4,6 +4,8 @@ use Rattle.binlog_file.specs.Events.{Event, is_binlog}
 use Rattle.binlog_file.specs.Changes.{Spot, first_spot}
 use Rattle.changes.specs.declared.error.Failure.{Failure}
 use Rattle.changes.specs.declared.run.Settings.{Settings}
+use Rattle.changes.specs.declared.run.Ended.{Ended}
+use Rattle.changes.specs.declared.run.Ended.TheVariants as ended
 use Rattle.changes.specs.Filters.{wanted_by}
 use Rattle.changes.specs.Lines.{AreLines, IsEnd}
 use Rattle.changes.specs.Failures.{EndsAtHeader, AreFirst}
@@ -25,3 +27,8 @@ abbrev pub AreFirstLines : Failure → Settings → List ℕ → List ℕ → Li
 AreFirstLines why settings file x text =
     ((text ≡ []) × EndsAtHeader why x)
     ⊎ ((is_binlog x ≡ true) × AreFirst why settings.form (wanted_by settings.filter) file (first_spot x) None text)
+
+-- the exit status: 1 if an error was told
+abbrev pub status_of : Ended → ℕ
+status_of ended.Failed = 1
+status_of _ = 0

@@ -2,7 +2,7 @@
 
 ghost use Rattle.std.specs.Prelude.{◌≡◌, ℕ, List, Some, None, codes};
 ghost use Rattle.clap.specs.Matches.{found_of, one_text, ReadsOne};
-ghost use Rattle.changes.specs.Arguments.{form_of, settings_of, texts, values_of};
+ghost use Rattle.changes.specs.Arguments.{form_of, settings_of, starts_after_stop, texts, values_of};
 ghost use Rattle.changes.specs.Arguments.{IsFlag, AreArguments};
 
 use crate::filter::{Filter, Operations, Positions, TableNames};
@@ -178,6 +178,17 @@ impl<'a> Arguments<'a> {
             },
             is_text: flag_of(matches, "text"),
             is_quiet,
+        }
+    }
+
+    /// Returns whether the start and the stop position are those of one file, in which the start
+    /// position is after the stop position.
+    pub fn is_start_after_stop(&self) -> bool
+        ensures { result ≡ starts_after_stop self.now }
+    {
+        match (self.positions.start, self.positions.stop) {
+            (Some(start), Some(stop)) => self.files.len() == 1 && stop < start,
+            _ => false,
         }
     }
 

@@ -1,7 +1,9 @@
 //! The positions at which the reading of a file begins and stops.
 
-ghost use Rattle.std.specs.Prelude.{◌≡◌, ◌⊎◌, Some, None, OnOk, IfErr, IsFalse};
+ghost use Rattle.std.specs.Prelude.{◌≡◌, ◌≢◌, ◌⊎◌, ◌<◌, ℕ, Some, None, OnOk, IfErr, IsFalse};
+ghost use Rattle.changes.specs.declared.error.Failure.TheVariants.{NoEvent};
 ghost use Rattle.changes.specs.Names.{is_before};
+ghost use Rattle.changes.specs.Filters.{start_sought, start_after, IsUpTo};
 ghost use Rattle.changes.specs.Failures.{IsNotOfFile};
 
 use crate::error::Failure;
@@ -10,19 +12,24 @@ use crate::filter::Positions;
 /// Finds out whether events begin at the start and stop positions.
 #[derive(Clone, Copy, Debug)]
 pub struct Bounds {
-    // The start position, as long as no event began there.
+    // The start position, if an event is looked for there, and as long as none began there.
     start: Option<u64>,
     stop: Option<u64>,
 }
 
 impl Bounds {
-    /// Returns the bounds of a file of which nothing was read yet.
+    /// Returns the bounds of a file of which nothing was read yet. Where the start position isn't before
+    /// the stop position, nothing is wanted, and no event is looked for at the start position.
     pub fn of(positions: Positions) -> Bounds
-        ensures start { result.start ≡ positions.start }
+        ensures start { result.start ≡ start_sought positions }
         ensures stop { result.stop ≡ positions.stop }
     {
+        let start = match positions.start {
+            Some(start) if positions.contains(start) => Some(start),
+            _ => None,
+        };
         Bounds {
-            start: positions.start,
+            start,
             stop: positions.stop,
         }
     }
@@ -47,7 +54,11 @@ impl Bounds {
     /// Takes in that an event begins at a position. Fails with `NoEvent` if it is the first after the
     /// start position, where none begins.
     pub fn begin(&mut self, position: u64) -> Result<(), Failure>
+        ensures start { OnOk result (IsUpTo self.old.start position
+            × (self.new.start ≡ start_after self.old.start position)) }
         ensures stop { self.new.stop ≡ self.old.stop }
+        ensures passed { IfErr result (λ why. (start : ℕ) × (self.old.start ≡ Some start)
+            × (start < position) × (why ≡ NoEvent start)) }
         ensures failed { IfErr result IsNotOfFile }
     {
         match self.start {
@@ -65,6 +76,8 @@ impl Bounds {
     pub fn end(&self, position: u64) -> Result<(), Failure>
         ensures start { OnOk result (self.now.start ≡ None) }
         ensures stop { OnOk result ((self.now.stop ≡ None) ⊎ (self.now.stop ≡ Some position)) }
+        ensures missed { IfErr result (λ why. (n : ℕ) × (why ≡ NoEvent n)
+            × ((self.now.start ≡ Some n) ⊎ ((self.now.stop ≡ Some n) × (n ≢ position)))) }
         ensures failed { IfErr result IsNotOfFile }
     {
         if let Some(start) = self.start {

@@ -18,7 +18,7 @@ pub mod table;
 pub mod tables;
 
 use arguments::{Arguments, command, usage_error};
-use clap::ArgMatches;
+use clap::{ArgMatches, Error};
 use count::Counts;
 use notes::Notes;
 use progress::Meter;
@@ -44,27 +44,39 @@ fn program(rt: &HostRuntime) -> io::Result<u8> {
     let alloc = rt.alloc();
     let words: Vec<String> = match env::args(rt) {
         Ok(words) => words.collect(alloc)?,
-        Err(error) if error.kind() == ErrorKind::InvalidData => return not_utf8(rt),
+        Err(error) if error.kind() == ErrorKind::InvalidData => {
+            return refuse(rt, "an argument isn't UTF-8");
+        }
         Err(error) => return Err(error),
     };
     match command(alloc)?.try_get_matches_from(words.as_slice()) {
         Ok(matches) => over_files(rt, &matches),
-        Err(error) => {
-            error.print(rt)?;
-            Ok(if error.use_stderr() { 2 } else { 0 })
-        }
+        Err(error) => tell_usage(rt, &error),
     }
 }
 
-// Tells that an argument isn't UTF-8, and returns the exit status 2.
-fn not_utf8(rt: &HostRuntime) -> io::Result<u8> {
-    usage_error(rt.alloc(), "an argument isn't UTF-8")?.print(rt)?;
-    Ok(2)
+// Prints help, the version, or what is wrong with the arguments, and returns the exit status. Where it
+// can't be told what is wrong, the status tells it.
+fn tell_usage(rt: &HostRuntime, error: &Error) -> io::Result<u8> {
+    let printed = error.print(rt);
+    if error.use_stderr() {
+        return Ok(2);
+    }
+    printed?;
+    Ok(0)
+}
+
+// Tells that the arguments are wrong, and returns the exit status.
+fn refuse(rt: &HostRuntime, message: &str) -> io::Result<u8> {
+    tell_usage(rt, &usage_error(rt.alloc(), message)?)
 }
 
 // Reads the files in the order given, up to the first that fails, and returns the exit status.
 fn over_files(rt: &HostRuntime, matches: &ArgMatches<'_>) -> io::Result<u8> {
     let arguments = Arguments::of(matches);
+    if arguments.is_start_after_stop() {
+        return refuse(rt, "the start position is after the stop position");
+    }
     let mut counts = Counts::new(rt.alloc());
     let mut notes = Notes::new(rt.alloc(), rt.stderr(), arguments.is_quiet);
     let mut ended = Ended::Whole;
@@ -75,9 +87,17 @@ fn over_files(rt: &HostRuntime, matches: &ArgMatches<'_>) -> io::Result<u8> {
         }
     }
     if arguments.is_count && !matches!(ended, Ended::Closed) {
-        counts.print(&mut rt.stdout())?;
+        print_counts(rt, &counts)?;
     }
     Ok(ended.status())
+}
+
+// Prints the numbers of rows. That whoever reads them went away is no error.
+fn print_counts(rt: &HostRuntime, counts: &Counts) -> io::Result<()> {
+    match counts.print(&mut rt.stdout()) {
+        Err(error) if error.kind() == ErrorKind::BrokenPipe => Ok(()),
+        printed => printed,
+    }
 }
 
 // Reads one file.
@@ -108,7 +128,6 @@ fn one_file<'r>(
     }
     match open(rt, path) {
         Ok((opened, len)) => {
-            let len = Some(len);
             notes.begin(len, arguments.is_progress.then(|| Meter::new(rt, len)));
             let reader = BufReader::new(rt.alloc(), opened)?;
             Ok(run(
@@ -123,7 +142,7 @@ fn one_file<'r>(
             ))
         }
         Err(error) => {
-            eprintln!(rt; "changes: {path}: {error}")?;
+            let _told = eprintln!(rt; "changes: {path}: {error}");
             Ok(Ended::Failed)
         }
     }
@@ -137,12 +156,13 @@ fn file_name(path: &str) -> &str {
     }
 }
 
-// Opens a file, and says how many bytes it has.
-fn open(rt: &HostRuntime, path: &str) -> io::Result<(File, u64)> {
+// Opens a file, and says how many bytes it has: a pipe has no length.
+fn open(rt: &HostRuntime, path: &str) -> io::Result<(File, Option<u64>)> {
     let file = File::open(rt, path)?;
     let metadata = file.metadata()?;
     if metadata.is_dir() {
         return Err(io::Error::from(ErrorKind::IsADirectory));
     }
-    Ok((file, metadata.len()))
+    let len = metadata.is_file().then_some(metadata.len());
+    Ok((file, len))
 }

@@ -18,6 +18,9 @@ const MOST_TABLES: usize = 1024;
 /// How many table ids are remembered whose tables were looked at.
 const MOST_IDS: usize = 4096;
 
+/// The type of format description events.
+const FORMAT_DESCRIPTION: u8 = 0x0F;
+
 /// What is said on standard error, and what was said. That it can't be written there is no error.
 #[derive(Drop)]
 pub struct Notes<'c, E, K> {
@@ -25,7 +28,8 @@ pub struct Notes<'c, E, K> {
     err: E,
     is_quiet: bool,
     told: BTreeSet<TableName>,
-    // The ids of tables that were looked at, and the last of them: a file has one table for each id.
+    // The ids of tables that were looked at, and the last of them. Up to the next format description event
+    // each id is that of one table.
     seen: BTreeSet<u64>,
     last: Option<u64>,
     // How many bytes the file has, if that is known.
@@ -51,10 +55,15 @@ impl<'c, E: Write + Drop, K: Clock> Notes<'c, E, K> {
     /// Begins the notes of a file of so many bytes, if that is known, with a meter if progress is to be
     /// told.
     pub fn begin(&mut self, len: Option<u64>, meter: Option<Meter<'c, K>>) {
-        self.seen.clear();
-        self.last = None;
+        self.forget_ids();
         self.len = len;
         self.meter = meter;
+    }
+
+    // Takes in that from here on the ids may be those of other tables.
+    fn forget_ids(&mut self) {
+        self.seen.clear();
+        self.last = None;
     }
 
     /// Tells why the reading of a file ended early.
@@ -99,6 +108,10 @@ impl<'c, E: Write + Drop, K: Clock> Notes<'c, E, K> {
     pub fn see(&mut self, form: Form, event: &LentEvent<'_>) -> Result<(), AllocError> {
         match (form, event) {
             (Form::Json | Form::Text, LentEvent::Rows(change)) => self.see_table(change.table()),
+            (_, LentEvent::Other(other)) if other.header().event_type() == FORMAT_DESCRIPTION => {
+                self.forget_ids();
+                Ok(())
+            }
             _ => Ok(()),
         }
     }

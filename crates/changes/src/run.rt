@@ -13,7 +13,7 @@ ghost use Rattle.binlog_file.specs.declared.lent_changes.LentEvent.TheVariants a
 ghost use Rattle.binlog_file.specs.SourceChanges.{Finds, spot_at, items_left};
 ghost use Rattle.binlog_file.specs.Workings.SourceWalks.{reading_in, kept_in};
 ghost use Rattle.changes.specs.declared.run.Form.TheVariants as Form;
-ghost use Rattle.changes.specs.declared.run.Ended.TheVariants.{Whole};
+ghost use Rattle.changes.specs.declared.run.Ended.TheVariants.{Whole, Closed};
 ghost use Rattle.changes.specs.Filters.{wanted_by};
 ghost use Rattle.changes.specs.Gtids.{gtid_after};
 ghost use Rattle.changes.specs.Sources.{members_in};
@@ -31,7 +31,7 @@ ghost use Rattle.changes.specs.CountedFiles.{counted_by, AreEventRows, AreFirstE
 ghost use Rattle.changes.specs.CountedFiles.{AreCountedToEnd, AreFirstCounted, AreAllCounted};
 ghost use Rattle.changes.specs.CountedFiles.{AreFirstOfFile, CountsThese};
 ghost use Rattle.changes.specs.Printers.{IsSame};
-ghost use Rattle.changes.specs.Runs.{AreAllLines, AreFirstLines};
+ghost use Rattle.changes.specs.Runs.{AreAllLines, AreFirstLines, status_of};
 
 use crate::bounds::Bounds;
 use crate::count::{Counts, TableName};
@@ -60,6 +60,9 @@ use std::time::Clock;
 
 /// From how many bytes on lines are written out.
 const FULL: usize = 32 * 1024;
+
+/// How many bytes of memory lines keep at most once they are written out.
+const MOST_KEPT: usize = 1024 * 1024;
 
 /// The form of what is printed.
 #[derive(Clone, Copy, Debug, PartialEq, Eq)]
@@ -93,8 +96,10 @@ pub enum Ended {
 }
 
 impl Ended {
-    /// Returns the exit status.
-    pub fn status(self) -> u8 {
+    /// Returns the exit status: 1 if an error was told, else 0.
+    pub fn status(self) -> u8
+        ensures { result ≡ status_of self }
+    {
         match self {
             Ended::Whole | Ended::Closed => 0,
             Ended::Failed => 1,
@@ -118,6 +123,7 @@ fn row_failure(position: u64, row: u64, fault: Fault) -> Failure
 // The lines that weren't written yet, and room to make one.
 #[derive(Drop)]
 struct Lines {
+    alloc: Global,
     room: LineRoom,
     bytes: Vec<u8>,
 }
@@ -128,8 +134,20 @@ impl Lines {
         ensures { result.bytes.items ≡ [] }
     {
         Lines {
+            alloc,
             room: LineRoom::new(alloc),
             bytes: Vec::new(alloc),
+        }
+    }
+
+    // Empties the lines. The memory of a long one is given back.
+    fn empty(&mut self)
+        ensures { self.new.bytes.items ≡ [] }
+    {
+        if self.bytes.capacity() > MOST_KEPT {
+            self.bytes = Vec::new(self.alloc);
+        } else {
+            self.bytes.clear();
         }
     }
 
@@ -142,7 +160,7 @@ impl Lines {
         ensures left { self.new.bytes.items ≡ [] }
     {
         let written = write_whole(out, &self.bytes);
-        self.bytes.clear();
+        self.empty();
         match written {
             Ok(()) => Ok(()),
             Err(error) => Err(Failure::Output(error)),
@@ -651,7 +669,8 @@ pub fn run<R: Read + Drop, O: Write, E: Write + Drop, K: Clock>(
         → (why : Failure) × (text : List ℕ) × AreFirstLines why settings.now file.now x text
         × AppendsUpTo why (O.contents out.old) (O.contents out.new) text
         × (settings.now.form ≡ Form.Count
-        → CountsThese (AreFirstOfFile why settings.now x) counts.old counts.new) }
+        → CountsThese (AreFirstOfFile why settings.now x) counts.old counts.new)
+        × (result ≡ Closed → IsOutput why) }
 {
     let mut printer = Printer {
         alloc,

@@ -15,6 +15,9 @@ use mysql_binlog_rows::rows_event::{LentPair, RowPair, RowsEvent};
 use std::alloc::{AllocError, Global};
 use std::mem;
 
+/// From how many bytes on a line isn't copied.
+const LONG: usize = 64 * 1024;
+
 /// Room in which lines are made, kept from line to line. It takes no memory until it is used, and
 /// grows to the longest line.
 #[derive(Drop)]
@@ -45,14 +48,22 @@ impl LineRoom {
         Writer::new(line)
     }
 
-    // Adds the line and a line's end to the lines.
+    // Adds the line and a line's end to the lines. A long line isn't copied: the lines before it are put
+    // in front of it, and the buffers change places.
     fn add_to(&mut self, lines: &mut Vec<u8>) -> Result<(), AllocError>
         ensures added { OnOk result
             (lines.new.items ≡ lines.old.items ++ (self.old.line.items ++ codes "\n")) }
         ensures kept { OnErr result (lines.new.items ≡ lines.old.items) }
     {
         self.line.push(b'\n')?;
-        lines.extend_from_slice(&self.line)
+        let len = self.line.len();
+        if len < LONG {
+            return lines.extend_from_slice(&self.line);
+        }
+        self.line.extend_from_slice(lines)?;
+        self.line.rotate_left(len);
+        mem::swap(lines, &mut self.line);
+        Ok(())
     }
 }
 

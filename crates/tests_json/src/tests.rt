@@ -154,7 +154,7 @@ const NUMBERS: [Case; 6] = [
 ];
 
 /// Tables, rows that are inserted, and what they are as JSON.
-const TIMES: [Case; 7] = [
+const TIMES: [Case; 8] = [
     // DATE.
     (
         b"\x01\0\0\0\0\0\x01\0\x01d\0\x01t\0\x01\x0a\0\0",
@@ -208,6 +208,16 @@ const TIMES: [Case; 7] = [
             "{\"@0\":\"2106-02-07T06:28:15Z\",\"@1\":\"1970-01-01T00:00:00.01Z\"}",
             "{\"@0\":\"2000-02-29T00:00:00Z\",\"@1\":\"2100-03-01T00:00:00.99Z\"}",
             "{\"@0\":null,\"@1\":null}",
+        ],
+    ),
+    // TIMESTAMP2 of 2 decimals with damaged fractions: below zero, and of a second.
+    (
+        b"\x01\0\0\0\0\0\x01\0\x01d\0\x01t\0\x01\x11\x01\x02\0",
+        b"\x01\0\0\0\0\0\x01\0\x02\0\x01\x01\0]\xdelH\xff\0]\xdelHd\x01",
+        &[
+            "{\"@0\":\"1574857800.-10000\"}",
+            "{\"@0\":\"2019-11-27T12:30:00.00Z\"}",
+            "{\"@0\":null}",
         ],
     ),
     // TIME2 of 0, 1 and 6 decimals.
@@ -306,6 +316,44 @@ const TEXTS: [Case; 4] = [
 ];
 
 /// Tables, rows that are inserted, and what they are as JSON.
+const ARRAYS: [Case; 3] = [
+    // TYPED_ARRAY of LONG.
+    (
+        b"\x01\0\0\0\0\0\x01\0\x01d\0\x01t\0\x01\x14\x01\x03\0",
+        b"\x01\0\0\0\0\0\x01\0\x02\0\x01\x01\0\x07\0\0\0\0\xf9\xff\xff\xff\x01",
+        &["{\"@0\":7}", "{\"@0\":-7}", "{\"@0\":null}"],
+    ),
+    // TYPED_ARRAY of DATETIME2. It is read with all of the metadata, so it has 18 decimals, which count
+    // as 6, and no byte of a fraction.
+    (
+        b"\x01\0\0\0\0\0\x01\0\x01d\0\x01t\0\x01\x14\x02\x12\x02\0",
+        b"\x01\0\0\0\0\0\x01\0\x02\0\x01\x01\0\x99\xa4\xb6\xc7\x80\0\x99\xa4\xb6\0\0\x01",
+        &[
+            "{\"@0\":\"2019-11-27 12:30:00.000000\"}",
+            "{\"@0\":\"2019-11-27 00:00:00.000000\"}",
+            "{\"@0\":null}",
+        ],
+    ),
+    // VECTOR.
+    (
+        b"\x01\0\0\0\0\0\x01\0\x01d\0\x01t\0\x01\xf2\x01\x04\0",
+        b"\x01\0\0\0\0\0\x01\0\x02\0\x01\x01\0\x04\0\0\0\0\0\x80?\0\0\0\0\0\x01",
+        &[
+            "{\"@0\":{\"base64\":\"AACAPw==\"}}",
+            "{\"@0\":{\"base64\":\"\"}}",
+            "{\"@0\":null}",
+        ],
+    ),
+];
+
+#[test]
+fn arrays(rt: HostRuntime) {
+    for case in ARRAYS {
+        assert!(rt; is_json(rt.alloc(), case) == Ok(true));
+    }
+}
+
+/// Tables, rows that are inserted, and what they are as JSON.
 const CHARSETS: [Case; 2] = [
     // VARCHAR of latin1.
     (
@@ -400,7 +448,7 @@ fn deep_documents(rt: HostRuntime) {
 }
 
 /// Tables, rows that are inserted, and what they are as JSON.
-const DOCUMENTS: [Case; 1] = [
+const DOCUMENTS: [Case; 2] = [
     // JSON.
     (
         b"\x01\0\0\0\0\0\x01\0\x01d\0\x01t\0\x01\xf5\x01\x04\0",
@@ -421,6 +469,19 @@ const DOCUMENTS: [Case; 1] = [
             "{\"@0\":\"base64:type252:AAE=\"}",
             "{\"@0\":\"2019-11-27 12:30:00\"}",
             "{\"@0\":\"2019-11-27 12:30:00.250000\"}",
+        ],
+    ),
+    // A decimal, bytes of BLOB, a DATE and a TIME.
+    (
+        b"\x01\0\0\0\0\0\x01\0\x01d\0\x01t\0\x01\xf5\x01\x04\0",
+        b"\x01\0\0\0\0\0\x01\0\x02\0\x01\x01\0\x07\0\0\0\x0f\xf6\x04\x04\x02\x7f\xcd\0\x05\0\0\0\x0f\xfc\
+            \x02\xff\xfe\0\x0b\0\0\0\x0f\x0a\x08\0\0\0\0\0\xb6\xa4\x19\0\x0b\0\0\0\x0f\x0b\x08\x20\xa1\x07\
+            \x80\xc7\0\0\0",
+        &[
+            "{\"@0\":-0.50}",
+            "{\"@0\":\"base64:type252://4=\"}",
+            "{\"@0\":\"2019-11-27\"}",
+            "{\"@0\":\"12:30:00.500000\"}",
         ],
     ),
 ];

@@ -174,9 +174,9 @@ fn documents_in_cells(rt: HostRuntime) {
     }
 }
 
-/// Events that are read by turns into one pair of rows, each with its table. The last two have no
-/// columns, and a fault in the second row.
-const ONE_BY_ONE: [(&[u8], &[u8], EventType); 7] = [
+/// Events that are read by turns into one pair of rows, each with its table. One whose second row has
+/// a fault stands before others. The last two have no column in the image, and no column at all.
+const ONE_BY_ONE: [(&[u8], &[u8], EventType); 8] = [
     (TWO_COLUMNS, TWO_ROWS, EventType::WRITE_ROWS_EVENT),
     (TWO_COLUMNS, images::UPDATED, EventType::UPDATE_ROWS_EVENT),
     (TWO_COLUMNS, TWO_ROWS, EventType::DELETE_ROWS_EVENT),
@@ -184,6 +184,11 @@ const ONE_BY_ONE: [(&[u8], &[u8], EventType); 7] = [
         partial::TABLE,
         partial::DIFF,
         EventType::PARTIAL_UPDATE_ROWS_EVENT,
+    ),
+    (
+        TWO_COLUMNS,
+        b"\x01\0\0\0\0\0\x01\0\x02\0\x02\x03\0\x2a\0\0\0\x02ab\x02\xff\xff\xff",
+        EventType::WRITE_ROWS_EVENT,
     ),
     (
         partial::TABLE,
@@ -197,7 +202,7 @@ const ONE_BY_ONE: [(&[u8], &[u8], EventType); 7] = [
     ),
     (
         TWO_COLUMNS,
-        b"\x01\0\0\0\0\0\x01\0\x02\0\x02\x03\0\x2a\0\0\0\x02ab\x02\xff\xff\xff",
+        b"\x01\0\0\0\0\0\x01\0\x02\0\0\x05",
         EventType::WRITE_ROWS_EVENT,
     ),
 ];

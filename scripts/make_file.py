@@ -2,7 +2,7 @@
 """Writes a binlog file of ROWS inserted rows of twelve columns, as a MariaDB server writes it, with checksums.
 
 usage: scripts/make_file.py ROWS OUT [single [TABLES [random]]] [--columns COUNT] [--width COUNT] [--present COUNT] [--plain] [--once]
-       scripts/make_file.py ROWS OUT --event LETTERS
+       scripts/make_file.py ROWS OUT --event LETTERS [--full]
 
 The rows are in rows events of at most 8 KB, 10,000 rows a statement. With `single` each row is a statement of its own: a table map event and a
 rows event of one row. The table map event has full metadata: signs, character sets, names, the values of the ENUM and a key. With TABLES there
@@ -19,7 +19,8 @@ For wide tables:
 --plain           no optional metadata
 --once            all tables are mapped once, at the beginning, and all rows events are of one statement
 
-With --event there are two events after the description: the table map event and the one rows event that make_rows.py prints for these LETTERS.
+With --event there are two events after the description: the table map event and the one rows event that make_rows.py prints for these LETTERS,
+with --full those with optional metadata.
 """
 import argparse
 import functools
@@ -215,6 +216,7 @@ def words():
     parser.add_argument("--plain", action="store_true")
     parser.add_argument("--once", action="store_true")
     parser.add_argument("--event")
+    parser.add_argument("--full", action="store_true")
     said = parser.parse_args()
     if said.columns < len(COLUMNS):
         parser.error(f"a table has at least {len(COLUMNS)} columns")
@@ -228,7 +230,7 @@ def order(tables, is_random):
 
 def write_event(said):
     """Writes the file of one rows event."""
-    command = [sys.executable, Path(__file__).with_name("make_rows.py"), said.event, str(said.rows)]
+    command = [sys.executable, Path(__file__).with_name("make_rows.py"), said.event, str(said.rows), *["full"] * said.full]
     table, rows = subprocess.run(command, check=True, capture_output=True, text=True).stdout.split()[-2:]
     with open(said.out, "wb") as out:
         file = File(out, None)

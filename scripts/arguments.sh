@@ -187,24 +187,24 @@ case_of 1 'text at 0: this isn'"'"'t a binlog file' text
 notes_of 1 'shop.items: the server logged no signs' two_descriptions
 notes_of 1 'shop.items1: the server logged no signs' two_descriptions
 
-# The output waits for a second, and so what is told of progress comes.
+# The output waits for three seconds, and so what is told of progress comes.
 python3 "$here/scripts/make_file.py" 2000 many single >/dev/null || exit 2
 status=0
-"$program" --progress many 2>err | { sleep 1.2; cat >out; }
+"$program" --progress many 2>err | { sleep 3; cat >out; }
 grep -E '^many [0-9,]+ of [0-9,]+ bytes, [0-9]+ %, [0-9,]+ rows/s$' err >line
 judge 'progress of a file' 0 ''
 [ -s line ] || take_back "progress of a file: $(cat err)"
-"$program" --progress - <many 2>err | { sleep 1.2; cat >out; }
+"$program" --progress - <many 2>err | { sleep 3; cat >out; }
 grep -E '^- [0-9,]+ bytes, [0-9,]+ rows/s$' err >line
 judge 'progress of standard input' 0 ''
 [ -s line ] || take_back "progress of standard input: $(cat err)"
 mkfifo pipe
 cat many >pipe &
-"$program" --progress pipe 2>err | { sleep 1.2; cat >out; }
+"$program" --progress pipe 2>err | { sleep 3; cat >out; }
 grep -E '^pipe [0-9,]+ bytes, [0-9,]+ rows/s$' err >line
 judge 'progress of a pipe' 0 ''
 [ -s line ] || take_back "progress of a pipe: $(cat err)"
-"$program" --progress --quiet many 2>err | { sleep 1.2; cat >out; }
+"$program" --progress --quiet many 2>err | { sleep 3; cat >out; }
 judge 'quiet progress' 0 ''
 [ ! -s err ] || take_back "quiet progress: $(cat err)"
 
@@ -222,10 +222,10 @@ status=0
 judge 'an output that is full' 1 "changes: the output can't be written"
 
 # Whoever reads the numbers went away, or nothing can be said on standard error: the status is what it would be.
-{ sleep 0.3; "$program" --count no/file 2>err; echo $? >status; } | true
+{ sleep 1; "$program" --count no/file 2>err; echo $? >status; } | true
 status=$(cat status)
 judge 'numbers into a closed pipe after an error' 1 'changes: no/file: '
-{ sleep 0.3; "$program" --count f 2>err; echo $? >status; } | true
+{ sleep 1; "$program" --count f 2>err; echo $? >status; } | true
 status=$(cat status)
 judge 'numbers into a closed pipe' 0 ''
 status=0

@@ -16,7 +16,7 @@
 # insert and of an update of one row of the ten columns. Build the program with `rt run` in crates/rows.
 #
 # With `kept` and `trees` it counts in tests, which `rt test` builds. `kept`, in crates/tests_streams, reads the events of `one` a second time, by
-# the plan that is kept. `trees`, in crates/tests_values, calls `jsonb::Value::parse` for a tree of 10,000 numbers and two of 10,000 keys and
+# the plan that is kept. `trees`, in crates/tests_json, calls `jsonb::Value::parse` for a tree of 10,000 numbers and two of 10,000 keys and
 # values.
 set -eu
 here=$(cd "$(dirname "$0")/.." && pwd)
@@ -43,7 +43,7 @@ kept)
     exit
     ;;
 trees)
-    find_tests tests_values
+    find_tests tests_json
     for test in ten_thousand_numbers ten_thousand_keys_by_ten ten_thousand_keys_by_a_thousand; do
         echo "$test: $(($(instructions_in_test '*jsonb::value::Value::parse' "tests::trees::$test") / 10000)) instructions each"
     done

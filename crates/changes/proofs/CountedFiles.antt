@@ -16,13 +16,13 @@ use Rattle.binlog_file.specs.SourceChanges.{Found, Finds, spot_at}
 use Rattle.binlog_file.proofs.AskedFollowed.{passed_shows}
 use Rattle.changes.specs.declared.error.Failure.{Failure}
 use Rattle.changes.specs.declared.error.Failure.TheVariants as failure
-use Rattle.changes.specs.declared.filter.Operation.{Operation}
-use Rattle.changes.specs.declared.filter.Filter.{Filter}
+use Rattle.changed_rows.specs.declared.filter.Operation.{Operation}
+use Rattle.changed_rows.specs.declared.filter.Filter.{Filter}
 use Rattle.changes.specs.declared.run.Settings.{Settings}
-use Rattle.changes.specs.declared.count.Counts.{Counts}
-use Rattle.changes.specs.Names.{is_before, up_to_most}
-use Rattle.changes.specs.Filters.{operation_of, wanted_by}
-use Rattle.changes.specs.Counted.{Name, Counted, AreCounts, CountsMore}
+use Rattle.changed_rows.specs.declared.count.Counts.{Counts}
+use Rattle.changed_rows.specs.Names.{is_before, up_to_most}
+use Rattle.changed_rows.specs.Filters.{operation_of, wanted_by}
+use Rattle.changed_rows.specs.Counted.{Name, Counted, AreCounts, CountsMore}
 use Rattle.changes.specs.CountedFiles.{counted_by, counted_in, AreEventRows, AreFirstEventRows, AreCounted, AreCountedToEnd, AreNextCounted, AreFirstCounted, CountsThese}
 use Rattle.changes.specs.Readings.{seen_types, Passes, SourceNext}
 use Rattle.changes.specs.Rows.{BeginsWith}

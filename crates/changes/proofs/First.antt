@@ -22,10 +22,10 @@ use Rattle.changes.specs.declared.error.Failure.TheVariants as failure
 use Rattle.changes.specs.declared.run.Form.{Form}
 use Rattle.changes.specs.declared.run.Form.TheVariants as form
 use Rattle.changes.specs.declared.run.Settings.{Settings}
-use Rattle.changes.specs.declared.filter.Filter.{Filter}
-use Rattle.changes.specs.Filters.{wanted_by}
+use Rattle.changed_rows.specs.declared.filter.Filter.{Filter}
+use Rattle.changed_rows.specs.Filters.{wanted_by}
 use Rattle.changes.specs.Outputs.{Outputs}
-use Rattle.changes.specs.Names.{up_to_most}
+use Rattle.changed_rows.specs.Names.{up_to_most}
 use Rattle.changes.specs.Rows.{BeginsWith, AreLinesBy}
 use Rattle.changes.specs.Readings.{Passes, SourceNext}
 use Rattle.changes.specs.Lines.{IsRowLine, Writes}

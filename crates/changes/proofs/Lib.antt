@@ -1,15 +1,9 @@
 -- The proofs of this program.
-pub mod Names
-pub mod Pushed
-pub mod Counted
-pub mod Members
 pub mod Outputs
 pub mod Beginnings
 pub mod Errors
 pub mod Failures
 pub mod Rows
-pub mod Alike
-pub mod Kept
 pub mod Pairs
 pub mod Written
 pub mod Events

@@ -12,7 +12,7 @@ use Rattle.binlog_file.specs.LentChanges.{OtherEvent}
 use Rattle.binlog_file.specs.LentEvents.{other_of, PassesOver}
 use Rattle.binlog_file.proofs.AskedFollowed.{passed_shows}
 use Rattle.changes.specs.declared.run.Form.{Form}
-use Rattle.changes.specs.Gtids.{mysql_gtid, mariadb_gtid, gtid_after}
+use Rattle.changed_rows.specs.Gtids.{mysql_gtid, mariadb_gtid, gtid_after}
 use Rattle.changes.specs.Readings.{seen_types, Passes}
 use Rattle.changes.specs.Lines.{AreLines}
 use Rattle.changes.proofs.Events.{event_more}

@@ -11,8 +11,8 @@ use Rattle.binlog_file.specs.LentEvents.{GoesPast}
 use Rattle.binlog_file.specs.SourceChanges.{Found, Finds, spot_at}
 use Rattle.changes.specs.declared.run.Form.{Form}
 use Rattle.changes.specs.declared.run.Settings.{Settings}
-use Rattle.changes.specs.declared.filter.Filter.{Filter}
-use Rattle.changes.specs.Filters.{wanted_by}
+use Rattle.changed_rows.specs.declared.filter.Filter.{Filter}
+use Rattle.changed_rows.specs.Filters.{wanted_by}
 use Rattle.changes.specs.Outputs.{Outputs}
 use Rattle.changes.specs.Readings.{Passes, SourceNext}
 use Rattle.changes.specs.Lines.{gtid_past, AreLines, WritesEvent, IsEnd, Writes}

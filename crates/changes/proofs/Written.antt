@@ -12,9 +12,9 @@ use Rattle.row_json.specs.Rows.{IsLine}
 use Rattle.row_json.specs.Wrote.{Named}
 use Rattle.changes.specs.declared.run.Form.{Form}
 use Rattle.changes.specs.declared.run.Form.TheVariants as form
-use Rattle.changes.specs.declared.source.Source.{Source}
-use Rattle.changes.specs.Origins.{source_fields, source_member, member_of_row}
-use Rattle.changes.specs.Names.{up_to_most}
+use Rattle.changed_rows.specs.declared.source.Source.{Source}
+use Rattle.changed_rows.specs.Origins.{source_fields, source_member, member_of_row}
+use Rattle.changed_rows.specs.Names.{up_to_most}
 use Rattle.changes.specs.Rows.{AreLinesBy, IsJsonLine, WritesRows}
 use Rattle.changes.specs.Lines.{IsRowLine, WritesEvent}
 use Rattle.changes.proofs.Outputs.{outputs_nothing}

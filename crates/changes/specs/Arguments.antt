@@ -4,12 +4,12 @@ use Rattle.std.specs.Borrow.{Bor}
 use Rattle.std.specs.Option.{is_some}
 use Rattle.clap.specs.Matches.{matched_of, one_text, raw_values}
 use Rattle.clap.specs.declared.parser.matches.Found.{Found}
-use Rattle.changes.specs.declared.filter.Positions.{Positions}
+use Rattle.changed_rows.specs.declared.filter.Positions.{Positions}
 use Rattle.changes.specs.declared.run.Form.{Form}
 use Rattle.changes.specs.declared.run.Form.TheVariants as form
 use Rattle.changes.specs.declared.run.Settings.{Settings}
 use Rattle.changes.specs.declared.arguments.Arguments.{Arguments}
-use Rattle.changes.specs.Letters.{operations_of}
+use Rattle.changed_rows.specs.Letters.{operations_of}
 
 -- numbers of rows, lines of text, or else lines of JSON
 abbrev pub form_of : Bool → Bool → Form

@@ -9,12 +9,12 @@ use Rattle.binlog_file.specs.LentEvents.{Shows, GoesPast}
 use Rattle.binlog_file.specs.declared.lent_changes.LentEvent.{LentEvent}
 use Rattle.binlog_file.specs.declared.lent_changes.LentEvent.TheVariants as lent
 use Rattle.changes.specs.declared.error.Failure.{Failure}
-use Rattle.changes.specs.declared.filter.Operation.{Operation}
+use Rattle.changed_rows.specs.declared.filter.Operation.{Operation}
 use Rattle.changes.specs.declared.run.Settings.{Settings}
-use Rattle.changes.specs.declared.count.Counts.{Counts}
-use Rattle.changes.specs.Names.{up_to_most}
-use Rattle.changes.specs.Filters.{operation_of, wanted_by}
-use Rattle.changes.specs.Counted.{Name, Counted, CountsMore}
+use Rattle.changed_rows.specs.declared.count.Counts.{Counts}
+use Rattle.changed_rows.specs.Names.{up_to_most}
+use Rattle.changed_rows.specs.Filters.{operation_of, wanted_by}
+use Rattle.changed_rows.specs.Counted.{Name, Counted, CountsMore}
 use Rattle.changes.specs.Rows.{BeginsWith}
 use Rattle.changes.specs.Lines.{IsEnd}
 use Rattle.changes.specs.Failures.{IsNotOfFile, EndsAtRow, EndsAtEvent, EndsAtHeader}

@@ -21,7 +21,7 @@ use Rattle.row_json.specs.Faults.{IsFaultOfPair}
 use Rattle.changes.specs.declared.error.Failure.{Failure}
 use Rattle.changes.specs.declared.error.Failure.TheVariants as failure
 use Rattle.changes.specs.declared.run.Form.{Form}
-use Rattle.changes.specs.Names.{up_to_most}
+use Rattle.changed_rows.specs.Names.{up_to_most}
 use Rattle.changes.specs.Rows.{AreLinesBy, BeginsWith}
 use Rattle.changes.specs.Lines.{AreRowLines, AreLines}
 

@@ -1,16 +1,6 @@
 -- The definitions that the contracts of this program use.
-pub mod Names
-pub mod Filters
-pub mod Letters
-pub mod Counted
-pub mod Gtids
-pub mod Origins
-pub mod Sources
-pub mod Fits
 pub mod Outputs
 pub mod Rows
-pub mod Weights
-pub mod Tables
 pub mod Readings
 pub mod Lines
 pub mod Failures

@@ -15,9 +15,9 @@ use Rattle.row_json.specs.Rows.{IsLine}
 use Rattle.row_lines.specs.Lines.{signed_line_text}
 use Rattle.changes.specs.declared.run.Form.{Form}
 use Rattle.changes.specs.declared.run.Form.TheVariants as form
-use Rattle.changes.specs.Names.{up_to_most}
-use Rattle.changes.specs.Gtids.{gtid_after}
-use Rattle.changes.specs.Origins.{member_of_row}
+use Rattle.changed_rows.specs.Names.{up_to_most}
+use Rattle.changed_rows.specs.Gtids.{gtid_after}
+use Rattle.changed_rows.specs.Origins.{member_of_row}
 use Rattle.changes.specs.Outputs.{Outputs}
 use Rattle.changes.specs.Rows.{AreLinesBy}
 

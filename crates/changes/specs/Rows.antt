@@ -8,9 +8,9 @@ use Rattle.mysql_binlog_rows.specs.Cover.{ArePairs, Covers}
 use Rattle.binlog_file.specs.LentChanges.{LentChange}
 use Rattle.row_json.specs.Columns.{Column}
 use Rattle.row_json.specs.Rows.{IsLine}
-use Rattle.changes.specs.declared.source.Source.{Source}
-use Rattle.changes.specs.Names.{up_to_most}
-use Rattle.changes.specs.Sources.{members_in, source_at}
+use Rattle.changed_rows.specs.declared.source.Source.{Source}
+use Rattle.changed_rows.specs.Names.{up_to_most}
+use Rattle.changed_rows.specs.Sources.{members_in, source_at}
 use Rattle.changes.specs.Outputs.{Outputs}
 
 -- the rows data begins with these pairs of rows, without gaps, and goes on with this rest, whatever it is

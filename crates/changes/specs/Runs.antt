@@ -6,7 +6,7 @@ use Rattle.changes.specs.declared.error.Failure.{Failure}
 use Rattle.changes.specs.declared.run.Settings.{Settings}
 use Rattle.changes.specs.declared.run.Ended.{Ended}
 use Rattle.changes.specs.declared.run.Ended.TheVariants as ended
-use Rattle.changes.specs.Filters.{wanted_by}
+use Rattle.changed_rows.specs.Filters.{wanted_by}
 use Rattle.changes.specs.Lines.{AreLines, IsEnd}
 use Rattle.changes.specs.Failures.{EndsAtHeader, AreFirst}
 

@@ -5,7 +5,7 @@ ghost use Rattle.clap.specs.Matches.{found_of, one_text, ReadsOne};
 ghost use Rattle.changes.specs.Arguments.{form_of, settings_of, starts_after_stop, texts, values_of};
 ghost use Rattle.changes.specs.Arguments.{IsFlag, AreArguments};
 
-use crate::filter::{Filter, Operations, Positions, TableNames};
+use changed_rows::filter::{Filter, Operations, Positions, TableNames};
 use crate::run::{Form, Settings};
 use clap::builder::ValueParser;
 use clap::error::ErrorKind;

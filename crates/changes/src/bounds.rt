@@ -2,12 +2,12 @@
 
 ghost use Rattle.std.specs.Prelude.{◌≡◌, ◌≢◌, ◌⊎◌, ◌<◌, ℕ, Some, None, OnOk, IfErr, IsFalse};
 ghost use Rattle.changes.specs.declared.error.Failure.TheVariants.{NoEvent};
-ghost use Rattle.changes.specs.Names.{is_before};
-ghost use Rattle.changes.specs.Filters.{start_sought, start_after, IsUpTo};
+ghost use Rattle.changed_rows.specs.Names.{is_before};
+ghost use Rattle.changed_rows.specs.Filters.{start_sought, start_after, IsUpTo};
 ghost use Rattle.changes.specs.Failures.{IsNotOfFile};
 
 use crate::error::Failure;
-use crate::filter::Positions;
+use changed_rows::filter::Positions;
 
 /// Finds out whether events begin at the start and stop positions.
 #[derive(Clone, Copy, Debug)]

@@ -3,23 +3,15 @@
 
 pub mod arguments;
 pub mod bounds;
-pub mod count;
 pub mod error;
-pub mod filter;
-pub mod gtid;
 pub mod notes;
 pub mod output;
 pub mod progress;
 pub mod run;
-pub mod signs;
-pub mod source;
-pub mod statements;
-pub mod table;
-pub mod tables;
 
 use arguments::{Arguments, command, usage_error};
+use changed_rows::count::Counts;
 use clap::{ArgMatches, Error};
-use count::Counts;
 use notes::Notes;
 use progress::Meter;
 use run::{Ended, run};

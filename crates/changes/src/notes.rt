@@ -1,11 +1,11 @@
 //! What is said on standard error.
 
-use crate::count::TableName;
+use changed_rows::count::TableName;
 use crate::error::{Failure, Told};
 use crate::progress::Meter;
 use crate::run::Form;
-use crate::signs::lacks_signs;
-use crate::statements::Statements;
+use changed_rows::signs::lacks_signs;
+use changed_rows::statements::Statements;
 use binlog_file::lent_changes::LentEvent;
 use binlog_table::table_map::TableMapEvent;
 use std::alloc::{AllocError, Global};

@@ -1,7 +1,9 @@
-//! Tests of rows as JSON. The tables have no names of columns unless it is said, so that these are
-//! `@0`, `@1` and so on.
+//! Tests of rows as JSON, of JSON cells and diffs, and of trees of binary JSON. The tables have no names of
+//! columns unless it is said, so that these are `@0`, `@1` and so on.
 
 mod memory;
+mod partial;
+mod trees;
 
 use binlog_base::below::ParseBuf;
 use binlog_base::fault::Fault;
@@ -14,10 +16,17 @@ use row_json::{
     write_line_with, write_owned_line,
 };
 use std::alloc::{AllocError, Global};
+use std::fmt::{Display, InlineText, Write};
 
 /// Whether every one of these is true.
 fn all(checks: &[bool]) -> bool {
     checks.iter().all(|check| *check)
+}
+
+/// Whether this is the text of a value, which is written without memory.
+fn has_text(value: &impl Display, text: &str) -> bool {
+    let mut room = InlineText::<128>::new();
+    write!(room, "{value}").is_ok() && room.as_str() == text
 }
 
 /// A table map event, a WRITE_ROWS_EVENT, and its rows as JSON.
@@ -88,8 +97,18 @@ fn is_json(alloc: Global, case: Case) -> Result<bool, Fault> {
     are_lines(alloc, case.0, case.1, EventType::WRITE_ROWS_EVENT, &lines)
 }
 
+/// Whether the rows of each case are written as its JSON.
+fn are_json(alloc: Global, cases: &[Case]) -> Result<bool, Fault> {
+    for case in cases {
+        if !is_json(alloc, *case)? {
+            return Ok(false);
+        }
+    }
+    Ok(true)
+}
+
 /// Tables, rows that are inserted, and what they are as JSON.
-const NUMBERS: [Case; 6] = [
+const NUMBERS: &[Case] = &[
     // TINY and SHORT, one signed and one not.
     (
         b"\x01\0\0\0\0\0\x01\0\x01d\0\x01t\0\x02\x01\x02\0\0\x01\x01@",
@@ -154,7 +173,7 @@ const NUMBERS: [Case; 6] = [
 ];
 
 /// Tables, rows that are inserted, and what they are as JSON.
-const TIMES: [Case; 8] = [
+const TIMES: &[Case] = &[
     // DATE.
     (
         b"\x01\0\0\0\0\0\x01\0\x01d\0\x01t\0\x01\x0a\0\0",
@@ -243,7 +262,7 @@ const TIMES: [Case; 8] = [
 ];
 
 /// Tables, rows that are inserted, and what they are as JSON.
-const NAMES: [Case; 2] = [
+const NAMES: &[Case] = &[
     // ENUM with names, the second not UTF-8, and one without.
     (
         b"\x01\0\0\0\0\0\x01\0\x01d\0\x01t\0\x02\xfe\xfe\x04\xf7\x01\xf7\x02\0\x0a\x01-\x06\x0c\
@@ -274,7 +293,7 @@ const NAMES: [Case; 2] = [
 ];
 
 /// Tables, rows that are inserted, and what they are as JSON.
-const TEXTS: [Case; 4] = [
+const TEXTS: &[Case] = &[
     // VARCHAR of utf8mb4, latin1, ascii, binary and ucs2.
     (
         b"\x01\0\0\0\0\0\x01\0\x01d\0\x01t\0\x05\x0f\x0f\x0f\x0f\x0f\x0aP\0P\0P\0P\0P\0\0\x03\
@@ -316,7 +335,7 @@ const TEXTS: [Case; 4] = [
 ];
 
 /// Tables, rows that are inserted, and what they are as JSON.
-const ARRAYS: [Case; 3] = [
+const ARRAYS: &[Case] = &[
     // TYPED_ARRAY of LONG.
     (
         b"\x01\0\0\0\0\0\x01\0\x01d\0\x01t\0\x01\x14\x01\x03\0",
@@ -348,13 +367,11 @@ const ARRAYS: [Case; 3] = [
 
 #[test]
 fn arrays(rt: HostRuntime) {
-    for case in ARRAYS {
-        assert!(rt; is_json(rt.alloc(), case) == Ok(true));
-    }
+    assert!(rt; are_json(rt.alloc(), ARRAYS) == Ok(true));
 }
 
 /// Tables, rows that are inserted, and what they are as JSON.
-const CHARSETS: [Case; 2] = [
+const CHARSETS: &[Case] = &[
     // VARCHAR of latin1.
     (
         b"\x01\0\0\0\0\0\x01\0\x01d\0\x01t\0\x01\x0f\x02P\0\0\x03\x01\x08",
@@ -392,9 +409,7 @@ const CHARSETS: [Case; 2] = [
 
 #[test]
 fn charsets(rt: HostRuntime) {
-    for case in CHARSETS {
-        assert!(rt; is_json(rt.alloc(), case) == Ok(true));
-    }
+    assert!(rt; are_json(rt.alloc(), CHARSETS) == Ok(true));
 }
 
 /// A table of a JSON column.
@@ -448,7 +463,7 @@ fn deep_documents(rt: HostRuntime) {
 }
 
 /// Tables, rows that are inserted, and what they are as JSON.
-const DOCUMENTS: [Case; 2] = [
+const DOCUMENTS: &[Case] = &[
     // JSON.
     (
         b"\x01\0\0\0\0\0\x01\0\x01d\0\x01t\0\x01\xf5\x01\x04\0",
@@ -488,37 +503,27 @@ const DOCUMENTS: [Case; 2] = [
 
 #[test]
 fn numbers(rt: HostRuntime) {
-    for case in NUMBERS {
-        assert!(rt; is_json(rt.alloc(), case) == Ok(true));
-    }
+    assert!(rt; are_json(rt.alloc(), NUMBERS) == Ok(true));
 }
 
 #[test]
 fn times(rt: HostRuntime) {
-    for case in TIMES {
-        assert!(rt; is_json(rt.alloc(), case) == Ok(true));
-    }
+    assert!(rt; are_json(rt.alloc(), TIMES) == Ok(true));
 }
 
 #[test]
 fn names(rt: HostRuntime) {
-    for case in NAMES {
-        assert!(rt; is_json(rt.alloc(), case) == Ok(true));
-    }
+    assert!(rt; are_json(rt.alloc(), NAMES) == Ok(true));
 }
 
 #[test]
 fn texts(rt: HostRuntime) {
-    for case in TEXTS {
-        assert!(rt; is_json(rt.alloc(), case) == Ok(true));
-    }
+    assert!(rt; are_json(rt.alloc(), TEXTS) == Ok(true));
 }
 
 #[test]
 fn documents(rt: HostRuntime) {
-    for case in DOCUMENTS {
-        assert!(rt; is_json(rt.alloc(), case) == Ok(true));
-    }
+    assert!(rt; are_json(rt.alloc(), DOCUMENTS) == Ok(true));
 }
 
 /// A table of a LONG and a JSON column, a PARTIAL_UPDATE_ROWS_EVENT whose images after the change
@@ -709,7 +714,7 @@ fn types_cross_threads(_rt: HostRuntime) {
 }
 
 /// Some numbers of collations at the ends of ranges, and their character sets.
-const COLLATIONS: [(u16, Charset); 14] = [
+const COLLATIONS: &[(u16, Charset)] = &[
     (0, Charset::Utf8mb4),
     (4, Charset::Other),
     (8, Charset::Latin1),
@@ -729,6 +734,6 @@ const COLLATIONS: [(u16, Charset); 14] = [
 #[test]
 fn collations(rt: HostRuntime) {
     for (number, charset) in COLLATIONS {
-        assert!(rt; charset_of(number) == charset);
+        assert!(rt; charset_of(*number) == *charset);
     }
 }

@@ -181,7 +181,7 @@ fn is_refused_run(alloc: Global, bytes: &[u8], fault: Fault) -> bool {
 }
 
 /// WRITE_ROWS_EVENTs with a bad count of columns, or too few bytes of extra data, and their faults.
-const REFUSED: [(&[u8], Fault); 3] = [
+const REFUSED: &[(&[u8], Fault)] = &[
     (b"\x01\0\0\0\0\0\x01\0\x02\0\xfb", Fault::BadLenEnc),
     (
         b"\x01\0\0\0\0\0\x01\0\x02\0\xfe\xff\xff\xff\xff\xff\xff\xff\xff",
@@ -201,7 +201,7 @@ fn refused_events(rt: HostRuntime) {
         );
     }
     for (bytes, fault) in REFUSED {
-        assert!(rt; is_refused(bytes, fault) && is_refused_run(alloc, bytes, fault));
+        assert!(rt; is_refused(*bytes, *fault) && is_refused_run(alloc, *bytes, *fault));
     }
 }
 
@@ -322,7 +322,7 @@ fn items_of(alloc: Global, table: &[u8], bytes: &[u8]) -> Result<[char; 4], Faul
 
 /// Tables and rows events, with what four calls of `next` give. The faults are `EmptyPair`,
 /// `NoColumnType`, `MissingMetadata`, `UnexpectedEof` and `UnknownColumnType`.
-const ITEMS: [(&[u8], &[u8], [char; 4]); 6] = [
+const ITEMS: &[(&[u8], &[u8], [char; 4])] = &[
     (TWO_COLUMNS, TWO_ROWS, ['p', 'p', '-', '-']),
     (
         TWO_COLUMNS,
@@ -357,7 +357,7 @@ const ITEMS: [(&[u8], &[u8], [char; 4]); 6] = [
 fn pairs_one_by_one(rt: HostRuntime) {
     pairs_are_unambiguous();
     for (table, rows, items) in ITEMS {
-        assert!(rt; items_of(rt.alloc(), table, rows) == Ok(items));
+        assert!(rt; items_of(rt.alloc(), *table, *rows) == Ok(*items));
     }
     let cut = &TWO_ROWS[..24];
     assert!(rt; items_of(rt.alloc(), TWO_COLUMNS, cut) == Ok(['p', 'f', '-', '-']));

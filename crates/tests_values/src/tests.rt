@@ -6,7 +6,6 @@ mod lent;
 mod memory;
 mod readers;
 mod times;
-mod trees;
 
 use std::fmt::{Display, InlineText, Write};
 

@@ -63,8 +63,18 @@ fn is_read(rt: &HostRuntime, unsigned: bool, cell: Cell) -> bool {
         && lends_cell(rt.alloc(), column_type, metadata, unsigned, bytes) == Ok(true)
 }
 
+/// Returns whether each of the cells is read so.
+fn are_read(rt: &HostRuntime, unsigned: bool, cells: &[Cell]) -> bool {
+    for cell in cells {
+        if !is_read(rt, unsigned, *cell) {
+            return false;
+        }
+    }
+    true
+}
+
 /// Whole numbers and floats.
-const NUMBERS: [Cell; 9] = [
+const NUMBERS: &[Cell] = &[
     (MYSQL_TYPE_TINY, &[], b"\xff", "Int(-1)"),
     (MYSQL_TYPE_SHORT, &[], b"\xff\xff", "Int(-1)"),
     (MYSQL_TYPE_INT24, &[], b"\xff\xff\xff", "Int(-1)"),
@@ -93,7 +103,7 @@ const NUMBERS: [Cell; 9] = [
 ];
 
 /// Unsigned numbers.
-const UNSIGNED: [Cell; 5] = [
+const UNSIGNED: &[Cell] = &[
     (MYSQL_TYPE_TINY, &[], b"\xff", "Int(255)"),
     (MYSQL_TYPE_SHORT, &[], b"\xff\xff", "Int(65535)"),
     (MYSQL_TYPE_INT24, &[], b"\xff\xff\xff", "Int(16777215)"),
@@ -108,19 +118,28 @@ const UNSIGNED: [Cell; 5] = [
 
 #[test]
 fn numbers(rt: HostRuntime) {
-    for cell in NUMBERS {
-        assert!(rt; is_read(&rt, false, cell));
-    }
-    for cell in UNSIGNED {
-        assert!(rt; is_read(&rt, true, cell));
-    }
+    assert!(rt; are_read(&rt, false, NUMBERS) && are_read(&rt, true, UNSIGNED));
+}
+
+/// Days, hours, minutes and seconds of a TIME.
+type Time = (u32, u8, u8, u8);
+
+/// Returns whether a TIME of the old format without a sign is this negative time, if it is one.
+fn is_signed_as((d, h, i, s): Time, negative: Option<Time>) -> bool {
+    let value = Value::Time(false, d, h, i, s, 0);
+    let negative = negative.map(|(d, h, i, s)| Value::Time(true, d, h, i, s, 0));
+    signed_old_time(MYSQL_TYPE_TIME, &value) == negative
+}
+
+/// Returns whether a cell has no sign of its own.
+fn has_no_sign(column_type: ColumnType, value: &Value) -> bool {
+    signed_old_time(column_type, value).is_none()
 }
 
 /// Checks values of TIME columns, and the negative times that they mean.
 #[test]
 fn negative_old_times(rt: HostRuntime) {
     old_times_have_signs();
-    let time = MYSQL_TYPE_TIME;
     // The bytes FF FF FF, 59 0A 80 and 00 00 80; the greatest number without a minus, and the first
     // that three bytes don't hold.
     let cases = [
@@ -130,24 +149,20 @@ fn negative_old_times(rt: HostRuntime) {
         ((34, 22, 86, 7), None),
         ((69, 21, 72, 16), None),
     ];
-    for ((d, h, i, s), negative) in cases {
-        let value = Value::Time(false, d, h, i, s, 0);
-        let negative = negative.map(|(d, h, i, s)| Value::Time(true, d, h, i, s, 0));
-        assert!(rt; signed_old_time(time, &value) == negative);
+    for (time, negative) in cases {
+        assert!(rt; is_signed_as(time, negative));
     }
-    let value = Value::Time(false, 69, 21, 72, 15, 0);
-    assert!(rt; signed_old_time(MYSQL_TYPE_TIME2, &value).is_none());
-    let value = Value::Time(true, 69, 21, 72, 15, 0);
     assert!(rt;
         all(&[
-            signed_old_time(time, &value).is_none(),
-            signed_old_time(time, &Value::Int(0xff_ffff)).is_none(),
+            has_no_sign(MYSQL_TYPE_TIME2, &Value::Time(false, 69, 21, 72, 15, 0)),
+            has_no_sign(MYSQL_TYPE_TIME, &Value::Time(true, 69, 21, 72, 15, 0)),
+            has_no_sign(MYSQL_TYPE_TIME, &Value::Int(0xff_ffff)),
         ])
     );
 }
 
 /// Dates and times without fractions.
-const OLD_TIMES: [Cell; 9] = [
+const OLD_TIMES: &[Cell] = &[
     (
         MYSQL_TYPE_TIME,
         &[],
@@ -196,7 +211,7 @@ const OLD_TIMES: [Cell; 9] = [
 ];
 
 /// Dates and times with fractions; the metadata is the count of decimals.
-const TIMES: [Cell; 9] = [
+const TIMES: &[Cell] = &[
     (
         MYSQL_TYPE_TIME2,
         &[2],
@@ -245,16 +260,11 @@ const TIMES: [Cell; 9] = [
 
 #[test]
 fn dates_and_times(rt: HostRuntime) {
-    for cell in OLD_TIMES {
-        assert!(rt; is_read(&rt, false, cell));
-    }
-    for cell in TIMES {
-        assert!(rt; is_read(&rt, false, cell));
-    }
+    assert!(rt; are_read(&rt, false, OLD_TIMES) && are_read(&rt, false, TIMES));
 }
 
 /// Decimals by their precision and scale.
-const DECIMALS: [Cell; 5] = [
+const DECIMALS: &[Cell] = &[
     (MYSQL_TYPE_NEWDECIMAL, &[4, 2], b"\x7f\xff", "\"-0.00\""),
     (
         MYSQL_TYPE_NEWDECIMAL,
@@ -268,7 +278,7 @@ const DECIMALS: [Cell; 5] = [
 ];
 
 /// Bits, sets, enums and arrays.
-const BITS: [Cell; 9] = [
+const BITS: &[Cell] = &[
     (MYSQL_TYPE_BIT, &[2, 1], b"\x03\xff", "\"\\x03\\xff\""),
     (MYSQL_TYPE_SET, &[0xf8, 2], b"\x03\0", "\"\\x03\\0\""),
     (MYSQL_TYPE_ENUM, &[0xf7, 1], b"\x02", "Int(2)"),
@@ -286,7 +296,7 @@ const BITS: [Cell; 9] = [
 ];
 
 /// Texts, whose length has two bytes where the greatest length is above 255.
-const TEXTS: [Cell; 10] = [
+const TEXTS: &[Cell] = &[
     (MYSQL_TYPE_VARCHAR, &[255, 0], b"\x02ab", "\"ab\""),
     (MYSQL_TYPE_VARCHAR, &[0, 1], b"\x02\0ab", "\"ab\""),
     (MYSQL_TYPE_VARCHAR, &[10, 0], b"\x02a", "UnexpectedEof"),
@@ -301,18 +311,11 @@ const TEXTS: [Cell; 10] = [
 
 #[test]
 fn decimals_bits_and_texts(rt: HostRuntime) {
-    for cell in DECIMALS {
-        assert!(rt; is_read(&rt, false, cell));
-    }
-    for cell in BITS {
-        assert!(rt; is_read(&rt, false, cell));
-    }
-    for cell in TEXTS {
-        assert!(rt; is_read(&rt, false, cell));
-    }
+    assert!(rt; are_read(&rt, false, DECIMALS));
+    assert!(rt; are_read(&rt, false, BITS) && are_read(&rt, false, TEXTS));
 }
 
-const BLOBS: [ColumnType; 6] = [
+const BLOBS: &[ColumnType] = &[
     MYSQL_TYPE_TINY_BLOB,
     MYSQL_TYPE_MEDIUM_BLOB,
     MYSQL_TYPE_LONG_BLOB,
@@ -325,16 +328,16 @@ const BLOBS: [ColumnType; 6] = [
 fn blobs(rt: HostRuntime) {
     for blob in BLOBS {
         assert!(rt;
-            is_read(&rt, false, (blob, &[2], b"\x02\0\xff\0", "\"\\xff\\0\""))
-                && is_read(&rt, false, (blob, &[5], b"\x02\0", "UnknownBlob"))
-                && is_read(&rt, false, (blob, &[0], &[], "UnknownBlob"))
-                && is_read(&rt, false, (blob, &[], &[], "MissingMetadata"))
+            is_read(&rt, false, (*blob, &[2], b"\x02\0\xff\0", "\"\\xff\\0\""))
+                && is_read(&rt, false, (*blob, &[5], b"\x02\0", "UnknownBlob"))
+                && is_read(&rt, false, (*blob, &[0], &[], "UnknownBlob"))
+                && is_read(&rt, false, (*blob, &[], &[], "MissingMetadata"))
         );
     }
 }
 
 /// Types whose metadata has one byte.
-const ONE_BYTE: [ColumnType; 4] = [
+const ONE_BYTE: &[ColumnType] = &[
     MYSQL_TYPE_TIMESTAMP2,
     MYSQL_TYPE_DATETIME2,
     MYSQL_TYPE_TIME2,
@@ -342,7 +345,7 @@ const ONE_BYTE: [ColumnType; 4] = [
 ];
 
 /// Types whose metadata has two bytes.
-const TWO_BYTES: [ColumnType; 7] = [
+const TWO_BYTES: &[ColumnType] = &[
     MYSQL_TYPE_VARCHAR,
     MYSQL_TYPE_VAR_STRING,
     MYSQL_TYPE_STRING,
@@ -355,18 +358,18 @@ const TWO_BYTES: [ColumnType; 7] = [
 #[test]
 fn missing_metadata(rt: HostRuntime) {
     for column_type in ONE_BYTE {
-        assert!(rt; is_read(&rt, false, (column_type, &[], &[], "MissingMetadata")));
+        assert!(rt; is_read(&rt, false, (*column_type, &[], &[], "MissingMetadata")));
     }
     for column_type in TWO_BYTES {
         assert!(rt;
-            is_read(&rt, false, (column_type, &[], &[], "MissingMetadata"))
-                && is_read(&rt, false, (column_type, &[1], &[], "MissingMetadata"))
+            is_read(&rt, false, (*column_type, &[], &[], "MissingMetadata"))
+                && is_read(&rt, false, (*column_type, &[1], &[], "MissingMetadata"))
         );
     }
 }
 
 /// Types whose cells aren't supported.
-const UNHANDLED: [ColumnType; 4] = [
+const UNHANDLED: &[ColumnType] = &[
     MYSQL_TYPE_DECIMAL,
     MYSQL_TYPE_NULL,
     MYSQL_TYPE_DATE,
@@ -376,7 +379,7 @@ const UNHANDLED: [ColumnType; 4] = [
 #[test]
 fn unhandled_types(rt: HostRuntime) {
     for column_type in UNHANDLED {
-        assert!(rt; is_read(&rt, false, (column_type, &[], &[], "Unhandled")));
+        assert!(rt; is_read(&rt, false, (*column_type, &[], &[], "Unhandled")));
     }
 }
 

@@ -1,5 +1,7 @@
 //! Tests of rows that lend their cells: what they give is what owned rows are.
 
+ghost use Rattle.std.specs.Prelude.{◌≡◌, IfOk};
+
 use super::{TWO_COLUMNS, TWO_ROWS, all, has_text, images, partial, read};
 use binlog_base::below::{ColumnType, ParseBuf};
 use binlog_base::fault::Fault;
@@ -82,6 +84,33 @@ fn lends<'d>(
     Ok(lent.next_lent(pair).is_none() && holds_no_row(pair))
 }
 
+/// Returns whether the rows data of an event is lent as it is owned.
+fn lends_rows<'d>(
+    alloc: Global,
+    pair: &mut LentPair<'d>,
+    table: &TableMapEvent<'_>,
+    event: &RowsEvent<'_>,
+    rows_data: &'d [u8],
+) -> Result<bool, Fault>
+    requires { rows_data.now ≡ event.now.rows_data }
+{
+    let mut kept = KeptPlan::new();
+    let lent = event.lent_rows_by(alloc, rows_data, table, &mut kept)?;
+    Ok(lends(alloc, lent, pair, event.rows(alloc, table))?)
+}
+
+/// Reads a rows event of this type, and its rows data, which outlives it.
+fn read_lent(bytes: &[u8], event_type: EventType) -> Result<(RowsEvent<'_>, &[u8]), Fault>
+    ensures { IfOk result (λ r. r.1.now ≡ r.0.rows_data) }
+{
+    let ctx = RowsEventCtx {
+        event_type,
+        post_header_len: 10,
+        write_rows_post_header_len: 10,
+    };
+    RowsEvent::read_lent(ctx, &mut ParseBuf(bytes))
+}
+
 /// Returns whether the rows of an event of this type are lent as they are owned.
 fn lends_event<'d>(
     alloc: Global,
@@ -91,16 +120,8 @@ fn lends_event<'d>(
     event_type: EventType,
 ) -> Result<bool, Fault> {
     let table: TableMapEvent<'_> = ParseBuf(table).parse(8)?;
-    let ctx = RowsEventCtx {
-        event_type,
-        post_header_len: 10,
-        write_rows_post_header_len: 10,
-    };
-    let (event, rows_data) = RowsEvent::read_lent(ctx, &mut ParseBuf(bytes))?;
-    let mut kept = KeptPlan::new();
-    let lent = event.lent_rows_by(alloc, rows_data, &table, &mut kept)?;
-    let owned = event.rows(alloc, &table);
-    Ok(lends(alloc, lent, pair, owned)?)
+    let (event, rows_data) = read_lent(bytes, event_type)?;
+    lends_rows(alloc, pair, &table, &event, rows_data)
 }
 
 /// Returns the bytes of the table map event of the table d.t with one column.
@@ -158,7 +179,7 @@ fn cells_that_differ(rt: HostRuntime) {
 
 /// JSON cells: a number, no bytes, an array of arrays, a cell that is cut, and a number that no type
 /// of binary JSON has.
-const DOCUMENTS: [&[u8]; 5] = [
+const DOCUMENTS: &[&[u8]] = &[
     &[3, 0, 0, 0, 5, 0x2a, 0],
     &[0, 0, 0, 0],
     partial::SHARED,
@@ -170,13 +191,13 @@ const DOCUMENTS: [&[u8]; 5] = [
 fn documents_in_cells(rt: HostRuntime) {
     for cell in DOCUMENTS {
         let json = ColumnType::MYSQL_TYPE_JSON;
-        assert!(rt; lends_cell(rt.alloc(), json, &[4], false, cell) == Ok(true));
+        assert!(rt; lends_cell(rt.alloc(), json, &[4], false, *cell) == Ok(true));
     }
 }
 
 /// Events that are read by turns into one pair of rows, each with its table. One whose second row has
 /// a fault stands before others. The last two have no column in the image, and no column at all.
-const ONE_BY_ONE: [(&[u8], &[u8], EventType); 8] = [
+const ONE_BY_ONE: &[(&[u8], &[u8], EventType)] = &[
     (TWO_COLUMNS, TWO_ROWS, EventType::WRITE_ROWS_EVENT),
     (TWO_COLUMNS, images::UPDATED, EventType::UPDATE_ROWS_EVENT),
     (TWO_COLUMNS, TWO_ROWS, EventType::DELETE_ROWS_EVENT),
@@ -211,7 +232,7 @@ const ONE_BY_ONE: [(&[u8], &[u8], EventType); 8] = [
 fn lends_one_by_one(alloc: Global) -> Result<bool, Fault> {
     let mut pair = LentPair::new(alloc);
     for (table, rows, event_type) in ONE_BY_ONE {
-        if !lends_event(alloc, &mut pair, table, rows, event_type)? {
+        if !lends_event(alloc, &mut pair, *table, *rows, *event_type)? {
             return Ok(false);
         }
     }
@@ -277,7 +298,7 @@ pub(super) fn is_timestamp(
 }
 
 /// Seconds and microseconds, and the text of the timestamp.
-pub(super) const TIMESTAMPS: [(i32, i32, &str); 5] = [
+pub(super) const TIMESTAMPS: &[(i32, i32, &str)] = &[
     (0, 0, "0"),
     (1_574_858_152, 0, "1574858152"),
     (7, 5, "7.000005"),
@@ -292,10 +313,10 @@ fn years_and_timestamps(rt: HostRuntime) {
     }
     for (seconds, microseconds, text) in TIMESTAMPS {
         let timestamp = Timestamp {
-            seconds,
-            microseconds,
+            seconds: *seconds,
+            microseconds: *microseconds,
         };
-        assert!(rt; is_timestamp(rt.alloc(), timestamp, text) == Ok(true));
+        assert!(rt; is_timestamp(rt.alloc(), timestamp, *text) == Ok(true));
     }
 }
 
@@ -317,12 +338,7 @@ fn negative_old_times(rt: HostRuntime) {
 fn three_ways(alloc: Global) -> Result<[Option<RowsEventRows<'static>>; 3], Fault> {
     let table: TableMapEvent<'_> = ParseBuf(TWO_COLUMNS).parse(8)?;
     let shared = Arc::new(alloc, table.into_owned(alloc)?)?;
-    let ctx = RowsEventCtx {
-        event_type: EventType::WRITE_ROWS_EVENT,
-        post_header_len: 10,
-        write_rows_post_header_len: 10,
-    };
-    let (event, rows_data) = RowsEvent::read_lent(ctx, &mut ParseBuf(TWO_ROWS))?;
+    let (event, rows_data) = read_lent(TWO_ROWS, EventType::WRITE_ROWS_EVENT)?;
     let mut kept = KeptPlan::new();
     let first = event.lent_rows_by(alloc, rows_data, &shared, &mut kept)?;
     let second = event.lent_rows_by_shared(alloc, rows_data, &shared, &mut kept)?;

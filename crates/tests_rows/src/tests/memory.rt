@@ -318,6 +318,12 @@ fn owned_cells(alloc: Global) -> Result<usize, Fault> {
     cells_owned(alloc, &event, &table)
 }
 
+/// Returns how many cells the row after the change has in an owned copy of a pair of rows.
+fn owned_len(alloc: Global, pair: &LentPair<'_>) -> Result<usize, AllocError> {
+    let (_, after) = pair.to_owned(alloc)?;
+    Ok(after.map_or(0, |row| row.len()))
+}
+
 /// Returns how many cells an owned copy of the first row of an event has.
 fn cells_owned(
     alloc: Global,
@@ -327,8 +333,7 @@ fn cells_owned(
     let mut rows = event.rows(alloc, table);
     let mut pair = LentPair::new(alloc);
     let _ = next_len(&mut rows, &mut pair)?;
-    let (_, after) = pair.to_owned(alloc)?;
-    Ok(after.map_or(0, |row| row.len()))
+    Ok(owned_len(alloc, &pair)?)
 }
 
 #[test]

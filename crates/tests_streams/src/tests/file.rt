@@ -143,7 +143,7 @@ fn no_binlog_files(rt: HostRuntime) -> Result<(), Fail> {
 }
 
 /// Bytes of the description's body that are others, and the errors.
-const DESCRIPTIONS: [(usize, u8, EventError); 4] = [
+const DESCRIPTIONS: &[(usize, u8, EventError)] = &[
     (0, 5, EventError::BinlogVersion(5)),
     (2, b'4', EventError::ServerVersion),
     (56, 20, EventError::HeaderLength(20)),
@@ -154,14 +154,14 @@ const DESCRIPTIONS: [(usize, u8, EventError); 4] = [
 fn bad_descriptions(rt: HostRuntime) -> Result<(), Fail> {
     let alloc = rt.alloc();
     for (at, byte, error) in DESCRIPTIONS {
-        assert!(rt; fails(alloc, &described(alloc, at, byte)?, &[], 4, error)?);
+        assert!(rt; fails(alloc, &described(alloc, *at, *byte)?, &[], 4, *error)?);
     }
     Ok(())
 }
 
 /// Bytes of a file of two rows without checksums that are others, and the errors at the positions
 /// of their events. The table map event begins at 126, and the rows event at 166.
-const DAMAGED: [(usize, u8, u64, EventError); 7] = [
+const DAMAGED: &[(usize, u8, u64, EventError)] = &[
     (135, 18, 126, EventError::EventSize(18)),
     (175, 0, 166, EventError::EventSize(0)),
     (175, 45, 166, EventError::Cut(1)),
@@ -176,16 +176,16 @@ fn damaged_events(rt: HostRuntime) -> Result<(), Fail> {
     let alloc = rt.alloc();
     for (at, byte, position, error) in DAMAGED {
         let mut file = with_rows(alloc, false, &[1])?;
-        if let Some(old) = file.get_mut(at) {
-            *old = byte;
+        if let Some(old) = file.get_mut(*at) {
+            *old = *byte;
         }
-        assert!(rt; fails(alloc, &file, &[], position, error)?);
+        assert!(rt; fails(alloc, &file, &[], *position, *error)?);
     }
     Ok(())
 }
 
 /// Bodies of events after the table map event, and their errors with the pairs before.
-const CUT: [(u8, &[u8], &[usize], EventError); 2] = [
+const CUT: &[(u8, &[u8], &[usize], EventError)] = &[
     (
         0x13,
         b"\x01\0\0\0\0\0\x01\0\x01d",
@@ -205,8 +205,8 @@ fn cut_bodies(rt: HostRuntime) -> Result<(), Fail> {
     let alloc = rt.alloc();
     for (event_type, body, pairs, error) in CUT {
         let mut file = with_rows(alloc, false, &[])?;
-        push(&mut file, event_type, 0, body, false)?;
-        assert!(rt; fails(alloc, &file, pairs, 166, error)?);
+        push(&mut file, *event_type, 0, *body, false)?;
+        assert!(rt; fails(alloc, &file, *pairs, 166, *error)?);
     }
     Ok(())
 }
@@ -271,7 +271,7 @@ fn by_turns(alloc: Global, tables: u8, statements: u16) -> Result<Vec<u8>, Alloc
 
 /// Bounds in bytes, and what is kept of three tables then: each takes 810 bytes, and none is kept
 /// that takes more than half of all.
-const BOUNDS: [(usize, usize); 4] = [(0, 0), (1619, 0), (1620, 1620), (1 << 23, 2430)];
+const BOUNDS: &[(usize, usize)] = &[(0, 0), (1619, 0), (1620, 1620), (1 << 23, 2430)];
 
 /// Takes all events of a file. Returns how many bytes are kept then, if the last table is in force.
 fn kept_of(alloc: Global, file: &[u8], most: usize) -> Result<Option<usize>, Fail> {
@@ -298,8 +298,8 @@ fn tables_are_kept_in_bounds(rt: HostRuntime) -> Result<(), Fail> {
     let alloc = rt.alloc();
     let file = by_turns(alloc, 3, 6)?;
     for (most, kept) in BOUNDS {
-        assert!(rt; kept_of(alloc, &file, most)? == Some(kept));
-        assert!(rt; last_table(alloc, &file, most)?);
+        assert!(rt; kept_of(alloc, &file, *most)? == Some(*kept));
+        assert!(rt; last_table(alloc, &file, *most)?);
     }
     Ok(())
 }
@@ -355,19 +355,23 @@ fn count_pairs<R: Read + Drop>(alloc: Global, reader: R) -> Result<u64, FileErro
     Ok(count)
 }
 
-/// The count of the pairs of a file in memory, and of the same file over a reader, where so many bytes
-/// are kept at most.
-fn pairs_within(alloc: Global, file: &[u8], most: usize) -> Result<(usize, usize), FileError> {
+/// How many pairs of rows a file in memory has, where so many bytes are kept at most.
+fn pairs_in_memory(alloc: Global, file: &[u8], most: usize) -> Result<usize, FileError> {
     let mut count: usize = 0;
     for change in FileChanges::with_kept_bytes(alloc, file, AllRows, most)? {
         count = count.saturating_add(change?.pairs().len());
     }
+    Ok(count)
+}
+
+/// How many pairs of rows the same file has over a reader.
+fn pairs_of_source(alloc: Global, file: &[u8], most: usize) -> Result<usize, FileError> {
     let source = BinlogFile::new(alloc, Counted::new(file))?;
-    let mut read: usize = 0;
+    let mut count: usize = 0;
     for change in SourceChanges::with_kept_bytes(alloc, source, AllRows, most) {
-        read = read.saturating_add(change?.pairs().len());
+        count = count.saturating_add(change?.pairs().len());
     }
-    Ok((count, read))
+    Ok(count)
 }
 
 #[test]
@@ -376,7 +380,8 @@ fn plans_are_kept_in_bounds(rt: HostRuntime) -> Result<(), Fail> {
     // There is room for no plan but the last ones, for some tables, and for all.
     let file = by_turns(alloc, 200, 600)?;
     for most in [0, 100_000, 1 << 25] {
-        assert!(rt; pairs_within(alloc, &file, most)? == (1200, 1200));
+        assert!(rt; pairs_in_memory(alloc, &file, most)? == 1200);
+        assert!(rt; pairs_of_source(alloc, &file, most)? == 1200);
     }
     Ok(())
 }
@@ -461,31 +466,64 @@ fn a_source_that_fails(rt: HostRuntime) -> Result<(), Fail> {
     Ok(())
 }
 
+/// Reads so many events. Returns whether there are as many.
+fn reads(
+    alloc: Global,
+    reader: &mut EventStreamReader,
+    left: &mut &[u8],
+    count: usize,
+) -> Result<bool, FileError> {
+    let mut buffer = EventBuffer::new(alloc);
+    for _ in 0..count {
+        if reader.read(left, &mut buffer)?.is_none() {
+            return Ok(false);
+        }
+    }
+    Ok(true)
+}
+
+/// How many changes of a file there are from a position on.
+fn changes_from(alloc: Global, file: &[u8], position: u64) -> Result<usize, AllocError> {
+    let mut count: usize = 0;
+    for change in &changes(alloc, file, AllRows)?.changes {
+        if change.position() >= position {
+            count = count.saturating_add(1);
+        }
+    }
+    Ok(count)
+}
+
+/// Whether a file has so many changes, and no error.
+fn has_changes(alloc: Global, file: &[u8], count: usize) -> Result<bool, AllocError> {
+    let list = changes(alloc, file, AllRows)?;
+    Ok(list.error.is_none() && list.changes.len() == count)
+}
+
+/// Whether a checkpoint gives no changes, and what is left after it gives so many.
+fn leads(
+    alloc: Global,
+    mut checkpoint: Vec<u8>,
+    left: &[u8],
+    count: usize,
+) -> Result<bool, AllocError> {
+    let is_empty = gives(alloc, &checkpoint, &[])?;
+    checkpoint.extend_from_slice(left)?;
+    Ok(is_empty && has_changes(alloc, &checkpoint, count)?)
+}
+
 /// Whether the checkpoint after so many events of a file gives no changes, and the rest after it gives
 /// as many as the whole file from there on.
 fn resumed(alloc: Global, file: &[u8], after: usize) -> Result<bool, Fail> {
     let mut reader = EventStreamReader::new(alloc);
-    let mut buffer = EventBuffer::new(alloc);
     let mut left = file.get(4..).unwrap_or(&[]);
-    for _ in 0..after {
-        if reader.read(&mut left, &mut buffer)?.is_none() {
-            return Ok(true);
-        }
+    if !reads(alloc, &mut reader, &mut left, after)? {
+        return Ok(true);
     }
-    let Some(mut bytes) = reader.checkpoint(alloc)? else {
-        return Ok(false);
-    };
-    let leads = gives(alloc, &bytes, &[])?;
-    bytes.extend_from_slice(left)?;
-    let rest = changes(alloc, &bytes, AllRows)?;
-    let whole = changes(alloc, file, AllRows)?;
-    let mut count: usize = 0;
-    for change in &whole.changes {
-        if change.position() >= reader.position() {
-            count = count.saturating_add(1);
-        }
+    let count = changes_from(alloc, file, reader.position())?;
+    match reader.checkpoint(alloc)? {
+        Some(checkpoint) => Ok(leads(alloc, checkpoint, left, count)?),
+        None => Ok(false),
     }
-    Ok(leads && rest.error.is_none() && rest.changes.len() == count)
 }
 
 #[test]

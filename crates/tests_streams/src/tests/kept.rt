@@ -77,7 +77,7 @@ fn steps_of(
 type Case = (&'static [u8], Server, &'static [u8], EventType);
 
 /// The events, one after the other, and the steps for each.
-const CASES: [(Case, u128); 9] = [
+const CASES: &[(Case, u128)] = &[
     (
         (
             UNSIGNED,
@@ -166,7 +166,7 @@ fn steps_in(alloc: Global, kept: &mut KeptPlan, case: Case) -> Result<Option<u12
 fn events_one_after_the_other(rt: HostRuntime) -> Result<(), Fail> {
     let mut kept = KeptPlan::default();
     for (case, steps) in CASES {
-        assert!(rt; steps_in(rt.alloc(), &mut kept, case)? == Some(steps));
+        assert!(rt; steps_in(rt.alloc(), &mut kept, *case)? == Some(*steps));
     }
     Ok(())
 }

@@ -56,7 +56,7 @@ fn is_read(bytes: &[u8], text: &str) -> bool {
 
 /// Values by their type byte, each with its variant and its `Debug` text, and refused ones with
 /// their faults.
-const VALUES: [(&[u8], &str); 15] = [
+const VALUES: &[(&[u8], &str)] = &[
     (&[], "Null null"),
     (&[5, 0x2a, 0], "I16 42"),
     (NUMBERS, "SmallArray array(2)"),
@@ -84,7 +84,7 @@ const VALUES: [(&[u8], &str); 15] = [
 #[test]
 fn values(rt: HostRuntime) {
     for (bytes, text) in VALUES {
-        assert!(rt; is_read(bytes, text));
+        assert!(rt; is_read(*bytes, *text));
     }
 }
 
@@ -122,12 +122,12 @@ pub(super) fn has_element(bytes: &[u8], pos: u32, text: &str) -> bool {
 /// The numbers 1 and 2.
 const NUMBERS: &[u8] = b"\x02\x02\0\x0a\0\x05\x01\0\x05\x02\0";
 /// A string that begins inside its own array's entries, and a literal.
-const STRING: &[u8] = b"\x02\x02\0\x0c\0\x0c\x07\0\x04\x01\0xy";
+pub(super) const STRING: &[u8] = b"\x02\x02\0\x0c\0\x0c\x07\0\x04\x01\0xy";
 /// A string at the end of the array.
 const CUT: &[u8] = b"\x02\x02\0\x0c\0\x0c\x0c\0\x04\x01\0xy";
 
 /// Elements of small arrays.
-const ELEMENTS: [(&[u8], u32, &str); 10] = [
+const ELEMENTS: &[(&[u8], u32, &str)] = &[
     (NUMBERS, 0, "I16 1"),
     (NUMBERS, 1, "I16 2"),
     (NUMBERS, 2, "none"),
@@ -152,7 +152,7 @@ const ELEMENTS: [(&[u8], u32, &str); 10] = [
 #[test]
 fn elements(rt: HostRuntime) {
     for (bytes, pos, text) in ELEMENTS {
-        assert!(rt; has_element(bytes, pos, text));
+        assert!(rt; has_element(*bytes, *pos, *text));
     }
 }
 
@@ -248,7 +248,7 @@ const EMPTY_KEY: &[u8] = b"\0\x01\0\x0b\0\x0b\0\0\0\x05\x01\0";
 const TWO_KEYS: &[u8] = b"\0\x02\0\x14\0\x11\0\x01\0\x13\0\x01\0\x05\x01\0\x05\x02\0ab";
 
 /// The keys of objects, and their entries.
-const ENTRIES: [(&[u8], &str, &str); 4] = [
+const ENTRIES: &[(&[u8], &str, &str)] = &[
     (NULL, "[97];", "[97] Null null;"),
     (
         BAD_KEY,
@@ -266,7 +266,7 @@ const ENTRIES: [(&[u8], &str, &str); 4] = [
 #[test]
 fn entries_of_objects(rt: HostRuntime) {
     for (bytes, keys, entries) in ENTRIES {
-        assert!(rt; has_keys(bytes, keys) && has_entries(bytes, entries));
+        assert!(rt; has_keys(*bytes, *keys) && has_entries(*bytes, *entries));
     }
     assert!(rt; has_key_a(NULL));
 }

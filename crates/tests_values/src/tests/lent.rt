@@ -26,35 +26,44 @@ fn counted(alloc: Global, json: &LentJson<'_>) -> Result<u64, Fault> {
     Ok(count)
 }
 
+/// Returns whether a lent document and a lent value are equal to the value, and show what it shows.
+fn equals(json: &LentJson<'_>, value: &Value<'_>) -> bool {
+    let (root, copy) = (json.value(), value.lent());
+    root == *value && copy == *value && show_the_same(json, value)
+}
+
+/// Returns whether a lent document has the tree of a lent value.
+fn has_tree_of(alloc: Global, json: &LentJson<'_>, value: &Value<'_>) -> Result<bool, Fault> {
+    let tree = json.parse(alloc)?;
+    Ok(value.lent().parse(alloc)? == tree)
+}
+
 /// Returns whether a lent document gives what the value does.
 fn is_of(alloc: Global, json: &LentJson<'_>, value: &Value<'_>) -> Result<bool, Fault> {
-    let (root, copy) = (json.value(), value.lent());
-    Ok(all(&[
-        root == *value,
-        copy == *value,
-        *json == LentJson::of(value),
-        json.parse(alloc)? == value.lent().parse(alloc)?,
-        counted(alloc, json)? == counted(alloc, &LentJson::of(value))?,
-        show_the_same(json, value),
-    ]))
+    Ok(
+        equals(json, value)
+            && *json == LentJson::of(value)
+            && has_tree_of(alloc, json, value)?
+            && counted(alloc, json)? == counted(alloc, &LentJson::of(value))?,
+    )
+}
+
+/// Returns whether a lent document and one that is lent by the value give what the value does.
+fn are_both_of(alloc: Global, json: &LentJson<'_>, value: &Value<'_>) -> Result<bool, Fault> {
+    Ok(is_of(alloc, json, value)? && is_of(alloc, &LentJson::of(value), value)?)
 }
 
 /// Returns whether a document is lent by its bytes and by its value as it is.
 pub(super) fn is_document(alloc: Global, bytes: &[u8]) -> Result<bool, Fault> {
     let value: Value<'_> = ParseBuf(bytes).parse(())?;
-    let json = LentJson::read(bytes)?;
-    Ok(
-        is_of(alloc, &json, &value)?
-            && is_of(alloc, &LentJson::of(&value), &value)?
-            && value.lent() == value,
-    )
+    are_both_of(alloc, &LentJson::read(bytes)?, &value)
 }
 
 /// The object `{"a":null}`.
 pub(super) const OBJECT: &[u8] = b"\0\x01\0\x0c\0\x0b\0\x01\0\x04\0\0a";
 
 /// An object, an array of the numbers 1 and 2, a number, an opaque value, and no bytes.
-const DOCUMENTS: [&[u8]; 5] = [
+const DOCUMENTS: &[&[u8]] = &[
     OBJECT,
     &[2, 2, 0, 10, 0, 5, 1, 0, 5, 2, 0],
     &[5, 0x2a, 0],
@@ -65,7 +74,7 @@ const DOCUMENTS: [&[u8]; 5] = [
 #[test]
 fn lent_documents(rt: HostRuntime) {
     for bytes in DOCUMENTS {
-        assert!(rt; is_document(rt.alloc(), bytes) == Ok(true));
+        assert!(rt; is_document(rt.alloc(), *bytes) == Ok(true));
     }
     assert!(rt; LentJson::read(&[13]).is_err() && LentJson::read(&[5, 0x2a]).is_err());
 }
@@ -198,7 +207,7 @@ pub(super) fn shows(alloc: Global, packed: Packed, text: &str) -> Result<bool, F
 }
 
 /// Decimals and their texts. The fifth has 20 digits on each side of the point.
-pub(super) const DECIMALS: [(Packed, &str); 5] = [
+pub(super) const DECIMALS: &[(Packed, &str)] = &[
     ((b"\x81\x0d\xfb\x38\xd2\x04\xd2", 14, 4), "1234567890.1234"),
     ((b"\x7f\xff", 4, 2), "-0.00"),
     ((b"\x80\0\0\0\0\x07", 12, 0), "7"),
@@ -212,7 +221,7 @@ pub(super) const DECIMALS: [(Packed, &str); 5] = [
 #[test]
 fn packed_decimals(rt: HostRuntime) {
     for (packed, text) in DECIMALS {
-        assert!(rt; shows(rt.alloc(), packed, text) == Ok(true));
+        assert!(rt; shows(rt.alloc(), *packed, *text) == Ok(true));
     }
     assert!(rt;
         matches!(read((b"\xe4\0", 4, 2)), Err(Fault::DecimalGroup))
@@ -229,7 +238,7 @@ fn compare(packed: Packed, other: Packed) -> Result<(Ordering, bool), Fault> {
 
 /// Decimals by two: their order as numbers, and whether their texts are the same. They are 1.50 and
 /// 1.5, 1.50 of two and of four digits before the point, -0.00 and 0, -0.00 and 1.5, and 9 and 10.
-const ORDERS: [(Packed, Packed, Ordering, bool); 5] = [
+const ORDERS: &[(Packed, Packed, Ordering, bool)] = &[
     (
         (b"\x81\x32", 4, 2),
         (b"\x81\x05", 2, 1),
@@ -255,6 +264,6 @@ const ORDERS: [(Packed, Packed, Ordering, bool); 5] = [
 #[test]
 fn decimals_as_numbers(rt: HostRuntime) {
     for (packed, other, order, same) in ORDERS {
-        assert!(rt; compare(packed, other) == Ok((order, same)));
+        assert!(rt; compare(*packed, *other) == Ok((*order, *same)));
     }
 }

@@ -4,11 +4,8 @@
 //! error of the call that was refused memory; if none was, it asserts the answer. The tests whose
 //! names begin with `nothing` ask for no more memory than the test program itself does.
 
-ghost use Rattle.std.specs.Prelude.{◌≤◌};
-
-use super::jsonb::{BAD_KEY, has_element, has_key_a, has_keys};
+use super::jsonb::{BAD_KEY, STRING, has_element, has_key_a, has_keys};
 use super::lent::{self, OBJECT};
-use super::trees;
 use binlog_base::below::{
     BareBytes, ColumnType, EofBytes, LenEnc, MyDeserialize, MySerialize, ParseBuf, RawBytes,
     U8Bytes, VarLen,
@@ -39,7 +36,7 @@ fn is_scalar(alloc: Global, bytes: &[u8]) -> Result<bool, Fault> {
 fn nothing_for_json(rt: HostRuntime) -> Result<(), Fail> {
     assert!(rt;
         has_element(&[2, 2, 0, 10, 0, 5, 1, 0, 5, 2, 0], 1, "I16 2")
-            && has_element(trees::OVERLAPPING, 1, "Bool true")
+            && has_element(STRING, 1, "Bool true")
             && has_key_a(OBJECT)
             && has_keys(BAD_KEY, "Jsonb(InvalidKeyOffsetPointer);")
             && is_scalar(rt.alloc(), &[])?
@@ -85,60 +82,6 @@ fn is_cut_short(alloc: Global) -> Result<bool, Fault> {
 #[test]
 fn decimal_cut_short(rt: HostRuntime) -> Result<(), Fail> {
     assert!(rt; is_cut_short(rt.alloc())?);
-    Ok(())
-}
-
-/// Returns whether the bytes are refused as a tree with this fault.
-fn has_no_tree(alloc: Global, bytes: &[u8], fault: Fault) -> Result<bool, Fault> {
-    let value: Json<'_> = ParseBuf(bytes).parse(())?;
-    match value.parse(alloc) {
-        Ok(_) => Ok(false),
-        Err(Fault::Memory) => Err(Fault::Memory),
-        Err(other) => Ok(other == fault),
-    }
-}
-
-/// Returns whether the bytes are a tree of `count` values.
-fn has_tree(alloc: Global, bytes: &[u8], count: u64) -> Result<bool, Fault> {
-    let value: Json<'_> = ParseBuf(bytes).parse(())?;
-    let (dom, read) = value.parse_counted(alloc);
-    let dom = dom?;
-    Ok(matches!(dom, JsonDom::Container(_)) && read == count)
-}
-
-/// Returns whether nested arrays are a tree of `count` values.
-fn nest(alloc: Global, depth: u16, entries: u8, count: u64) -> Result<bool, Fault>
-    requires some { 1 ≤ depth }
-    requires depth { depth ≤ 200 }
-    requires entries { entries ≤ 2 }
-{
-    has_tree(alloc, &trees::nested(alloc, depth, entries)?, count)
-}
-
-/// Returns whether nested arrays are refused as a tree with this fault.
-fn nest_too_much(alloc: Global, depth: u16, entries: u8, fault: Fault) -> Result<bool, Fault>
-    requires some { 1 ≤ depth }
-    requires depth { depth ≤ 200 }
-    requires entries { entries ≤ 2 }
-{
-    has_no_tree(alloc, &trees::nested(alloc, depth, entries)?, fault)
-}
-
-#[test]
-fn trees_of_documents(rt: HostRuntime) -> Result<(), Fail> {
-    let alloc = rt.alloc();
-    assert!(rt;
-        has_tree(alloc, trees::OVERLAPPING, 2)?
-            && nest(alloc, 3, 2, 6)?
-            && nest_too_much(alloc, 4, 2, Fault::TooManyValues)?
-    );
-    Ok(())
-}
-
-#[test]
-fn deep_trees(rt: HostRuntime) -> Result<(), Fail> {
-    let alloc = rt.alloc();
-    assert!(rt; nest(alloc, 100, 1, 99)? && nest_too_much(alloc, 101, 1, Fault::NestingTooDeep)?);
     Ok(())
 }
 
@@ -261,19 +204,19 @@ fn opaque_is(alloc: Global, bytes: &[u8], text: &str) -> Result<bool, AllocError
 }
 
 /// Bytes and their texts: a byte that isn't UTF-8 is replaced.
-const TEXTS: [(&[u8], &str); 2] = [(b"ab", "ab"), (b"a\xffb", "a\u{fffd}b")];
+const TEXTS: &[(&[u8], &str)] = &[(b"ab", "ab"), (b"a\xffb", "a\u{fffd}b")];
 
 #[test]
 fn lossy_texts(rt: HostRuntime) -> Result<(), Fail> {
     let alloc = rt.alloc();
     for (bytes, text) in TEXTS {
         assert!(rt;
-            name_is(alloc, bytes, text)?
-                && value_is(alloc, bytes, text)?
-                && bytes_are(alloc, bytes, text)?
-                && string_is(alloc, bytes, text)?
-                && key_is(alloc, bytes, text)?
-                && opaque_is(alloc, bytes, text)?
+            name_is(alloc, *bytes, *text)?
+                && value_is(alloc, *bytes, *text)?
+                && bytes_are(alloc, *bytes, *text)?
+                && string_is(alloc, *bytes, *text)?
+                && key_is(alloc, *bytes, *text)?
+                && opaque_is(alloc, *bytes, *text)?
         );
     }
     Ok(())
@@ -357,7 +300,7 @@ fn is_copied(alloc: Global, bytes: &[u8]) -> Result<bool, Fault> {
 fn copies_of_json(rt: HostRuntime) -> Result<(), Fail> {
     let alloc = rt.alloc();
     assert!(rt;
-        is_copied(alloc, trees::OVERLAPPING)?
+        is_copied(alloc, STRING)?
             && is_copied(alloc, OBJECT)?
             && is_copied(alloc, &[12, 1, 0x61])?
             && is_copied(alloc, &[15, 252, 1, 0x61])?
@@ -422,20 +365,6 @@ fn an_owned_container(rt: HostRuntime) -> Result<(), Fail> {
     Ok(())
 }
 
-/// Returns whether a tree has an equal copy.
-fn has_tree_copy(alloc: Global, dom: &JsonDom) -> Result<bool, AllocError> {
-    Ok(dom.clone(alloc)? == *dom)
-}
-
-#[test]
-fn copies_of_trees(rt: HostRuntime) -> Result<(), Fail> {
-    for bytes in [trees::OVERLAPPING, OBJECT] {
-        let value: Json<'_> = ParseBuf(bytes).parse(())?;
-        assert!(rt; has_tree_copy(rt.alloc(), &value.parse(rt.alloc())?)?);
-    }
-    Ok(())
-}
-
 #[test]
 fn lent_documents(rt: HostRuntime) -> Result<(), Fail> {
     assert!(rt; lent::is_document(rt.alloc(), OBJECT)?);
@@ -451,7 +380,7 @@ fn lent_diffs(rt: HostRuntime) -> Result<(), Fail> {
 #[test]
 fn lent_decimals(rt: HostRuntime) -> Result<(), Fail> {
     for (packed, text) in lent::DECIMALS {
-        assert!(rt; lent::shows(rt.alloc(), packed, text)?);
+        assert!(rt; lent::shows(rt.alloc(), *packed, *text)?);
     }
     Ok(())
 }

@@ -1,7 +1,7 @@
 use Rattle.std.proofs.Common.{◌≡◌, ◌+◌, List, length}
 use Rattle.mysql_binlog_rows.specs.Images.{Pair, pair}
 use Rattle.mysql_binlog_rows.proofs.Covers.{SoFar}
-use Rattle.changes.specs.Names.{up_to_most}
+use Rattle.changed_rows.specs.Names.{up_to_most}
 use Rattle.changes.specs.Readings.{Stays}
 use Rattle.changes.proofs.run.count_rows.Given as goal
 

@@ -4,9 +4,9 @@ use Rattle.row_json.specs.Columns.{Column, columns_of}
 use Rattle.row_json.specs.Rows.{IsLine}
 use Rattle.binlog_events.specs.declared.origin.Origin.{Origin}
 use Rattle.changes.specs.declared.error.Failure.TheVariants as failure
-use Rattle.changes.specs.declared.source.Source.{Source}
-use Rattle.changes.specs.Sources.{members_in, source_at}
-use Rattle.changes.specs.Names.{up_to_most}
+use Rattle.changed_rows.specs.declared.source.Source.{Source}
+use Rattle.changed_rows.specs.Sources.{members_in, source_at}
+use Rattle.changed_rows.specs.Names.{up_to_most}
 use Rattle.changes.specs.Failures.{IsLineFailure}
 use Rattle.changes.proofs.Pairs.{nothing_read, pair_read, ok_gives, stays, same_table, same_rows, same_origin, counted_more}
 use Rattle.changes.proofs.Rows.{line_more}

@@ -3,7 +3,7 @@ use Rattle.mysql_binlog_rows.specs.Images.{Pair, pair}
 use Rattle.mysql_binlog_rows.proofs.Covers.{SoFar}
 use Rattle.changes.specs.Readings.{Stays}
 use Rattle.changes.specs.Outputs.{Outputs}
-use Rattle.changes.specs.Names.{up_to_most}
+use Rattle.changed_rows.specs.Names.{up_to_most}
 use Rattle.changes.specs.Rows.{AreLinesBy, IsJsonLine}
 use Rattle.changes.proofs.run.write_json_rows.Given as goal
 

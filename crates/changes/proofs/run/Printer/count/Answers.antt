@@ -1,8 +1,8 @@
 use Rattle.std.proofs.Common.{◌≡◌, [], refl, inl, ap, ◌∙◌}
 use Rattle.binlog_table.specs.TableMap.{TableMap}
 use Rattle.mysql_binlog_rows.specs.RowsEvent.{RowsEvent}
-use Rattle.changes.specs.Filters.{operation_of}
-use Rattle.changes.specs.Counted.{name_of}
+use Rattle.changed_rows.specs.Filters.{operation_of}
+use Rattle.changed_rows.specs.Counted.{name_of}
 use Rattle.changes.specs.declared.error.Failure.TheVariants as failure
 use Rattle.changes.proofs.Errors.{passed_on, of_some}
 use Rattle.changes.proofs.Pairs.{nothing_read}

@@ -9,7 +9,7 @@ use Rattle.binlog_file.specs.declared.reader.EventStreamReader.{EventStreamReade
 use Rattle.binlog_file.specs.SourceChanges.{spot_at}
 use Rattle.binlog_file.specs.Workings.SourceWalks.{reading_in, kept_in}
 use Rattle.changes.specs.declared.error.Failure.TheVariants as failure
-use Rattle.changes.specs.Filters.{wanted_by}
+use Rattle.changed_rows.specs.Filters.{wanted_by}
 use Rattle.changes.specs.CountedFiles.{AreCountedToEnd, AreFirstCounted}
 use Rattle.changes.proofs.Errors.{passed_on, on_error, on_errors, if_ok}
 use Rattle.changes.proofs.Failures.{nothing_appended, all_appended}

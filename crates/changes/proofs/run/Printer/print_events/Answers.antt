@@ -7,9 +7,9 @@ use Rattle.binlog_file.specs.Workings.Readers.{kept_by}
 use Rattle.binlog_file.specs.Workings.SourceWalks.{reading_in}
 use Rattle.changes.specs.declared.error.Failure.TheVariants as failure
 use Rattle.changes.specs.declared.run.Form.{Form}
-use Rattle.changes.specs.declared.filter.Filter.{Filter}
-use Rattle.changes.specs.Names.{is_before}
-use Rattle.changes.specs.Filters.{wanted_by}
+use Rattle.changed_rows.specs.declared.filter.Filter.{Filter}
+use Rattle.changed_rows.specs.Names.{is_before}
+use Rattle.changed_rows.specs.Filters.{wanted_by}
 use Rattle.changes.specs.Readings.{SourceNext}
 use Rattle.changes.specs.Lines.{WritesEvent}
 use Rattle.changes.specs.Failures.{WritesFirstOfEvent}

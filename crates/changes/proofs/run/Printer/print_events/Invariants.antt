@@ -1,7 +1,7 @@
 use Rattle.std.proofs.Common.{◌≡◌, ℕ, List, None}
 use Rattle.binlog_file.specs.SourceChanges.{Finds, spot_at, items_left}
 use Rattle.binlog_file.specs.Workings.SourceWalks.{reading_in, kept_in}
-use Rattle.changes.specs.Filters.{wanted_by}
+use Rattle.changed_rows.specs.Filters.{wanted_by}
 use Rattle.changes.specs.Printers.{IsSame}
 use Rattle.changes.specs.declared.run.Form.TheVariants as form
 use Rattle.changes.proofs.Whole.{SoFar}

@@ -5,7 +5,7 @@ use Rattle.binlog_table.specs.TableMap.{TableMap}
 use Rattle.row_json.specs.Columns.{columns_of}
 use Rattle.changes.specs.declared.error.Failure.TheVariants as failure
 use Rattle.changes.specs.declared.run.Form.TheVariants as form
-use Rattle.changes.specs.declared.source.Source.{Source}
+use Rattle.changed_rows.specs.declared.source.Source.{Source}
 use Rattle.changes.specs.Rows.{IsJsonLine}
 use Rattle.changes.specs.Lines.{IsRowLine}
 use Rattle.changes.proofs.Errors.{passed_on, on_error}

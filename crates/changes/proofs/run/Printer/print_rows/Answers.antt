@@ -1,7 +1,7 @@
 use Rattle.std.proofs.Common.{◌≡◌, sym, ◌∙◌}
 use Rattle.changes.specs.declared.run.Form.TheVariants as form
 use Rattle.changes.proofs.Errors.{on_error, any_error}
-use Rattle.changes.proofs.Counted.{in_any_case}
+use Rattle.changed_rows.proofs.Counted.{in_any_case}
 use Rattle.changes.proofs.First.{first_counted}
 use Rattle.changes.proofs.Written.{on_ok, rows_counted}
 use Rattle.changes.proofs.run.Printer.print_rows.Goals as goal

@@ -1,0 +1,16 @@
+use Rattle.std.proofs.Common.{sym, ◌∙◌}
+use Rattle.binlog_kept.specs.Kept.{kept_at}
+use Rattle.changed_rows.proofs.Kept.{tells_as, tells_if}
+use Rattle.changed_rows.proofs.tables.KeptTables.is_stored.Goals as goal
+
+pub returns-in_ok-renew : goal.returns-in_ok-renew
+returns-in_ok-renew c =
+    let k = c.in-Some.field-0.value.now in
+    let t = c.args.event.now in
+    λ given. tells_if (kept_at c.renew.new.self c.args.key) k t (c.in_ok-renew.ensures.kept c.args.key ∙ sym c.in-Some.ensures.value) (tells_as k t (c.is_of.ensures.0 c.if-not-is_of.false))
+
+pub returns-else-is_old : goal.returns-else-is_old
+returns-else-is_old c =
+    let k = c.in-Some.field-0.value.now in
+    let t = c.args.event.now in
+    λ given. tells_if (kept_at c.args.self.now.stored c.args.key) k t (sym c.in-Some.ensures.value) (tells_as k t (c.is_of.ensures.0 c.if-not-is_of.false))

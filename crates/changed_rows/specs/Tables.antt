@@ -1,0 +1,18 @@
+-- What is kept of a table. It is a module of its own because Table is a type of the code.
+use Rattle.std.specs.Prelude.{◌≡◌, Option, Some, None}
+use Rattle.std.specs.String.{string_bytes}
+use Rattle.std.specs.Str.Lossy.{utf8_lossy}
+use Rattle.binlog_table.specs.TableMap.{TableMap}
+use Rattle.row_json.specs.Columns.{columns_of}
+use Rattle.changed_rows.specs.declared.table.Table.{Table}
+
+-- what is kept is that of the table that the event describes
+pub record Tells (t : TableMap) (k : Table) : Type 0 where
+  pub columns : k.json ≡ columns_of t
+  pub database : string_bytes k.database ≡ utf8_lossy t.database
+  pub name : string_bytes k.name ≡ utf8_lossy t.table
+
+-- something is kept, and is that of the table
+abbrev pub TellsIf : Option Table → TableMap → Type 0
+TellsIf None t = ⊥
+TellsIf (Some k) t = Tells t k

@@ -1,0 +1,12 @@
+//! Rows that changed: which of them are wanted, where they come from, how many there are, and what the
+//! events of a binlog file don't tell of them.
+#![tactic(auto)]
+
+pub mod count;
+pub mod filter;
+pub mod gtid;
+pub mod signs;
+pub mod source;
+pub mod statements;
+pub mod table;
+pub mod tables;

@@ -1,5 +1,0 @@
-use Rattle.changes.proofs.Kept.{tells_as, tells_if}
-use Rattle.changes.proofs.tables.KeptTables.is_last.Goals as goal
-
-pub returns-in-Some : goal.returns-in-Some
-returns-in-Some c = λ is. tells_if c.args.self.now.last c.in-Some.table c.args.event.now c.in-Some.is (tells_as c.in-Some.table c.args.event.now (c.is_of.ensures.0 is))

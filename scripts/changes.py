@@ -16,7 +16,7 @@ PROGRAM is the built program (crates/changes/out/changes). Each FILE is a `.bin.
 - A copy that is cut in one of its last events gives the lines before it and one message; so does one with a byte changed, if it has checksums. `--count`
   gives the numbers of these lines.
 - A copy whose event lacks the last byte of its last row gives the lines before that row, the row's number in the message, and with `--count` the
-  numbers of these lines.
+  numbers of these lines: events of one row, whose first row is faulty, and of several.
 """
 import gzip
 import json
@@ -172,8 +172,10 @@ def check_faulty_rows(program, path, rows, lines, data, folder):
     by_line = [event for event in rows for _ in event["lines"]]
     places = [at for at, *_ in events_of(data)]
     sums = 4 if data[places[1] - 5] == 1 else 0
-    several = [event for event in rows if len(event["lines"]) > 1 and ends_with_cell(event["lines"][-1])]
-    for event in several[:: max(1, len(several) // 10)]:
+    whole = [event for event in rows if event["lines"] and ends_with_cell(event["lines"][-1])]
+    single = [event for event in whole if len(event["lines"]) == 1]
+    several = [event for event in whole if len(event["lines"]) > 1]
+    for event in single[:: max(1, len(single) // 10)] + several[:: max(1, len(several) // 10)]:
         at, last = event["pos"], len(event["lines"]) - 1
         size = int.from_bytes(data[at + 9:at + 13], "little")
         raw = data[at:at + 9] + (size - 1).to_bytes(4, "little") + data[at + 13:at + size - sums - 1]

@@ -1,20 +1,12 @@
 //! Prints the rows that changed in binlog files, one line of JSON each.
 #![tactic(auto)]
 
-pub mod arguments;
-pub mod bounds;
-pub mod error;
-pub mod notes;
-pub mod output;
-pub mod progress;
-pub mod run;
-
-use arguments::{Arguments, command, usage_error};
+use change_lines::arguments::{Arguments, command, usage_error};
+use change_lines::notes::Notes;
+use change_lines::progress::Meter;
+use change_lines::run::{Ended, run};
 use changed_rows::count::Counts;
 use clap::{ArgMatches, Error};
-use notes::Notes;
-use progress::Meter;
-use run::{Ended, run};
 use std::fs::File;
 use std::io::{BufReader, ErrorKind, Stderr};
 use std::process::ExitCode;

@@ -1,0 +1,77 @@
+-- Events that are passed over.
+use Rattle.std.proofs.Common.{◌≡◌, ◌||◌, ℕ, zero, suc, Bool, true, false, List, [], ◌∷◌, ◌++◌, if◌then◌else◌, Option, None, refl, sym, subst, ◌∙◌, append-nil, inl, inr}
+use Rattle.std.specs.Prelude.{nat_eq}
+use Rattle.std.specs.Option.{is_some}
+use Rattle.std.proofs.lemmas.Bool.{eq-eqb}
+use Rattle.std.proofs.lemmas.Bool.Decides.{eqb_tells}
+use Rattle.binlog_file.specs.declared.lent_changes.LentEvent.TheVariants as lent
+use Rattle.binlog_file.specs.Events.{Event, glance_of, rows_type}
+use Rattle.binlog_file.specs.Changes.{Wanted, Spot}
+use Rattle.binlog_file.specs.Asked.{is_asked}
+use Rattle.binlog_file.specs.LentChanges.{OtherEvent}
+use Rattle.binlog_file.specs.LentEvents.{other_of, PassesOver}
+use Rattle.binlog_file.proofs.AskedFollowed.{passed_shows}
+use Rattle.change_lines.specs.declared.run.Form.{Form}
+use Rattle.changed_rows.specs.Gtids.{mysql_gtid, mariadb_gtid, gtid_after}
+use Rattle.change_lines.specs.Readings.{seen_types, Passes}
+use Rattle.change_lines.specs.Lines.{AreLines}
+use Rattle.change_lines.proofs.Events.{event_more}
+
+-- ---- the GTID stays
+
+left_false : (a b : Bool) → (a || b) ≡ false → a ≡ false
+left_false false b h = refl
+left_false true b h = absurd cc
+
+right_false : (a b : Bool) → (a || b) ≡ false → b ≡ false
+right_false false b h = h
+right_false true b h = absurd cc
+
+stays_as : {A : Type 0} (a b c d e : Bool) (x y z old : A) → a ≡ false → b ≡ false → c ≡ false → d ≡ false → e ≡ false → (if a then x else if b then y else if c || (d || e) then z else old) ≡ old
+stays_as false false false false false x y z old p q r s t = refl
+stays_as true b c d e x y z old p q r s t = absurd cc
+stays_as false true c d e x y z old p q r s t = absurd cc
+stays_as false false true d e x y z old p q r s t = absurd cc
+stays_as false false false true e x y z old p q r s t = absurd cc
+stays_as false false false false true x y z old p q r s t = absurd cc
+
+turned : (a b : ℕ) → nat_eq a b ≡ false → nat_eq b a ≡ false
+turned a b h = elim (eqb_tells b a) [ inl same ↦ absurd (let bad = sym (eq-eqb a b (sym same.1)) ∙ h in cc) | inr other ↦ other.0 ]
+
+-- an event that isn't looked at leaves the GTID as it is
+same_gtid : (old : Option (List ℕ)) (o : OtherEvent) → is_asked seen_types o.header.event_type ≡ false → gtid_after old o ≡ old
+same_gtid old o not =
+    let t = o.header.event_type in
+    let l0 = right_false (is_some (rows_type t)) _ not in
+    let mariadb = turned 0xA2 t (left_false (nat_eq 0xA2 t) _ l0) in
+    let l1 = right_false (nat_eq 0xA2 t) _ l0 in
+    let gtid = turned 0x21 t (left_false (nat_eq 0x21 t) _ l1) in
+    let l2 = right_false (nat_eq 0x21 t) _ l1 in
+    let l3 = right_false (nat_eq 0x02 t) _ l2 in
+    let description = turned 0x0F t (left_false (nat_eq 0x0F t) _ l3) in
+    let l4 = right_false (nat_eq 0x0F t) _ l3 in
+    let l5 = right_false (nat_eq 0x12 t) _ l4 in
+    let anonymous = turned 0x22 t (left_false (nat_eq 0x22 t) _ l5) in
+    let l6 = right_false (nat_eq 0x22 t) _ l5 in
+    let tagged = turned 0x2A t (left_false (nat_eq 0x2A t) _ l6) in
+    stays_as (nat_eq t 0x21) (nat_eq t 0xA2) (nat_eq t 0x0F) (nat_eq t 0x22) (nat_eq t 0x2A) (mysql_gtid o.body) (mariadb_gtid o.header.server_id o.body) None old gtid mariadb description anonymous tagged
+
+-- ---- their lines
+
+-- events that give no lines are added to the others
+over_more : (f : Form) (wanted : Wanted) (file : List ℕ) (from : Spot) (gtid : Option (List ℕ)) (es : List Event) (text : List ℕ) (mid : Spot) (here : Option (List ℕ)) (n : ℕ) (new : Spot)
+    → AreLines f wanted file from gtid es text mid here → PassesOver seen_types n mid new → (ds : List Event) × AreLines f wanted file from gtid ds text new here
+over_more f wanted file from gtid es text mid here zero new lines same = (es, subst (λ (s : Spot). AreLines f wanted file from gtid es text s here) (sym same) lines)
+over_more f wanted file from gtid es text mid here (suc n) new lines h =
+    let before = over_more f wanted file from gtid es text mid here n h.0 lines h.1 in
+    let e = h.2.0 in
+    let o = other_of (glance_of e) in
+    let more = event_more f wanted file from gtid before.0 text h.0 here e new (lent.Other o) [] before.1 h.2.1 (passed_shows wanted seen_types h.0 new h.2) refl in
+    let ds = before.0 ++ e ∷ [] in
+    let same_text = subst (λ (t : List ℕ). AreLines f wanted file from gtid ds t new (gtid_after here o)) (append-nil text) more in
+    (ds, subst (λ (g : Option (List ℕ)). AreLines f wanted file from gtid ds text new g) (same_gtid here o h.2.2) same_text)
+
+pub passed_more : (f : Form) (wanted : Wanted) (file : List ℕ) (from : Spot) (gtid : Option (List ℕ)) (es : List Event) (text : List ℕ) (mid : Spot) (here : Option (List ℕ)) (is_each : Bool) (new : Spot)
+    → AreLines f wanted file from gtid es text mid here → Passes is_each mid new → (ds : List Event) × AreLines f wanted file from gtid ds text new here
+passed_more f wanted file from gtid es text mid here true new lines same = (es, subst (λ (s : Spot). AreLines f wanted file from gtid es text s here) (sym same) lines)
+passed_more f wanted file from gtid es text mid here false new lines passes = over_more f wanted file from gtid es text mid here passes.0 new lines passes.1

@@ -1,0 +1,109 @@
+-- A file is read event by event, from its start to its end.
+use Rattle.std.proofs.Common.{◌≡◌, ◌<◌, ◌^◌, ◌+◌, ℕ, Bool, true, false, List, [], ◌∷◌, ◌++◌, length, Option, Some, None, Ok, ◌⊎◌, inl, inr, refl, sym, ap, subst, ◌∙◌, length-append, arith}
+use Rattle.std.specs.Io.KnownBytes.{Appends, Keeps, Consumes}
+use Rattle.std.proofs.KnownBytes.{Appends-trans}
+use Rattle.binlog_events.specs.declared.error.FileError.{FileError}
+use Rattle.binlog_file.specs.declared.lent_changes.LentEvent.{LentEvent}
+use Rattle.binlog_file.specs.Events.{Event, magic}
+use Rattle.binlog_file.specs.Changes.{Wanted, Spot}
+use Rattle.binlog_file.specs.Stream.{Kept, Reading, first_kept}
+use Rattle.binlog_file.specs.LentEvents.{GoesPast}
+use Rattle.binlog_file.specs.SourceChanges.{Found, Finds, spot_at}
+use Rattle.change_lines.specs.declared.run.Form.{Form}
+use Rattle.change_lines.specs.declared.run.Settings.{Settings}
+use Rattle.changed_rows.specs.declared.filter.Filter.{Filter}
+use Rattle.changed_rows.specs.Filters.{wanted_by}
+use Rattle.change_lines.specs.Outputs.{Outputs}
+use Rattle.change_lines.specs.Readings.{Passes, SourceNext}
+use Rattle.change_lines.specs.Lines.{gtid_past, AreLines, WritesEvent, IsEnd, Writes}
+use Rattle.change_lines.specs.Runs.{AreAllLines}
+use Rattle.change_lines.proofs.Events.{event_more}
+use Rattle.change_lines.proofs.Passed.{passed_more}
+use Rattle.change_lines.proofs.Outputs.{outputs_more}
+
+-- What was written so far: the lines of the events from a spot on up to the place of a reading, which finds
+-- these bytes.
+pub record SoFar (f : Form) (wanted : Wanted) (file : List ℕ) (from : Spot) (gtid : Option (List ℕ)) (out : Option (List ℕ)) (held : List ℕ) (source : Option (List ℕ)) (r : Reading) (pending : Option FileError) (here : Option (List ℕ)) (new : Option (List ℕ)) (left : List ℕ) : Type 0 where
+  pub goes_on : pending ≡ None
+  pub bytes : List ℕ
+  pub finds : Finds r source bytes
+  pub events : List Event
+  pub text : List ℕ
+  pub lines : AreLines f wanted file from gtid events text (spot_at r.kept None bytes) here
+  pub outputs : Outputs out held text new left
+
+-- one event more was read and written, perhaps after others that were passed over
+pub step : (f : Form) (wanted : Wanted) (file : List ℕ) (from : Spot) (gtid : Option (List ℕ)) (out : Option (List ℕ)) (held : List ℕ) (old : Option (List ℕ)) (r : Reading) (p : Option FileError) (here : Option (List ℕ)) (mid : Option (List ℕ)) (kept : List ℕ)
+    → SoFar f wanted file from gtid out held old r p here mid kept
+    → (is_each : Bool) (x : LentEvent) (source : Option (List ℕ)) (s : Reading) (q : Option FileError) (after : Option (List ℕ)) (new : Option (List ℕ)) (left : List ℕ)
+    → SourceNext wanted is_each old r p (Some (Ok x)) source s q → WritesEvent f file here x mid kept new left → after ≡ gtid_past here x → SoFar f wanted file from gtid out held source s q after new left
+step f wanted file from gtid out held old r p here mid kept h is_each x source s q after new left gives writes is =
+    let m = gives h.bytes h.finds in
+    let at = m.2 in
+    let passes = subst (λ (o : Option FileError). Passes is_each (spot_at r.kept o h.bytes) at) h.goes_on m.3 in
+    let passed = passed_more f wanted file from gtid h.events h.text (spot_at r.kept None h.bytes) here is_each at h.lines passes in
+    let e : Event = m.4.0 in
+    let ended : q ≡ None = m.4.1.goes_on in
+    let past = subst (λ (o : Option FileError). GoesPast at e (spot_at s.kept o m.0)) ended m.4.1 in
+    let lines = event_more f wanted file from gtid passed.0 h.text at here e (spot_at s.kept None m.0) x writes.0 passed.1 past m.4.2 writes.1 in record {
+      goes_on = ended;
+      bytes = m.0;
+      finds = m.1;
+      events = passed.0 ++ e ∷ [];
+      text = h.text ++ writes.0;
+      lines = subst (λ (g : Option (List ℕ)). AreLines f wanted file from gtid (passed.0 ++ e ∷ []) (h.text ++ writes.0) (spot_at s.kept None m.0) g) (sym is) lines;
+      outputs = outputs_more out mid new held kept left h.text writes.0 h.outputs writes.2;
+    }
+
+end_without : (at : Spot) (stop : Option ℕ) → at.place.left ≡ [] → stop ≡ None → IsEnd stop at
+end_without at stop left none = subst (λ (o : Option ℕ). IsEnd o at) (sym none) left
+
+end_with : (at : Spot) (stop : Option ℕ) (n : ℕ) → at.place.at ≡ n → stop ≡ Some n → IsEnd stop at
+end_with at stop n is some = subst (λ (o : Option ℕ). IsEnd o at) (sym some) is
+
+pub is_end_at : (is_each : Bool) (stop : Option ℕ) (old at : Spot) → Passes is_each old at → at.place.left ≡ [] → (is_each ≡ false → stop ≡ None) → (stop ≡ None) ⊎ (stop ≡ Some old.place.at) → IsEnd stop at
+is_end_at true stop old at same left whole stops = elim stops [ inl none ↦ end_without at stop left none | inr some ↦ end_with at stop old.place.at (ap (λ (s : Spot). s.place.at) same) some ]
+is_end_at false stop old at passes left whole stops = end_without at stop left (whole refl)
+
+-- no event is left, perhaps after others that were passed over
+pub ended : (f : Form) (wanted : Wanted) (file : List ℕ) (stop : Option ℕ) (from : Spot) (gtid : Option (List ℕ)) (out : Option (List ℕ)) (held : List ℕ) (old : Option (List ℕ)) (r : Reading) (p : Option FileError) (here : Option (List ℕ)) (mid : Option (List ℕ)) (kept : List ℕ)
+    → SoFar f wanted file from gtid out held old r p here mid kept
+    → (is_each : Bool) (source : Option (List ℕ)) (s : Reading) (q : Option FileError) → SourceNext wanted is_each old r p None source s q
+    → (is_each ≡ false → stop ≡ None) → (stop ≡ None) ⊎ (stop ≡ Some r.kept.at) → Writes f wanted file stop from gtid out held mid kept
+ended f wanted file stop from gtid out held old r p here mid kept h is_each source s q gives whole stops =
+    let m = gives h.bytes h.finds in
+    let at = m.2 in
+    let passes = subst (λ (o : Option FileError). Passes is_each (spot_at r.kept o h.bytes) at) h.goes_on m.3 in
+    let passed = passed_more f wanted file from gtid h.events h.text (spot_at r.kept None h.bytes) here is_each at h.lines passes in record {
+      events = passed.0;
+      text = h.text;
+      end = at;
+      after = here;
+      lines = passed.1;
+      is_end = is_end_at is_each stop (spot_at r.kept None h.bytes) at passes m.4.1 whole stops;
+      outputs = h.outputs;
+    }
+
+appends_kept : (a b d : Option (List ℕ)) (t : List ℕ) → Appends a b t → Keeps b d → Appends a d t
+appends_kept None b d t p q = tt
+appends_kept (Some x) None d t p q = absurd p
+appends_kept (Some x) (Some y) None t p q = absurd q
+appends_kept (Some x) (Some y) (Some z) t p q = q ∙ p
+
+-- the lines of a whole file were written
+pub whole : (settings : Settings) (choice : Filter) (file x : List ℕ) (source : Option (List ℕ)) (r : Reading) (gtid : Option (List ℕ)) (a b d e : Option (List ℕ)) (held left : List ℕ)
+    → Consumes (Some x) source magic → r.kept ≡ first_kept → r.is_over ≡ false → length x < 2 ^ 64 → choice ≡ settings.filter → held ≡ [] → gtid ≡ None
+    → ((y : List ℕ) → Finds r source y → Writes settings.form (wanted_by choice) file settings.filter.positions.stop (spot_at r.kept None y) gtid a held b left)
+    → Appends b d left → Keeps d e → (text : List ℕ) × AreAllLines settings file x text × Appends a e text
+whole settings choice file x None r gtid a b d e held left consumes kept on small chosen empty none writes written flushed = absurd consumes
+whole settings choice file x (Some y) r gtid a b d e held left consumes kept on small chosen empty none writes written flushed =
+    let fits : r.kept.at + length y < 2 ^ 64 = omega (arith, ap (λ (k : Kept). k.at) kept, ap length consumes, length-append magic y, small) in
+    let w = writes y (subst (λ (o : Bool). Found o r.kept.at (Some y) y) (sym on) (refl, fits)) in
+    let f = settings.form in
+    let lines1 = subst (λ (c : Filter). AreLines f (wanted_by c) file (spot_at r.kept None y) gtid w.events w.text w.end w.after) chosen w.lines in
+    let lines2 = subst (λ (k : Kept). AreLines f (wanted_by settings.filter) file (spot_at k None y) gtid w.events w.text w.end w.after) kept lines1 in
+    let lines3 = subst (λ (g : Option (List ℕ)). AreLines f (wanted_by settings.filter) file (spot_at first_kept None y) g w.events w.text w.end w.after) none lines2 in
+    let all = Appends-trans a b d w.outputs.0 left w.outputs.1 written in
+    let out = subst (λ (t : List ℕ). Appends a d t) (sym w.outputs.2 ∙ ap (λ (t : List ℕ). t ++ w.text) empty) all in
+    subst (λ (t : List ℕ). (text : List ℕ) × AreAllLines settings file t text × Appends a e text) (sym consumes)
+    (w.text, record { magic = refl; events = w.events; end = w.end; gtid = w.after; lines = lines3; is_end = w.is_end }, appends_kept a d e w.text out flushed)

@@ -1,0 +1,35 @@
+use Rattle.std.proofs.Common.{◌≡◌, sym, ◌∙◌}
+use Rattle.change_lines.specs.declared.run.Form.TheVariants as form
+use Rattle.change_lines.proofs.Errors.{on_error, any_error}
+use Rattle.changed_rows.proofs.Counted.{in_any_case}
+use Rattle.change_lines.proofs.First.{first_counted}
+use Rattle.change_lines.proofs.Written.{on_ok, rows_counted}
+use Rattle.change_lines.proofs.run.Printer.print_rows.Goals as goal
+
+pub returns-in-Count-clause-lines : goal.returns-in-Count-clause-lines
+returns-in-Count-clause-lines g c =
+    let s = c.args.self.now in
+    on_ok c.count.result _ _ (λ k. rows_counted s.settings.now.form s.file.now s.gtid c.args.change (g.O.Write.contents c.args.out.now) s.lines.bytes.items c.in-Count.is k.0 k.1) c.count.ensures.covers
+
+pub returns-in-Count-clause-first : goal.returns-in-Count-clause-first
+returns-in-Count-clause-first g c =
+    let s = c.args.self.now in
+    on_error c.count.result _ _ (first_counted s.settings.now.form s.file.now s.gtid c.args.change (g.O.Write.contents c.args.out.now) s.lines.bytes.items c.in-Count.is) c.count.ensures.first
+
+pub returns-in-Count-clause-counts : goal.returns-in-Count-clause-counts
+returns-in-Count-clause-counts g c = on_ok c.count.result _ _ (λ counts same. counts) c.count.ensures.counts
+
+pub returns-in-Count-clause-first_counts : goal.returns-in-Count-clause-first_counts
+returns-in-Count-clause-first_counts g c = on_error c.count.result _ _ (λ why counts same. counts) c.count.ensures.first_counts
+
+pub returns-in-Json-clause-counts : goal.returns-in-Json-clause-counts
+returns-in-Json-clause-counts g c = in_any_case c.print_json.result _ (λ same. absurd (let bad : form.Json ≡ form.Count = sym c.in-Json.is ∙ same in cc))
+
+pub returns-in-Json-clause-first_counts : goal.returns-in-Json-clause-first_counts
+returns-in-Json-clause-first_counts g c = any_error c.print_json.result _ (λ why same. absurd (let bad : form.Json ≡ form.Count = sym c.in-Json.is ∙ same in cc))
+
+pub returns-in-Text-clause-counts : goal.returns-in-Text-clause-counts
+returns-in-Text-clause-counts g c = in_any_case c.print_text.result _ (λ same. absurd (let bad : form.Text ≡ form.Count = sym c.in-Text.is ∙ same in cc))
+
+pub returns-in-Text-clause-first_counts : goal.returns-in-Text-clause-first_counts
+returns-in-Text-clause-first_counts g c = any_error c.print_text.result _ (λ why same. absurd (let bad : form.Text ≡ form.Count = sym c.in-Text.is ∙ same in cc))

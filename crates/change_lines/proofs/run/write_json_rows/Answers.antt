@@ -1,0 +1,116 @@
+use Rattle.std.proofs.Common.{◌≡◌, ℕ, List, [], ◌∷◌, ◌++◌, length, refl, ◌∙◌, subst, arith, length-append, ap}
+use Rattle.mysql_binlog_rows.specs.RowsEvent.{RowsEvent}
+use Rattle.row_json.specs.Columns.{Column, columns_of}
+use Rattle.row_json.specs.Rows.{IsLine}
+use Rattle.binlog_events.specs.declared.origin.Origin.{Origin}
+use Rattle.change_lines.specs.declared.error.Failure.TheVariants as failure
+use Rattle.changed_rows.specs.declared.source.Source.{Source}
+use Rattle.changed_rows.specs.Sources.{members_in, source_at}
+use Rattle.changed_rows.specs.Names.{up_to_most}
+use Rattle.change_lines.specs.Failures.{IsLineFailure}
+use Rattle.change_lines.proofs.Pairs.{nothing_read, pair_read, ok_gives, stays, same_table, same_rows, same_origin, counted_more}
+use Rattle.change_lines.proofs.Rows.{line_more}
+use Rattle.change_lines.proofs.Errors.{passed_on}
+use Rattle.change_lines.proofs.Failures.{up_to_more, up_to_line, not_at_row, output_not_file}
+use Rattle.change_lines.proofs.First.{rows_so_far, err_gives, row_error, line_error}
+use Rattle.change_lines.proofs.Outputs.{outputs_nothing, outputs_line, outputs_more}
+use Rattle.change_lines.proofs.run.write_json_rows.Goals as goal
+
+pub loop-read-init : goal.loop-read-init
+loop-read-init g c =
+    let e = c.args.change in
+    (record { walk = refl; source = refl; choice = refl }, refl, refl, [], [], nothing_read e.table e.rows e.left, refl, refl, outputs_nothing (g.O.Write.contents c.args.out.now) c.args.lines.now.bytes.items, refl, omega arith)
+
+pub loop-read-preserved : goal.loop-read-preserved
+loop-read-preserved g c =
+    let h = c.loop-read.invariant in
+    let e = c.args.change in
+    let old = c.loop-read.change in
+    let new = c.next_pair.new.change in
+    let p = c.next_pair.new.pair in
+    let u = c.in_ok-read.field-0 in
+    let gives = ok_gives old new p c.in-Some.read u c.in_ok-read.was c.in-Some.ensures.pair in
+    let added = c.in_ok-add_json.ensures.line in
+    let line = added.0 in
+    let cs = c.args.table.now in
+    let source = c.args.source.now in
+    let is = subst (λ (x : RowsEvent). IsLine cs x (members_in (source_at source (up_to_most (length h.3)))) p line) (c.rows.ensures ∙ same_rows old new p u gives ∙ h.2)
+    (subst (λ (n : ℕ). IsLine cs c.rows.result.now (members_in (source_at source n)) p line) h.7
+    (subst (λ (s : Source). IsLine cs c.rows.result.now (members_in s) p line) c.at.ensures added.1)) in
+    let out = outputs_line (g.O.Write.contents c.loop-read.out) (g.O.Write.contents c.write_if_full.new.out) c.loop-read.lines.bytes.items line c.add_json.new.self.bytes.items c.write_if_full.new.self.bytes.items added.2 c.in_ok-write_if_full.ensures.all in (
+      record {
+        walk = stays _ c.in-Some.read u _ _ c.in_ok-read.was c.in-Some.ensures.reading ∙ h.0.walk;
+        source = c.in-Some.ensures.source ∙ h.0.source;
+        choice = c.in-Some.ensures.choice ∙ h.0.choice;
+      },
+      same_table old new p u gives ∙ h.1,
+      same_rows old new p u gives ∙ h.2,
+      h.3 ++ p ∷ [],
+      h.4 ++ line,
+      pair_read e.table e.rows e.left h.3 old new p u h.1 h.2 h.5 gives,
+      line_more _ 0 h.3 h.4 p line (length h.3) h.6 (omega arith) is,
+      omega (arith, c.saturating_add-row.ensures, h.7, length-append h.3 (p ∷ [])),
+      outputs_more _ _ _ _ c.loop-read.lines.bytes.items _ h.4 line h.8 out,
+      same_origin old new p u gives ∙ h.9,
+      counted_more e old new h.3 p u gives h.10,
+    )
+
+pub returns-in_err-read-clause-first : goal.returns-in_err-read-clause-first
+returns-in_err-read-clause-first g c =
+    let h = c.loop-read.invariant in
+    let e = c.args.change in
+    let old = c.loop-read.change in
+    let p = c.next_pair.new.pair in
+    let error = c.in_err-read.field-0.0 in
+    let gives = err_gives old c.next_pair.new.change p c.in-Some.read error c.in_err-read.was c.in-Some.ensures.pair in
+    let fails = row_error e old c.next_pair.new.change (length h.3) p error h.1 h.2 h.9 h.10 gives in
+    λ same columns. passed_on _ (failure.File error) _ c.from_residual.ensures.1 (rows_so_far (failure.File error) _ e _ _ _ c.loop-read.lines.bytes.items _ h.3 old.left h.4 h.5 h.6 h.8 refl fails)
+
+pub returns-in_err-add_json-clause-first : goal.returns-in_err-add_json-clause-first
+returns-in_err-add_json-clause-first g c =
+    let h = c.loop-read.invariant in
+    let e = c.args.change in
+    let old = c.loop-read.change in
+    let new = c.next_pair.new.change in
+    let p = c.next_pair.new.pair in
+    let u = c.in_ok-read.field-0 in
+    let gives = ok_gives old new p c.in-Some.read u c.in_ok-read.was c.in-Some.ensures.pair in
+    let why = c.in_err-add_json.field-0.0 in λ same columns.
+    let origin : c.at.result.origin ≡ e.origin = ap (λ (s : Source). s.origin) c.at.ensures ∙ same in
+    let cs = c.args.table.now in
+    let rows = c.rows.ensures ∙ same_rows old new p u gives ∙ h.2 in
+    let number : c.at.result.row ≡ up_to_most (length h.3) = ap (λ (s : Source). s.row) c.at.ensures ∙ h.7 in
+    let failed1 = subst (λ (o : Origin). IsLineFailure cs c.rows.result.now o.position c.at.result.row p why) origin c.in_err-add_json.ensures.failed in
+    let failed2 = subst (λ (d : RowsEvent). IsLineFailure cs d e.origin.position c.at.result.row p why) rows failed1 in
+    let failed3 = subst (λ (k : List Column). IsLineFailure k e.rows e.origin.position c.at.result.row p why) columns failed2 in
+    let failed = subst (λ (n : ℕ). IsLineFailure (columns_of e.table) e.rows e.origin.position n p why) number failed3 in
+    let fails = line_error e old new (length h.3) p u why h.1 h.2 gives failed in
+    passed_on _ why _ c.from_residual-in_err-add_json.ensures.1 (rows_so_far why _ e _ _ _ c.loop-read.lines.bytes.items _ h.3 old.left h.4 h.5 h.6 h.8 c.in_err-add_json.ensures.kept fails)
+
+pub returns-in_err-write_if_full-clause-first : goal.returns-in_err-write_if_full-clause-first
+returns-in_err-write_if_full-clause-first g c =
+    let h = c.loop-read.invariant in
+    let e = c.args.change in
+    let old = c.loop-read.change in
+    let new = c.next_pair.new.change in
+    let p = c.next_pair.new.pair in
+    let u = c.in_ok-read.field-0 in
+    let gives = ok_gives old new p c.in-Some.read u c.in_ok-read.was c.in-Some.ensures.pair in
+    let added = c.in_ok-add_json.ensures.line in
+    let line = added.0 in
+    let cs = c.args.table.now in
+    let source = c.args.source.now in
+    let is = subst (λ (x : RowsEvent). IsLine cs x (members_in (source_at source (up_to_most (length h.3)))) p line) (c.rows.ensures ∙ same_rows old new p u gives ∙ h.2)
+    (subst (λ (n : ℕ). IsLine cs c.rows.result.now (members_in (source_at source n)) p line) h.7
+    (subst (λ (s : Source). IsLine cs c.rows.result.now (members_in s) p line) c.at.ensures added.1)) in
+    let why = c.in_err-write_if_full.field-0.0 in
+    let out = up_to_line why _ _ c.loop-read.lines.bytes.items line c.add_json.new.self.bytes.items c.write_if_full.new.self.bytes.items added.2 c.in_err-write_if_full.ensures.first in
+    λ same columns. passed_on _ why _ c.from_residual-in_err-write_if_full.ensures.1 (record {
+      pairs = h.3 ++ p ∷ [];
+      rest = new.left;
+      text = h.4 ++ line;
+      begins = pair_read e.table e.rows e.left h.3 old new p u h.1 h.2 h.5 gives;
+      lines = line_more _ 0 h.3 h.4 p line (length h.3) h.6 (omega arith) is;
+      ends = not_at_row why e (length (h.3 ++ p ∷ [])) new.left (output_not_file why c.in_err-write_if_full.ensures.failed);
+      outputs = up_to_more why _ _ _ _ c.loop-read.lines.bytes.items _ h.4 line h.8 out;
+    })

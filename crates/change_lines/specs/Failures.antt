@@ -1,0 +1,148 @@
+-- What was written where a run ends early. It is a module of its own because Failure is a type of the code.
+use Rattle.std.specs.Prelude.{◌≡◌, ◌≢◌, ◌⊎◌, ◌+◌, ℕ, List, [], ◌++◌, length, Option, Some, Result, Ok, Err, ⊤}
+use Rattle.std.specs.Io.KnownBytes.{Appends}
+use Rattle.binlog_base.specs.declared.fault.Fault.{Fault}
+use Rattle.binlog_base.specs.declared.fault.Fault.TheVariants as fault
+use Rattle.mysql_binlog_rows.specs.RowsEvent.{RowsEvent}
+use Rattle.mysql_binlog_rows.specs.Images.{Pair, pair}
+use Rattle.mysql_binlog_rows.specs.Cover.{IsPair, EndsWith}
+use Rattle.binlog_events.specs.declared.error.EventError.TheVariants as error
+use Rattle.binlog_events.specs.declared.error.FileError.{FileError}
+use Rattle.binlog_file.specs.Events.{Event, glance_of}
+use Rattle.binlog_file.specs.Changes.{Wanted, Spot, IsMemory}
+use Rattle.binlog_file.specs.Stream.{IsOutside, NoHeader}
+use Rattle.binlog_file.specs.LentChanges.{LentChange}
+use Rattle.binlog_file.specs.LentEvents as Events
+use Rattle.binlog_file.specs.LentEvents.{Shows, GoesPast}
+use Rattle.binlog_file.specs.declared.lent_changes.LentEvent.{LentEvent}
+use Rattle.binlog_file.specs.declared.lent_changes.LentEvent.TheVariants as lent
+use Rattle.row_json.specs.Columns.{Column, columns_of}
+use Rattle.row_json.specs.Faults.{IsFaultOfPair}
+use Rattle.change_lines.specs.declared.error.Failure.{Failure}
+use Rattle.change_lines.specs.declared.error.Failure.TheVariants as failure
+use Rattle.change_lines.specs.declared.run.Form.{Form}
+use Rattle.changed_rows.specs.Names.{up_to_most}
+use Rattle.change_lines.specs.Rows.{AreLinesBy, BeginsWith}
+use Rattle.change_lines.specs.Lines.{AreRowLines, AreLines}
+
+-- ---- what a failure is of
+
+-- the output failed
+abbrev pub IsOutput : Failure → Type 0
+IsOutput (failure.Output e) = ⊤
+IsOutput _ = ⊥
+
+-- it is no error of the file
+abbrev pub IsNotOfFile : Failure → Type 0
+IsNotOfFile (failure.File e) = ⊥
+IsNotOfFile _ = ⊤
+
+-- the row at the start of this rest can't be read
+abbrev pub IsUnreadable : LentChange → List ℕ → Fault → Type 0
+IsUnreadable c rest f = EndsWith (pair c.table c.rows) rest (Some f)
+
+-- the row at the start of this rest can't be written: its first faulty document is this
+abbrev pub IsUnwritable : LentChange → List ℕ → Fault → Type 0
+IsUnwritable c rest f = (x more : List ℕ) × (p : Pair) × (rest ≡ x ++ more) × IsPair (pair c.table c.rows) x p × IsFaultOfPair (columns_of c.table) c.rows p f
+
+-- The error of the row of an event that comes after n others, with which this rest begins; or that memory was
+-- refused. The error has the row's number: how many rows of the event are before it. (Before the n rows there
+-- are c.count, none where the event is one that a reading gives.)
+abbrev pub IsErrorOfRow : LentChange → ℕ → List ℕ → FileError → Type 0
+IsErrorOfRow c n rest e =
+    (e.position ≡ c.origin.position)
+    × (IsMemory e.error ⊎ ((f : Fault) × ((IsUnreadable c rest f × (e.error ≡ error.RowsData (c.count + n) f)) ⊎ (IsUnwritable c rest f × (e.error ≡ error.RowsData (up_to_most n) f)))))
+
+-- an error of the file is that of the row of an event that comes after n others, with which this rest begins
+abbrev pub EndsAtRow : Failure → LentChange → ℕ → List ℕ → Type 0
+EndsAtRow (failure.File e) c n rest = IsErrorOfRow c n rest e
+EndsAtRow _ c n rest = ⊤
+
+-- an error of the file is that of the event at a spot, or isn't the bytes'
+abbrev pub EndsAtEvent : Failure → Wanted → Spot → Type 0
+EndsAtEvent (failure.File e) wanted at = IsOutside e.error ⊎ Events.EndsWith wanted at.place at.in_force at.pending e
+EndsAtEvent _ wanted at = ⊤
+
+-- an error of the file is that it is no binlog file, or isn't the bytes'
+abbrev pub EndsAtHeader : Failure → List ℕ → Type 0
+EndsAtHeader (failure.File e) x = NoHeader (Some x) e
+EndsAtHeader _ x = ⊤
+
+-- ---- the lines before a failure
+
+-- A rows event that is wanted gives the lines of its first rows, up to the failure; any other event gives
+-- none.
+abbrev pub AreFirstOfEvent : Failure → Form → List ℕ → Option (List ℕ) → LentEvent → List ℕ → Type 0
+AreFirstOfEvent why f file gtid (lent.Other o) text = (text ≡ []) × IsNotOfFile why
+AreFirstOfEvent why f file gtid (lent.Rows c) text =
+    (ps : List Pair) × (rest : List ℕ) × BeginsWith (pair c.table c.rows) c.left ps rest × AreRowLines f file gtid c 0 ps text × EndsAtRow why c (length ps) rest
+
+-- no lines, where the event at a spot fails; or those of the first rows of this event, up to the failure
+abbrev pub AreFirstOfNext : Failure → Form → Wanted → List ℕ → Spot → Option (List ℕ) → List ℕ → Type 0
+AreFirstOfNext why f wanted file at gtid text =
+    ((text ≡ []) × EndsAtEvent why wanted at)
+    ⊎ ((e : Event) × (new : Spot) × GoesPast at e new × (x : LentEvent) × Shows wanted new.in_force.tables (glance_of e) x × AreFirstOfEvent why f file gtid x text)
+
+-- Lines of a file from a spot on, up to a failure: those of some events that are read one after the other,
+-- and then those of some first rows of the next one.
+pub record AreFirst (why : Failure) (f : Form) (wanted : Wanted) (file : List ℕ) (from : Spot) (gtid : Option (List ℕ)) (text : List ℕ) : Type 0 where
+  pub events : List Event
+  pub front : List ℕ
+  pub at : Spot
+  pub here : Option (List ℕ)
+  pub rows : List ℕ
+  pub lines : AreLines f wanted file from gtid events front at here
+  pub next : AreFirstOfNext why f wanted file at here rows
+  pub whole : text ≡ front ++ rows
+
+-- ---- what was written
+
+-- what is lost of a text that was to be written: nothing, unless the output failed
+abbrev pub IsLost : Failure → List ℕ → Type 0
+IsLost (failure.Output e) lost = ⊤
+IsLost _ lost = lost ≡ []
+
+-- the same for a run that may have ended early
+abbrev pub IsLostBy : {A : Type 0} → Result A Failure → List ℕ → Type 0
+IsLostBy (Ok _) lost = lost ≡ []
+IsLostBy (Err why) lost = IsLost why lost
+
+-- A text was written as by Outputs, or a beginning of it if the output failed.
+abbrev pub OutputsUpTo : Failure → Option (List ℕ) → List ℕ → List ℕ → Option (List ℕ) → List ℕ → Type 0
+OutputsUpTo why old held text new left = (written lost : List ℕ) × Appends old new written × (held ++ text ≡ written ++ (left ++ lost)) × IsLost why lost
+
+-- a text was appended to the output, or a beginning of it if the output failed
+abbrev pub AppendsUpTo : Failure → Option (List ℕ) → Option (List ℕ) → List ℕ → Type 0
+AppendsUpTo why old new text = (written lost : List ℕ) × Appends old new written × (text ≡ written ++ lost) × IsLost why lost
+
+-- Some first rows of an event were read, and each was written as such a line.
+pub record WritesFirstRows (why : Failure) (Is : ℕ → Pair → List ℕ → Type 0) (c : LentChange) (old : Option (List ℕ)) (held : List ℕ) (new : Option (List ℕ)) (left : List ℕ) : Type 0 where
+  pub pairs : List Pair
+  pub rest : List ℕ
+  pub text : List ℕ
+  pub begins : BeginsWith (pair c.table c.rows) c.left pairs rest
+  pub lines : AreLinesBy Is 0 pairs text
+  pub ends : EndsAtRow why c (length pairs) rest
+  pub outputs : OutputsUpTo why old held text new left
+
+-- The lines of some first rows of an event were written.
+abbrev pub WritesFirstOfEvent : Failure → Form → List ℕ → Option (List ℕ) → LentEvent → Option (List ℕ) → List ℕ → Option (List ℕ) → List ℕ → Type 0
+WritesFirstOfEvent why f file gtid x old held new left = (text : List ℕ) × AreFirstOfEvent why f file gtid x text × OutputsUpTo why old held text new left
+
+-- Lines of a file from a spot on were written.
+abbrev pub WritesFirst : Failure → Form → Wanted → List ℕ → Spot → Option (List ℕ) → Option (List ℕ) → List ℕ → Option (List ℕ) → List ℕ → Type 0
+WritesFirst why f wanted file from gtid old held new left = (text : List ℕ) × AreFirst why f wanted file from gtid text × OutputsUpTo why old held text new left
+
+-- ---- what the functions give
+
+-- the failure at a row with a fault
+abbrev pub IsRowFailure : ℕ → ℕ → Fault → Failure → Type 0
+IsRowFailure at row f (failure.File e) = (f ≢ fault.Memory) × (e.position ≡ at) × (e.error ≡ error.RowsData row f)
+IsRowFailure at row f failure.Memory = ⊤
+IsRowFailure at row f _ = ⊥
+
+-- the line of the row of this number in the event at a position can't be made
+abbrev pub IsLineFailure : List Column → RowsEvent → ℕ → ℕ → Pair → Failure → Type 0
+IsLineFailure cs rows at row p (failure.File e) = (e.position ≡ at) × (f : Fault) × IsFaultOfPair cs rows p f × (e.error ≡ error.RowsData row f)
+IsLineFailure cs rows at row p failure.Memory = ⊤
+IsLineFailure cs rows at row p _ = ⊥

@@ -1,0 +1,79 @@
+-- The lines of a file's rows.
+use Rattle.std.specs.Prelude.{◌≡◌, ℕ, List, [], ◌∷◌, ◌++◌, codes, decimal, Option, None, MatchOption}
+use Rattle.std.specs.Str.Lossy.{utf8_lossy}
+use Rattle.binlog_table.specs.TableMap.{TableMap}
+use Rattle.mysql_binlog_rows.specs.Images.{Pair, pair}
+use Rattle.mysql_binlog_rows.specs.Cover.{Covers}
+use Rattle.binlog_file.specs.Events.{Event, glance_of}
+use Rattle.binlog_file.specs.Changes.{Wanted, Spot}
+use Rattle.binlog_file.specs.LentChanges.{LentChange}
+use Rattle.binlog_file.specs.LentEvents.{Shows, GoesPast}
+use Rattle.binlog_file.specs.declared.lent_changes.LentEvent.{LentEvent}
+use Rattle.binlog_file.specs.declared.lent_changes.LentEvent.TheVariants as lent
+use Rattle.row_json.specs.Columns.{columns_of}
+use Rattle.row_json.specs.Rows.{IsLine}
+use Rattle.row_lines.specs.Lines.{signed_line_text}
+use Rattle.change_lines.specs.declared.run.Form.{Form}
+use Rattle.change_lines.specs.declared.run.Form.TheVariants as form
+use Rattle.changed_rows.specs.Names.{up_to_most}
+use Rattle.changed_rows.specs.Gtids.{gtid_after}
+use Rattle.changed_rows.specs.Origins.{member_of_row}
+use Rattle.change_lines.specs.Outputs.{Outputs}
+use Rattle.change_lines.specs.Rows.{AreLinesBy}
+
+-- ---- the rows of an event
+
+-- `FILE:POS db.table `, with which a line of text begins
+abbrev pub place_text : List ℕ → ℕ → TableMap → List ℕ
+place_text file at t = file ++ (codes ":" ++ (decimal at ++ (codes " " ++ (utf8_lossy t.database ++ (codes "." ++ (utf8_lossy t.table ++ codes " "))))))
+
+-- the line of the row of this number in the event
+abbrev pub IsRowLine : Form → List ℕ → Option (List ℕ) → LentChange → ℕ → Pair → List ℕ → Type 0
+IsRowLine form.Json file gtid c row p line = IsLine (columns_of c.table) c.rows (member_of_row file gtid c.origin c.table (up_to_most row)) p line
+IsRowLine form.Text file gtid c row p line = line ≡ place_text file c.origin.position c.table ++ signed_line_text p
+IsRowLine form.Count file gtid c row p line = line ≡ []
+
+-- the lines of these rows, of which the first has this number
+abbrev pub AreRowLines : Form → List ℕ → Option (List ℕ) → LentChange → ℕ → List Pair → List ℕ → Type 0
+AreRowLines f file gtid c = AreLinesBy (IsRowLine f file gtid c)
+
+-- ---- the events of a file
+
+-- a rows event that is wanted gives the lines of all its rows, any other event none
+abbrev pub AreEventLines : Form → List ℕ → Option (List ℕ) → LentEvent → List ℕ → Type 0
+AreEventLines f file gtid (lent.Other o) text = text ≡ []
+AreEventLines f file gtid (lent.Rows c) text = (ps : List Pair) × Covers (pair c.table c.rows) c.left ps None × AreRowLines f file gtid c 0 ps text
+
+-- the GTID that is in force after an event
+abbrev pub gtid_past : Option (List ℕ) → LentEvent → Option (List ℕ)
+gtid_past old (lent.Rows c) = old
+gtid_past old (lent.Other o) = gtid_after old o
+
+-- the reading ends at the stop position, or, without one, where no bytes are left
+abbrev pub IsEnd : Option ℕ → Spot → Type 0
+IsEnd stop s = MatchOption stop (s.place.left ≡ []) (λ n. s.place.at ≡ n)
+
+-- Events that are read one after the other from a spot on, where this GTID is in force, up to another, and
+-- their lines.
+abbrev pub AreLines : Form → Wanted → List ℕ → Spot → Option (List ℕ) → List Event → List ℕ → Spot → Option (List ℕ) → Type 0
+AreLines f wanted file old gtid [] text new after = (new ≡ old) × (after ≡ gtid) × (text ≡ [])
+AreLines f wanted file old gtid (e ∷ es) text new after =
+    (mid : Spot) × GoesPast old e mid
+    × (x : LentEvent) × Shows wanted mid.in_force.tables (glance_of e) x
+    × (first more : List ℕ) × AreEventLines f file gtid x first
+    × AreLines f wanted file mid (gtid_past gtid x) es more new after
+    × (text ≡ first ++ more)
+
+-- What an event gives was written.
+abbrev pub WritesEvent : Form → List ℕ → Option (List ℕ) → LentEvent → Option (List ℕ) → List ℕ → Option (List ℕ) → List ℕ → Type 0
+WritesEvent f file gtid x old held new left = (text : List ℕ) × AreEventLines f file gtid x text × Outputs old held text new left
+
+-- What is printed of a file from a spot on, up to its end or the stop position, was written.
+pub record Writes (f : Form) (wanted : Wanted) (file : List ℕ) (stop : Option ℕ) (from : Spot) (gtid : Option (List ℕ)) (old : Option (List ℕ)) (held : List ℕ) (new : Option (List ℕ)) (left : List ℕ) : Type 0 where
+  pub events : List Event
+  pub text : List ℕ
+  pub end : Spot
+  pub after : Option (List ℕ)
+  pub lines : AreLines f wanted file from gtid events text end after
+  pub is_end : IsEnd stop end
+  pub outputs : Outputs old held text new left

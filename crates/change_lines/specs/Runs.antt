@@ -1,0 +1,34 @@
+-- What a run prints. It is a module of its own because Settings is a type of the code.
+use Rattle.std.specs.Prelude.{◌≡◌, ◌⊎◌, ℕ, true, List, [], Option, None}
+use Rattle.binlog_file.specs.Events.{Event, is_binlog}
+use Rattle.binlog_file.specs.Changes.{Spot, first_spot}
+use Rattle.change_lines.specs.declared.error.Failure.{Failure}
+use Rattle.change_lines.specs.declared.run.Settings.{Settings}
+use Rattle.change_lines.specs.declared.run.Ended.{Ended}
+use Rattle.change_lines.specs.declared.run.Ended.TheVariants as ended
+use Rattle.changed_rows.specs.Filters.{wanted_by}
+use Rattle.change_lines.specs.Lines.{AreLines, IsEnd}
+use Rattle.change_lines.specs.Failures.{EndsAtHeader, AreFirst}
+
+-- These are all lines of a file of this name and these bytes: those of the events from its beginning up to
+-- its end or the stop position, each of which is read without an error.
+pub record AreAllLines (settings : Settings) (file : List ℕ) (x : List ℕ) (text : List ℕ) : Type 0 where
+  pub magic : is_binlog x ≡ true
+  pub events : List Event
+  pub end : Spot
+  pub gtid : Option (List ℕ)
+  pub lines : AreLines settings.form (wanted_by settings.filter) file (first_spot x) None events text end gtid
+  pub is_end : IsEnd settings.filter.positions.stop end
+
+-- These are first lines of a file of this name and these bytes, up to a failure: none, where it is no binlog
+-- file; or those of some first events, each of which is read without an error, and then those of some first
+-- rows of the next one. Rows of events past the stop position aren't wanted, so that no line is theirs.
+abbrev pub AreFirstLines : Failure → Settings → List ℕ → List ℕ → List ℕ → Type 0
+AreFirstLines why settings file x text =
+    ((text ≡ []) × EndsAtHeader why x)
+    ⊎ ((is_binlog x ≡ true) × AreFirst why settings.form (wanted_by settings.filter) file (first_spot x) None text)
+
+-- the exit status: 1 if an error was told
+abbrev pub status_of : Ended → ℕ
+status_of ended.Failed = 1
+status_of _ = 0

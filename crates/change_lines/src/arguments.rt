@@ -1,0 +1,230 @@
+//! The arguments of the program.
+
+ghost use Rattle.std.specs.Prelude.{◌≡◌, ℕ, List, Some, None, codes};
+ghost use Rattle.clap.specs.Matches.{found_of, one_text, ReadsOne};
+ghost use Rattle.change_lines.specs.Arguments.{form_of, settings_of, starts_after_stop, texts, values_of};
+ghost use Rattle.change_lines.specs.Arguments.{IsFlag, AreArguments};
+
+use crate::run::{Form, Settings};
+use changed_rows::filter::{Filter, Operations, Positions, TableNames};
+use clap::builder::ValueParser;
+use clap::error::ErrorKind;
+use clap::{Arg, ArgAction, ArgMatches, Command, Error, value_parser};
+use std::alloc::{AllocError, Global};
+use std::str::FromStr;
+
+/// The names of the operations.
+static OPERATIONS: [&str; 3] = ["c", "u", "d"];
+
+// An option with a value, which may be given several times.
+fn repeated<'a>(alloc: Global, name: &'a str, value: &'a str, help: &'a str) -> Arg<'a> {
+    Arg::new(alloc, name)
+        .long(name)
+        .value_name(value)
+        .action(ArgAction::Append)
+        .help(help)
+}
+
+// An option with a position.
+fn position<'a>(alloc: Global, name: &'a str, help: &'a str) -> Arg<'a> {
+    Arg::new(alloc, name)
+        .long(name)
+        .value_name("N")
+        .value_parser(value_parser!(u64))
+        .help(help)
+}
+
+// An option without a value.
+fn flag<'a>(alloc: Global, name: &'a str, help: &'a str) -> Arg<'a> {
+    Arg::new(alloc, name)
+        .long(name)
+        .action(ArgAction::SetTrue)
+        .help(help)
+}
+
+fn with_filters<'a>(alloc: Global, command: Command<'a>) -> Result<Command<'a>, AllocError> {
+    let op = repeated(
+        alloc,
+        "op",
+        "c,u,d",
+        "Only rows that were inserted, updated or deleted",
+    )
+    .value_delimiter(',')
+    .value_parser(ValueParser::Names(OPERATIONS.as_slice()));
+    command
+        .arg(repeated(
+            alloc,
+            "database",
+            "D",
+            "Only tables of this database; may be repeated",
+        ))?
+        .arg(repeated(alloc, "table", "D.T", "Only this table; may be repeated"))?
+        .arg(op)
+}
+
+fn with_positions<'a>(alloc: Global, command: Command<'a>) -> Result<Command<'a>, AllocError> {
+    let start = "Only changes of events from this position of the first file on";
+    let stop = "Only changes of events before this position of the last file";
+    command
+        .arg(position(alloc, "start-position", start))?
+        .arg(position(alloc, "stop-position", stop))
+}
+
+fn with_forms<'a>(alloc: Global, command: Command<'a>) -> Result<Command<'a>, AllocError> {
+    let text = flag(alloc, "text", "Lines of text in place of JSON").conflicts_with("count")?;
+    command.arg(text)?.arg(flag(
+        alloc,
+        "count",
+        "No lines, but how many rows of each table changed",
+    ))
+}
+
+fn with_notes<'a>(alloc: Global, command: Command<'a>) -> Result<Command<'a>, AllocError> {
+    let quiet = "Neither progress nor notes of what a file can't show";
+    command
+        .arg(flag(
+            alloc,
+            "progress",
+            "A line of progress on standard error, at most each second",
+        ))?
+        .arg(flag(alloc, "quiet", quiet))
+}
+
+/// Returns the command line that the program takes.
+pub fn command<'a>(alloc: Global) -> Result<Command<'a>, AllocError> {
+    let files = Arg::new(alloc, "file")
+        .value_name("FILE")
+        .required(true)
+        .num_args(1..)
+        .action(ArgAction::Append)
+        .help("Binlog files, in their order; - is standard input");
+    let command = Command::new(alloc, "changes")
+        .bin_name("changes")?
+        .version("0.1.0")
+        .about(
+            "Prints the rows that changed in binlog files of MySQL and MariaDB, as lines of JSON",
+        );
+    let command = with_filters(alloc, command)?;
+    let command = with_positions(alloc, command)?;
+    let command = with_forms(alloc, command)?;
+    with_notes(alloc, command)?.arg(files)
+}
+
+/// Returns the error of wrong arguments: a message and the usage.
+pub fn usage_error(alloc: Global, message: &str) -> Result<Error, AllocError> {
+    command(alloc)?.error(ErrorKind::ValueValidation, message)
+}
+
+/// The arguments of the program.
+#[derive(Drop)]
+pub struct Arguments<'a> {
+    /// The paths of the files, in order; `-` is standard input.
+    pub files: &'a [&'a str],
+    /// Whether numbers of rows are printed in place of lines.
+    pub is_count: bool,
+    /// Whether progress is told.
+    pub is_progress: bool,
+    /// Whether nothing is said of what a file can't show.
+    pub is_quiet: bool,
+    tables: TableNames<'a>,
+    operations: Operations,
+    positions: Positions,
+    is_text: bool,
+}
+
+// Returns the values of an option; none if it isn't given.
+fn values<'m>(matches: &'m ArgMatches<'_>, name: &str) -> &'m [&'m str]
+    ensures { texts result.now ≡ values_of (found_of matches.now) name.now }
+{
+    matches.get_strs(name).unwrap_or(&[])
+}
+
+// Returns whether a flag is given.
+fn flag_of(matches: &ArgMatches<'_>, name: &str) -> bool
+    ensures { IsFlag (found_of matches.now) name.now result }
+{
+    matches.get_flag(name)
+}
+
+impl<'a> Arguments<'a> {
+    /// Returns the arguments that were found.
+    pub fn of(matches: &'a ArgMatches<'_>) -> Arguments<'a>
+        ensures found { AreArguments (found_of matches.now) result }
+        ensures start { (t : List ℕ)
+            → one_text (found_of matches.now) (codes "start-position") ≡ Some t
+            → ReadsOne ⟦<u64 as FromStr>⟧.from_str_gives t result.positions.start }
+        ensures no_start { one_text (found_of matches.now) (codes "start-position") ≡ None
+            → result.positions.start ≡ None }
+        ensures stop { (t : List ℕ)
+            → one_text (found_of matches.now) (codes "stop-position") ≡ Some t
+            → ReadsOne ⟦<u64 as FromStr>⟧.from_str_gives t result.positions.stop }
+        ensures no_stop { one_text (found_of matches.now) (codes "stop-position") ≡ None
+            → result.positions.stop ≡ None }
+    {
+        let is_quiet = flag_of(matches, "quiet");
+        let is_progress = flag_of(matches, "progress");
+        Arguments {
+            files: values(matches, "file"),
+            is_count: flag_of(matches, "count"),
+            is_progress: is_progress && !is_quiet,
+            tables: TableNames {
+                databases: values(matches, "database"),
+                tables: values(matches, "table"),
+            },
+            operations: Operations::named(values(matches, "op")),
+            positions: Positions {
+                start: matches.get_one("start-position"),
+                stop: matches.get_one("stop-position"),
+            },
+            is_text: flag_of(matches, "text"),
+            is_quiet,
+        }
+    }
+
+    /// Returns whether the start and the stop position are those of one file, in which the start
+    /// position is after the stop position.
+    pub fn is_start_after_stop(&self) -> bool
+        ensures { result ≡ starts_after_stop self.now }
+    {
+        match (self.positions.start, self.positions.stop) {
+            (Some(start), Some(stop)) => self.files.len() == 1 && stop < start,
+            _ => false,
+        }
+    }
+
+    // Returns the form of what is printed.
+    fn form(&self) -> Form
+        ensures { result ≡ form_of self.now.is_count self.now.is_text }
+    {
+        if self.is_count {
+            Form::Count
+        } else if self.is_text {
+            Form::Text
+        } else {
+            Form::Json
+        }
+    }
+
+    /// Returns what is printed of the file with this number: the start position is that of the first
+    /// file, and the stop position that of the last one.
+    pub fn settings(&self, index: usize) -> Settings<'a>
+        ensures { result ≡ settings_of self.now index }
+    {
+        let is_last = index.saturating_add(1) == self.files.len();
+        Settings {
+            filter: Filter {
+                tables: self.tables,
+                operations: self.operations,
+                positions: Positions {
+                    start: if index == 0 {
+                        self.positions.start
+                    } else {
+                        None
+                    },
+                    stop: if is_last { self.positions.stop } else { None },
+                },
+            },
+            form: self.form(),
+        }
+    }
+}

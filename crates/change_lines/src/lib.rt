@@ -1,0 +1,11 @@
+//! The changes of binlog files as lines of JSON or of text, or how many there are, as the arguments of a
+//! command line say: the body of the program `changes`.
+#![tactic(auto)]
+
+pub mod arguments;
+pub mod bounds;
+pub mod error;
+pub mod notes;
+mod output;
+pub mod progress;
+pub mod run;

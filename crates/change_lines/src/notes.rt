@@ -1,0 +1,149 @@
+//! What is said on standard error.
+
+use crate::error::{Failure, Told};
+use crate::progress::Meter;
+use crate::run::Form;
+use binlog_file::lent_changes::LentEvent;
+use binlog_table::table_map::TableMapEvent;
+use changed_rows::count::TableName;
+use changed_rows::signs::lacks_signs;
+use changed_rows::statements::Statements;
+use std::alloc::{AllocError, Global};
+use std::collections::BTreeSet;
+use std::io::Write;
+use std::time::Clock;
+
+/// How many tables without signs are told at most.
+const MOST_TABLES: usize = 1024;
+/// How many table ids are remembered whose tables were looked at.
+const MOST_IDS: usize = 4096;
+
+/// The type of format description events.
+const FORMAT_DESCRIPTION: u8 = 0x0F;
+
+/// What is said on standard error, and what was said. That it can't be written there is no error.
+#[derive(Drop)]
+pub struct Notes<'c, E, K> {
+    alloc: Global,
+    err: E,
+    is_quiet: bool,
+    told: BTreeSet<TableName>,
+    // The ids of tables that were looked at, and the last of them. Up to the next format description event
+    // each id is that of one table.
+    seen: BTreeSet<u64>,
+    last: Option<u64>,
+    // How many bytes the file has, if that is known.
+    len: Option<u64>,
+    meter: Option<Meter<'c, K>>,
+}
+
+impl<'c, E: Write + Drop, K: Clock> Notes<'c, E, K> {
+    /// Returns notes that were not begun. If they are quiet, only errors are told.
+    pub fn new(alloc: Global, err: E, is_quiet: bool) -> Notes<'c, E, K> {
+        Notes {
+            alloc,
+            err,
+            is_quiet,
+            told: BTreeSet::new(alloc),
+            seen: BTreeSet::new(alloc),
+            last: None,
+            len: None,
+            meter: None,
+        }
+    }
+
+    /// Begins the notes of a file of so many bytes, if that is known, with a meter if progress is to be
+    /// told.
+    pub fn begin(&mut self, len: Option<u64>, meter: Option<Meter<'c, K>>) {
+        self.forget_ids();
+        self.len = len;
+        self.meter = meter;
+    }
+
+    // Takes in that from here on the ids may be those of other tables.
+    fn forget_ids(&mut self) {
+        self.seen.clear();
+        self.last = None;
+    }
+
+    /// Tells why the reading of a file ended early.
+    pub fn tell(&mut self, path: &str, failure: &Failure) {
+        let told = Told {
+            path,
+            len: self.len,
+            failure,
+        };
+        let _written = writeln!(self.err, "{told}");
+    }
+
+    /// Takes in that so many rows of the event at a position were read, and tells the progress.
+    pub fn step(&mut self, path: &str, position: u64, rows: u64) {
+        if let Some(meter) = &mut self.meter {
+            meter.add_rows(rows);
+            let _written = meter.step(path, position, &mut self.err);
+        }
+    }
+
+    /// Tells how many statements were logged as text.
+    pub fn tell_statements(&mut self, path: &str, statements: &Statements) {
+        if self.is_quiet {
+            return;
+        }
+        let (text, compressed) = (statements.text, statements.compressed);
+        if text > 0 {
+            let _written = writeln!(
+                self.err,
+                "changes: {path}: {text} statements were logged as text, so that their rows aren't in the file (binlog_format)"
+            );
+        }
+        if compressed > 0 {
+            let _written = writeln!(
+                self.err,
+                "changes: {path}: {compressed} statements are compressed, and may have changed rows that aren't in the file (log_bin_compress)"
+            );
+        }
+    }
+
+    /// Takes in an event that is printed in a form.
+    pub fn see(&mut self, form: Form, event: &LentEvent<'_>) -> Result<(), AllocError> {
+        match (form, event) {
+            (Form::Json | Form::Text, LentEvent::Rows(change)) => self.see_table(change.table()),
+            (_, LentEvent::Other(other)) if other.header().event_type() == FORMAT_DESCRIPTION => {
+                self.forget_ids();
+                Ok(())
+            }
+            _ => Ok(()),
+        }
+    }
+
+    // Tells once for each table that its event has no signs although it has columns of numbers.
+    fn see_table(&mut self, table: &TableMapEvent<'_>) -> Result<(), AllocError> {
+        let id = table.table_id();
+        if self.is_quiet || self.last == Some(id) || self.seen.contains(&id) {
+            return Ok(());
+        }
+        self.last = Some(id);
+        if self.seen.len() < MOST_IDS {
+            self.seen.insert(id)?;
+        }
+        self.tell_signs(table)
+    }
+
+    // Tells that a table's event has no signs, if that is so and wasn't told.
+    fn tell_signs(&mut self, table: &TableMapEvent<'_>) -> Result<(), AllocError> {
+        if self.told.len() >= MOST_TABLES || !lacks_signs(table) {
+            return Ok(());
+        }
+        let name = TableName::of(self.alloc, table)?;
+        if self.told.contains(&name) {
+            return Ok(());
+        }
+        let text = name.text(self.alloc)?;
+        let _written = writeln!(
+            self.err,
+            "changes: {text}: the server logged no signs (binlog_row_metadata): unsigned numbers may be negative here, and columns are @0, @1, .."
+        );
+        self.told.insert(name)?;
+        Ok(())
+    }
+}

@@ -1,0 +1,37 @@
+//! Writing to an output that may fail.
+
+ghost use Rattle.std.specs.Prelude.{OnOk};
+ghost use Rattle.std.specs.Io.{WritesAtMost};
+ghost use Rattle.std.specs.Io.KnownBytes.{Appends, WriteAppends};
+ghost use Rattle.change_lines.specs.Outputs.{AppendsFirst};
+
+use std::io;
+use std::io::{ErrorKind, Write};
+
+// Writes some of the bytes out, and returns how many: none if the call was interrupted.
+fn write_some<O: Write>(out: &mut O, bytes: &[u8]) -> io::Result<usize>
+    ensures bound { WritesAtMost result bytes.now }
+    ensures bytes { WriteAppends (O.contents out.old) (O.contents out.new) result bytes.now }
+{
+    match out.write(bytes) {
+        Ok(0) => Err(io::Error::from(ErrorKind::WriteZero)),
+        Err(error) if error.kind() == ErrorKind::Interrupted => Ok(0),
+        written => written,
+    }
+}
+
+/// Writes bytes out, as `Write::write_all` does. If the output fails, a beginning of them was written.
+pub fn write_whole<O: Write>(out: &mut O, bytes: &[u8]) -> io::Result<()>
+    ensures whole { OnOk result (Appends (O.contents out.old) (O.contents out.new) bytes.now) }
+    ensures first { AppendsFirst (O.contents out.old) (O.contents out.new) bytes.now }
+{
+    let mut rest = bytes;
+    for _ in 0..u64::MAX {
+        if rest.is_empty() {
+            return Ok(());
+        }
+        let count = write_some(out, rest)?;
+        rest = &rest[count..];
+    }
+    Err(io::Error::from(ErrorKind::Other))
+}

@@ -1,0 +1,696 @@
+//! Prints the changes of a file.
+
+ghost use Rattle.std.specs.Prelude.{◌≡◌, ◌≢◌, ◌⊎◌, ℕ, List, [], ◌++◌, OnOk, OnErr, IfOk, IfErr};
+ghost use Rattle.std.specs.String.{string_bytes};
+ghost use Rattle.std.specs.Io.KnownBytes.{Appends};
+ghost use Rattle.row_json.specs.Rows.{IsLine};
+ghost use Rattle.row_json.specs.Columns.{columns_of};
+ghost use Rattle.row_lines.specs.Lines.{signed_line_text};
+ghost use Rattle.std.specs.Prelude.{◌^◌, ◌<◌, length, Some, None, Err, IfSome, IsSome, IsOk};
+ghost use Rattle.mysql_binlog_rows.specs.Images.{Pair, pair};
+ghost use Rattle.mysql_binlog_rows.specs.Cover.{Covers};
+ghost use Rattle.binlog_file.specs.declared.lent_changes.LentEvent.TheVariants as lent;
+ghost use Rattle.binlog_file.specs.SourceChanges.{Finds, spot_at, items_left};
+ghost use Rattle.binlog_file.specs.Workings.SourceWalks.{reading_in, kept_in};
+ghost use Rattle.change_lines.specs.declared.run.Form.TheVariants as Form;
+ghost use Rattle.change_lines.specs.declared.run.Ended.TheVariants.{Whole, Closed};
+ghost use Rattle.changed_rows.specs.Filters.{wanted_by};
+ghost use Rattle.changed_rows.specs.Gtids.{gtid_after};
+ghost use Rattle.changed_rows.specs.Sources.{members_in};
+ghost use Rattle.change_lines.specs.Outputs.{Outputs, AppendsFirst};
+ghost use Rattle.change_lines.specs.Rows.{BeginsWith, IsJsonLine, WritesRows};
+ghost use Rattle.change_lines.specs.Readings.{Stays, SourceNext};
+ghost use Rattle.change_lines.specs.Lines.{place_text, IsRowLine, gtid_past, WritesEvent, Writes};
+ghost use Rattle.change_lines.specs.declared.error.Failure.{Failure};
+ghost use Rattle.change_lines.specs.Failures.{IsOutput, IsErrorOfRow, EndsAtRow, IsRowFailure, IsLineFailure};
+ghost use Rattle.change_lines.specs.Failures.{IsLostBy, OutputsUpTo, AppendsUpTo};
+ghost use Rattle.change_lines.specs.Failures.{WritesFirstRows, WritesFirstOfEvent, WritesFirst};
+ghost use Rattle.changed_rows.specs.Names.{up_to_most};
+ghost use Rattle.changed_rows.specs.Counted.{name_of, CountsMore};
+ghost use Rattle.change_lines.specs.CountedFiles.{counted_by, AreEventRows, AreFirstEventRows};
+ghost use Rattle.change_lines.specs.CountedFiles.{AreCountedToEnd, AreFirstCounted, AreAllCounted};
+ghost use Rattle.change_lines.specs.CountedFiles.{AreFirstOfFile, CountsThese};
+ghost use Rattle.change_lines.specs.Printers.{IsSame};
+ghost use Rattle.change_lines.specs.Runs.{AreAllLines, AreFirstLines, status_of};
+
+use crate::bounds::Bounds;
+use crate::error::Failure;
+use crate::notes::Notes;
+use crate::output::write_whole;
+use binlog_base::below::{Counted, Source as Bytes};
+use binlog_base::fault::Fault;
+use binlog_file::error::{EventError, FileError};
+use binlog_file::file::BinlogFile;
+use binlog_file::lent_changes::{LentChange, LentEvent, OtherEvent};
+use binlog_file::reader::EventBuffer;
+use binlog_file::source_changes::SourceChanges;
+use binlog_table::table_map::TableMapEvent;
+use changed_rows::count::{Counts, TableName};
+use changed_rows::filter::{Filter, Operation};
+use changed_rows::gtid::Gtid;
+use changed_rows::source::Source;
+use changed_rows::statements::Statements;
+use changed_rows::tables::KeptTables;
+use mysql_binlog_rows::rows_event::{LentPair, RowsEvent};
+use row_json::{LineRoom, TableJson, write_line_with};
+use row_lines::push_signed_line;
+use std::alloc::{AllocError, Global};
+use std::io::{ErrorKind, Read, Write};
+use std::time::Clock;
+
+/// From how many bytes on lines are written out.
+const FULL: usize = 32 * 1024;
+
+/// How many bytes of memory lines keep at most once they are written out.
+const MOST_KEPT: usize = 1024 * 1024;
+
+/// The form of what is printed.
+#[derive(Clone, Copy, Debug, PartialEq, Eq)]
+pub enum Form {
+    /// A line of JSON for each row.
+    Json,
+    /// A line of text for each row.
+    Text,
+    /// No lines: rows are counted.
+    Count,
+}
+
+/// What is printed of a file.
+#[derive(Clone, Copy, Debug)]
+pub struct Settings<'a> {
+    /// The changes that are wanted.
+    pub filter: Filter<'a>,
+    /// The form of their lines.
+    pub form: Form,
+}
+
+/// How a run ended.
+#[derive(Clone, Copy, Debug, PartialEq, Eq)]
+pub enum Ended {
+    /// All was read that was asked for, and all lines were written.
+    Whole,
+    /// Whoever read the output went away.
+    Closed,
+    /// An error was told.
+    Failed,
+}
+
+impl Ended {
+    /// Returns the exit status: 1 if an error was told, else 0.
+    pub fn status(self) -> u8
+        ensures { result ≡ status_of self }
+    {
+        match self {
+            Ended::Whole | Ended::Closed => 0,
+            Ended::Failed => 1,
+        }
+    }
+}
+
+// Returns why a row of an event can't be written.
+fn row_failure(position: u64, row: u64, fault: Fault) -> Failure
+    ensures { IsRowFailure position row fault result }
+{
+    match fault {
+        Fault::Memory => Failure::Memory,
+        _ => Failure::File(FileError {
+            position,
+            error: EventError::RowsData(row, fault),
+        }),
+    }
+}
+
+// The lines that weren't written yet, and room to make one.
+#[derive(Drop)]
+struct Lines {
+    alloc: Global,
+    room: LineRoom,
+    bytes: Vec<u8>,
+}
+
+impl Lines {
+    // Returns no lines.
+    fn new(alloc: Global) -> Lines
+        ensures { result.bytes.items ≡ [] }
+    {
+        Lines {
+            alloc,
+            room: LineRoom::new(alloc),
+            bytes: Vec::new(alloc),
+        }
+    }
+
+    // Empties the lines. The memory of a long one is given back.
+    fn empty(&mut self)
+        ensures { self.new.bytes.items ≡ [] }
+    {
+        if self.bytes.capacity() > MOST_KEPT {
+            self.bytes = Vec::new(self.alloc);
+        } else {
+            self.bytes.clear();
+        }
+    }
+
+    // Writes the lines out. They are gone then, even if the output fails.
+    fn write_out<O: Write>(&mut self, out: &mut O) -> Result<(), Failure>
+        ensures written { OnOk result
+            (Appends (O.contents out.old) (O.contents out.new) self.old.bytes.items) }
+        ensures first { AppendsFirst (O.contents out.old) (O.contents out.new) self.old.bytes.items }
+        ensures failed { IfErr result IsOutput }
+        ensures left { self.new.bytes.items ≡ [] }
+    {
+        let written = write_whole(out, &self.bytes);
+        self.empty();
+        match written {
+            Ok(()) => Ok(()),
+            Err(error) => Err(Failure::Output(error)),
+        }
+    }
+
+    // Writes the lines out if there are many.
+    fn write_if_full<O: Write>(&mut self, out: &mut O) -> Result<(), Failure>
+        ensures all { OnOk result (Outputs (O.contents out.old) self.old.bytes.items []
+            (O.contents out.new) self.new.bytes.items) }
+        ensures first { IfErr result (λ why. OutputsUpTo why (O.contents out.old) self.old.bytes.items []
+            (O.contents out.new) self.new.bytes.items) }
+        ensures failed { IfErr result IsOutput }
+    {
+        if self.bytes.len() < FULL {
+            return Ok(());
+        }
+        self.write_out(out)
+    }
+
+    // Writes the lines out once a reading ended, and returns how it ended, or that the output failed.
+    fn finish<O: Write>(&mut self, read: Result<(), Failure>, out: &mut O) -> Result<(), Failure>
+        ensures all { OnOk result (IsOk read
+            × Appends (O.contents out.old) (O.contents out.new) self.old.bytes.items) }
+        ensures failed { IfErr result (λ why. IsOutput why ⊎ (read ≡ Err why)) }
+        ensures first { IfErr result (λ why. (lost : List ℕ) → IsLostBy read lost → AppendsUpTo why
+            (O.contents out.old) (O.contents out.new) (self.old.bytes.items ++ lost)) }
+    {
+        self.write_out(out)?;
+        match out.flush() {
+            Ok(()) => read,
+            Err(error) => Err(Failure::Output(error)),
+        }
+    }
+
+    // Adds a row of an event as a line of JSON.
+    fn add_json(
+        &mut self,
+        alloc: Global,
+        table: &TableJson,
+        event: &RowsEvent<'_>,
+        pair: &LentPair<'_>,
+        source: &Source<'_>,
+    ) -> Result<(), Failure>
+        ensures line { OnOk result ((line : List ℕ)
+            × IsLine table.now event.now (members_in source.now) pair.now line
+            × (self.new.bytes.items ≡ self.old.bytes.items ++ line)) }
+        ensures kept { OnErr result (self.new.bytes.items ≡ self.old.bytes.items) }
+        ensures failed { IfErr result (IsLineFailure table.now event.now source.now.origin.position
+            source.now.row pair.now) }
+    {
+        let bytes = &mut self.bytes;
+        match write_line_with(alloc, &mut self.room, bytes, table, event, pair, source) {
+            Ok(()) => Ok(()),
+            Err(fault) => Err(row_failure(source.origin.position, source.row, fault)),
+        }
+    }
+
+    // Adds a row of an event as a line of text, which begins with this text.
+    fn add_text(
+        &mut self,
+        alloc: Global,
+        place: &str,
+        pair: &LentPair<'_>,
+    ) -> Result<(), AllocError>
+        ensures line { OnOk result (self.new.bytes.items
+            ≡ self.old.bytes.items ++ (place.now ++ signed_line_text pair.now)) }
+        ensures kept { OnErr result (self.new.bytes.items ≡ self.old.bytes.items) }
+    {
+        let len = self.bytes.len();
+        self.bytes.extend_from_slice(place.as_bytes())?;
+        let pushed = push_signed_line(alloc, &mut self.bytes, pair);
+        if pushed.is_err() {
+            self.bytes.truncate(len);
+        }
+        pushed
+    }
+}
+
+// Writes each row of an event as a line of JSON, and returns how many there are. `source` is that of any
+// row of the event.
+fn write_json_rows<'f, S: Bytes + Drop, O: Write>(
+    alloc: Global,
+    changes: &mut SourceChanges<S, Filter<'f>>,
+    change: LentChange<'_>,
+    table: &TableJson,
+    source: &Source<'_>,
+    lines: &mut Lines,
+    out: &mut O,
+) -> Result<u64, Failure>
+    ensures lines { OnOk result (WritesRows (IsJsonLine table.now change.entry.rows source.now)
+        change.entry (O.contents out.old) lines.old.bytes.items (O.contents out.new)
+        lines.new.bytes.items) }
+    ensures first { source.now.origin ≡ change.entry.origin → table.now ≡ columns_of change.entry.table
+        → IfErr result (λ why. WritesFirstRows why
+        (IsJsonLine table.now change.entry.rows source.now) change.entry (O.contents out.old)
+        lines.old.bytes.items (O.contents out.new) lines.new.bytes.items) }
+    ensures stays { OnOk result (Stays changes.old changes.new) }
+{
+    let mut change = change;
+    let mut pair = LentPair::new(alloc);
+    let mut row: u64 = 0;
+    while let Some(read) = changes.next_pair(&mut change, &mut pair) {
+        read?;
+        lines.add_json(alloc, table, change.rows(), &pair, &source.at(row))?;
+        lines.write_if_full(out)?;
+        row = row.saturating_add(1);
+    }
+    Ok(row)
+}
+
+// Writes each row of an event as a line of text, which begins with `place`, and returns how many there
+// are.
+fn write_text_rows<'f, S: Bytes + Drop, O: Write>(
+    alloc: Global,
+    changes: &mut SourceChanges<S, Filter<'f>>,
+    change: LentChange<'_>,
+    place: &str,
+    lines: &mut Lines,
+    out: &mut O,
+) -> Result<u64, Failure>
+    ensures lines { OnOk result (WritesRows (λ row p line. line ≡ place.now ++ signed_line_text p)
+        change.entry (O.contents out.old) lines.old.bytes.items (O.contents out.new)
+        lines.new.bytes.items) }
+    ensures first { IfErr result (λ why. WritesFirstRows why
+        (λ row p line. line ≡ place.now ++ signed_line_text p) change.entry (O.contents out.old)
+        lines.old.bytes.items (O.contents out.new) lines.new.bytes.items) }
+    ensures stays { OnOk result (Stays changes.old changes.new) }
+{
+    let mut change = change;
+    let mut pair = LentPair::new(alloc);
+    let mut count: u64 = 0;
+    while let Some(read) = changes.next_pair(&mut change, &mut pair) {
+        read?;
+        lines.add_text(alloc, place, &pair)?;
+        lines.write_if_full(out)?;
+        count = count.saturating_add(1);
+    }
+    Ok(count)
+}
+
+// Returns how many rows an event has, up to the first that can't be read, and the error of that one.
+fn count_rows<'f, S: Bytes + Drop>(
+    alloc: Global,
+    changes: &mut SourceChanges<S, Filter<'f>>,
+    change: LentChange<'_>,
+) -> (u64, Option<FileError>)
+    ensures covers { result.1 ≡ None → (ps : List Pair)
+        × Covers (pair change.entry.table change.entry.rows) change.entry.left ps None
+        × (result.0 ≡ up_to_most (length ps)) }
+    ensures first { IfSome result.1 (λ error. (ps : List Pair) × (rest : List ℕ)
+        × BeginsWith (pair change.entry.table change.entry.rows) change.entry.left ps rest
+        × IsErrorOfRow change.entry (length ps) rest error × (result.0 ≡ up_to_most (length ps))) }
+    ensures stays { result.1 ≡ None → Stays changes.old changes.new }
+{
+    let mut change = change;
+    let mut pair = LentPair::new(alloc);
+    let mut count: u64 = 0;
+    while let Some(read) = changes.next_pair(&mut change, &mut pair) {
+        match read {
+            Ok(()) => count = count.saturating_add(1),
+            Err(error) => return (count, Some(error)),
+        }
+    }
+    (count, None)
+}
+
+// Adds so many rows of a table to the counts. If there are none, or what changed them isn't known,
+// which is so of no event that is wanted, nothing is counted.
+fn add_rows(
+    counts: &mut Counts,
+    name: TableName,
+    operation: Option<Operation>,
+    rows: u64,
+) -> Result<(), AllocError>
+    ensures added { OnOk result (CountsMore (counted_by operation (name_of name) rows)
+        counts.old counts.new) }
+    ensures kept { OnErr result (CountsMore [] counts.old counts.new) }
+{
+    let Some(operation) = operation else {
+        return Ok(());
+    };
+    if rows == 0 {
+        return Ok(());
+    }
+    counts.add(name, operation, rows)
+}
+
+// The types of the events that are looked at beside rows events: those after which another GTID may be
+// in force, and those with statements. Those that come most are first.
+const SEEN: [u8; 8] = [0xA2, 0x21, 0x02, 0x0F, 0x12, 0x22, 0x2A, 0xA5];
+
+// Reads the next event into a buffer: each one, or only those that are looked at.
+fn next_event<'f, 'b, S: Bytes + Drop>(
+    changes: &mut SourceChanges<S, Filter<'f>>,
+    buffer: &'b mut EventBuffer,
+    is_each: bool,
+) -> Option<Result<LentEvent<'b>, FileError>>
+    ensures event { SourceNext (wanted_by changes.old.choice) is_each
+        (S.remaining changes.old.source) (reading_in changes.old.walk) changes.old.walk.pending result
+        (S.remaining changes.new.source) (reading_in changes.new.walk) changes.new.walk.pending }
+    ensures fewer { IsSome result → items_left (reading_in changes.new.walk) changes.new.walk.pending
+        < items_left (reading_in changes.old.walk) changes.old.walk.pending }
+    ensures choice { changes.new.choice ≡ changes.old.choice }
+{
+    if is_each {
+        changes.next_event(buffer)
+    } else {
+        changes.next_event_of(buffer, &SEEN)
+    }
+}
+
+// What is kept while a file is printed.
+#[derive(Drop)]
+struct Printer<'a> {
+    alloc: Global,
+    settings: &'a Settings<'a>,
+    path: &'a str,
+    file: &'a str,
+    gtid: Gtid,
+    statements: Statements,
+    tables: KeptTables,
+    lines: Lines,
+}
+
+impl<'a> Printer<'a> {
+    // Returns the text with which a line of text begins.
+    fn place(&self, position: u64, table: &TableMapEvent<'_>) -> Result<String, AllocError>
+        ensures { IfOk result (λ text. string_bytes text
+            ≡ place_text self.now.file.now position table.now) }
+    {
+        let file = self.file;
+        let database = String::from_utf8_lossy(self.alloc, table.database_name_raw())?;
+        let name = String::from_utf8_lossy(self.alloc, table.table_name_raw())?;
+        format!(in self.alloc; "{file}:{position} {database}.{name} ")
+    }
+
+    // Prints the rows of an event as lines of JSON.
+    fn print_json<'f, S: Bytes + Drop, O: Write>(
+        &mut self,
+        changes: &mut SourceChanges<S, Filter<'f>>,
+        change: LentChange<'_>,
+        out: &mut O,
+    ) -> Result<u64, Failure>
+        ensures lines { OnOk result (WritesRows
+            (IsRowLine Form.Json self.old.file.now self.old.gtid change.entry) change.entry
+            (O.contents out.old) self.old.lines.bytes.items (O.contents out.new)
+            self.new.lines.bytes.items) }
+        ensures first { IfErr result (λ why. WritesFirstRows why
+            (IsRowLine Form.Json self.old.file.now self.old.gtid change.entry) change.entry
+            (O.contents out.old) self.old.lines.bytes.items (O.contents out.new)
+            self.new.lines.bytes.items) }
+        ensures stays { OnOk result (Stays changes.old changes.new) }
+        ensures same { IsSame self.old self.new }
+        ensures gtid { self.new.gtid ≡ self.old.gtid }
+    {
+        let table = self.tables.table(self.alloc, change.table())?;
+        let (database, name) = (table.database(), table.name());
+        let gtid = self.gtid.text();
+        let source = Source::first(self.file, change.origin(), gtid, database, name);
+        let json = table.json();
+        write_json_rows(
+            self.alloc,
+            changes,
+            change,
+            json,
+            &source,
+            &mut self.lines,
+            out,
+        )
+    }
+
+    // Prints the rows of an event as lines of text.
+    fn print_text<'f, S: Bytes + Drop, O: Write>(
+        &mut self,
+        changes: &mut SourceChanges<S, Filter<'f>>,
+        change: LentChange<'_>,
+        out: &mut O,
+    ) -> Result<u64, Failure>
+        ensures lines { OnOk result (WritesRows
+            (IsRowLine Form.Text self.old.file.now self.old.gtid change.entry) change.entry
+            (O.contents out.old) self.old.lines.bytes.items (O.contents out.new)
+            self.new.lines.bytes.items) }
+        ensures first { IfErr result (λ why. WritesFirstRows why
+            (IsRowLine Form.Text self.old.file.now self.old.gtid change.entry) change.entry
+            (O.contents out.old) self.old.lines.bytes.items (O.contents out.new)
+            self.new.lines.bytes.items) }
+        ensures stays { OnOk result (Stays changes.old changes.new) }
+        ensures same { IsSame self.old self.new }
+        ensures gtid { self.new.gtid ≡ self.old.gtid }
+    {
+        let place = self.place(change.position(), change.table())?;
+        write_text_rows(
+            self.alloc,
+            changes,
+            change,
+            place.as_str(),
+            &mut self.lines,
+            out,
+        )
+    }
+
+    // Counts the rows of an event.
+    fn count<'f, S: Bytes + Drop>(
+        &self,
+        changes: &mut SourceChanges<S, Filter<'f>>,
+        change: LentChange<'_>,
+        counts: &mut Counts,
+    ) -> Result<u64, Failure>
+        ensures covers { OnOk result ((ps : List Pair)
+            × Covers (pair change.entry.table change.entry.rows) change.entry.left ps None) }
+        ensures first { IfErr result (λ why. (ps : List Pair) × (rest : List ℕ)
+            × BeginsWith (pair change.entry.table change.entry.rows) change.entry.left ps rest
+            × EndsAtRow why change.entry (length ps) rest) }
+        ensures stays { OnOk result (Stays changes.old changes.new) }
+        ensures counts { OnOk result (CountsThese (AreEventRows (lent.Rows change.entry))
+            counts.old counts.new) }
+        ensures first_counts { IfErr result (λ why. CountsThese
+            (AreFirstEventRows why (lent.Rows change.entry)) counts.old counts.new) }
+    {
+        let name = TableName::of(self.alloc, change.table())?;
+        let operation = Operation::of(change.rows().event_type());
+        let (rows, error) = count_rows(self.alloc, changes, change);
+        add_rows(counts, name, operation, rows)?;
+        match error {
+            None => Ok(rows),
+            Some(error) => Err(Failure::File(error)),
+        }
+    }
+
+    // Prints the rows of an event in the form that is wanted.
+    fn print_rows<'f, S: Bytes + Drop, O: Write>(
+        &mut self,
+        changes: &mut SourceChanges<S, Filter<'f>>,
+        change: LentChange<'_>,
+        counts: &mut Counts,
+        out: &mut O,
+    ) -> Result<u64, Failure>
+        ensures lines { OnOk result (WritesEvent self.old.settings.now.form self.old.file.now
+            self.old.gtid (lent.Rows change.entry) (O.contents out.old) self.old.lines.bytes.items
+            (O.contents out.new) self.new.lines.bytes.items) }
+        ensures first { IfErr result (λ why. WritesFirstOfEvent why self.old.settings.now.form
+            self.old.file.now self.old.gtid (lent.Rows change.entry) (O.contents out.old)
+            self.old.lines.bytes.items (O.contents out.new) self.new.lines.bytes.items) }
+        ensures stays { OnOk result (Stays changes.old changes.new) }
+        ensures same { IsSame self.old self.new }
+        ensures gtid { self.new.gtid ≡ self.old.gtid }
+        ensures counts { OnOk result (self.old.settings.now.form ≡ Form.Count
+            → CountsThese (AreEventRows (lent.Rows change.entry)) counts.old counts.new) }
+        ensures first_counts { IfErr result (λ why. self.old.settings.now.form ≡ Form.Count
+            → CountsThese (AreFirstEventRows why (lent.Rows change.entry)) counts.old counts.new) }
+    {
+        match self.settings.form {
+            Form::Json => self.print_json(changes, change, out),
+            Form::Text => self.print_text(changes, change, out),
+            Form::Count => self.count(changes, change, counts),
+        }
+    }
+
+    // Takes in an event that is no rows event that is wanted.
+    fn see(&mut self, event: &OtherEvent<'_>) -> Result<(), AllocError>
+        ensures gtid { OnOk result (self.new.gtid ≡ gtid_after self.old.gtid event.now) }
+        ensures lines { self.new.lines ≡ self.old.lines }
+        ensures same { IsSame self.old self.new }
+    {
+        self.gtid.see(self.alloc, event)?;
+        if self.settings.filter.positions.contains(event.position()) {
+            self.statements.see(event);
+        }
+        Ok(())
+    }
+
+    // Prints what an event gives. Returns how many rows it has that are wanted.
+    fn print_event<'f, S: Bytes + Drop, O: Write>(
+        &mut self,
+        changes: &mut SourceChanges<S, Filter<'f>>,
+        event: LentEvent<'_>,
+        counts: &mut Counts,
+        out: &mut O,
+    ) -> Result<u64, Failure>
+        ensures lines { OnOk result (WritesEvent self.old.settings.now.form self.old.file.now
+            self.old.gtid event.entry (O.contents out.old) self.old.lines.bytes.items
+            (O.contents out.new) self.new.lines.bytes.items) }
+        ensures first { IfErr result (λ why. WritesFirstOfEvent why self.old.settings.now.form
+            self.old.file.now self.old.gtid event.entry (O.contents out.old)
+            self.old.lines.bytes.items (O.contents out.new) self.new.lines.bytes.items) }
+        ensures stays { OnOk result (Stays changes.old changes.new) }
+        ensures same { IsSame self.old self.new }
+        ensures gtid { OnOk result (self.new.gtid ≡ gtid_past self.old.gtid event.entry) }
+        ensures counts { OnOk result (self.old.settings.now.form ≡ Form.Count
+            → CountsThese (AreEventRows event.entry) counts.old counts.new) }
+        ensures first_counts { IfErr result (λ why. self.old.settings.now.form ≡ Form.Count
+            → CountsThese (AreFirstEventRows why event.entry) counts.old counts.new) }
+    {
+        match event {
+            LentEvent::Other(event) => {
+                self.see(&event)?;
+                Ok(0)
+            }
+            LentEvent::Rows(change) => self.print_rows(changes, change, counts, out),
+        }
+    }
+
+    // Prints the events of a file up to its end, or to the stop position.
+    fn print_events<'f, S: Bytes + Drop, O: Write, E: Write + Drop, K: Clock>(
+        &mut self,
+        changes: &mut SourceChanges<S, Filter<'f>>,
+        counts: &mut Counts,
+        out: &mut O,
+        notes: &mut Notes<'_, E, K>,
+    ) -> Result<(), Failure>
+        ensures all { OnOk result (changes.old.walk.pending ≡ None
+            → (x : List ℕ) → Finds (reading_in changes.old.walk) (S.remaining changes.old.source) x
+            → Writes self.old.settings.now.form (wanted_by changes.old.choice) self.old.file.now
+            self.old.settings.now.filter.positions.stop
+            (spot_at (kept_in changes.old.walk) None x) self.old.gtid
+            (O.contents out.old) self.old.lines.bytes.items
+            (O.contents out.new) self.new.lines.bytes.items) }
+        ensures first { IfErr result (λ why. changes.old.walk.pending ≡ None
+            → (x : List ℕ) → Finds (reading_in changes.old.walk) (S.remaining changes.old.source) x
+            → WritesFirst why self.old.settings.now.form (wanted_by changes.old.choice)
+            self.old.file.now (spot_at (kept_in changes.old.walk) None x) self.old.gtid
+            (O.contents out.old) self.old.lines.bytes.items
+            (O.contents out.new) self.new.lines.bytes.items) }
+        ensures counts { OnOk result (self.old.settings.now.form ≡ Form.Count
+            → changes.old.walk.pending ≡ None → (x : List ℕ)
+            → Finds (reading_in changes.old.walk) (S.remaining changes.old.source) x
+            → CountsThese (AreCountedToEnd self.old.settings.now.filter.positions.stop
+            (wanted_by changes.old.choice) (spot_at (kept_in changes.old.walk) None x))
+            counts.old counts.new) }
+        ensures first_counts { IfErr result (λ why. self.old.settings.now.form ≡ Form.Count
+            → changes.old.walk.pending ≡ None → (x : List ℕ)
+            → Finds (reading_in changes.old.walk) (S.remaining changes.old.source) x
+            → CountsThese (AreFirstCounted why (wanted_by changes.old.choice)
+            (spot_at (kept_in changes.old.walk) None x)) counts.old counts.new) }
+    {
+        let mut bounds = Bounds::of(self.settings.filter.positions);
+        let mut buffer = EventBuffer::new(self.alloc);
+        loop {
+            let position = changes.reader().position();
+            if !bounds.goes_on(position) {
+                return bounds.end(position);
+            }
+            let event = match next_event(changes, &mut buffer, bounds.are_given()) {
+                None => return bounds.end(position),
+                Some(event) => event?,
+            };
+            bounds.begin(position)?;
+            notes.see(self.settings.form, &event)?;
+            let rows = self.print_event(changes, event, counts, out)?;
+            notes.step(self.path, position, rows);
+        }
+    }
+
+    // Prints the changes of a file.
+    fn print<R: Read + Drop, O: Write, E: Write + Drop, K: Clock>(
+        &mut self,
+        reader: R,
+        counts: &mut Counts,
+        out: &mut O,
+        notes: &mut Notes<'_, E, K>,
+    ) -> Result<(), Failure>
+        ensures all { OnOk result (self.old.lines.bytes.items ≡ [] → self.old.gtid ≡ None
+            → (x : List ℕ) → R.remaining reader ≡ Some x → length x < 2 ^ 64
+            → (text : List ℕ) × AreAllLines self.old.settings.now self.old.file.now x text
+            × Appends (O.contents out.old) (O.contents out.new) text) }
+        ensures first { IfErr result (λ why. self.old.lines.bytes.items ≡ [] → self.old.gtid ≡ None
+            → (x : List ℕ) → R.remaining reader ≡ Some x → length x < 2 ^ 64
+            → (text : List ℕ) × AreFirstLines why self.old.settings.now self.old.file.now x text
+            × AppendsUpTo why (O.contents out.old) (O.contents out.new) text) }
+        ensures counts { OnOk result (self.old.settings.now.form ≡ Form.Count
+            → (x : List ℕ) → R.remaining reader ≡ Some x → length x < 2 ^ 64
+            → CountsThese (AreAllCounted self.old.settings.now x) counts.old counts.new) }
+        ensures first_counts { IfErr result (λ why. self.old.settings.now.form ≡ Form.Count
+            → (x : List ℕ) → R.remaining reader ≡ Some x → length x < 2 ^ 64
+            → CountsThese (AreFirstOfFile why self.old.settings.now x) counts.old counts.new) }
+    {
+        let file = BinlogFile::new(self.alloc, Counted::new(reader))?;
+        let mut changes = SourceChanges::new(self.alloc, file, self.settings.filter);
+        let read = self.print_events(&mut changes, counts, out, notes);
+        self.lines.finish(read, out)
+    }
+}
+
+/// Prints the changes of a file as the settings say. `file` is the name of the file in lines, and
+/// `path` that in what is told. With `Form::Count` the rows are counted in `counts`, and nothing is printed.
+///
+/// An error is told after all lines before it.
+pub fn run<R: Read + Drop, O: Write, E: Write + Drop, K: Clock>(
+    alloc: Global,
+    settings: &Settings<'_>,
+    path: &str,
+    file: &str,
+    reader: R,
+    counts: &mut Counts,
+    out: &mut O,
+    notes: &mut Notes<'_, E, K>,
+) -> Ended
+    ensures all { result ≡ Whole → (x : List ℕ) → R.remaining reader ≡ Some x → length x < 2 ^ 64
+        → (text : List ℕ) × AreAllLines settings.now file.now x text
+        × Appends (O.contents out.old) (O.contents out.new) text }
+    ensures counts { result ≡ Whole → settings.now.form ≡ Form.Count
+        → (x : List ℕ) → R.remaining reader ≡ Some x → length x < 2 ^ 64
+        → CountsThese (AreAllCounted settings.now x) counts.old counts.new }
+    ensures first { result ≢ Whole → (x : List ℕ) → R.remaining reader ≡ Some x → length x < 2 ^ 64
+        → (why : Failure) × (text : List ℕ) × AreFirstLines why settings.now file.now x text
+        × AppendsUpTo why (O.contents out.old) (O.contents out.new) text
+        × (settings.now.form ≡ Form.Count
+        → CountsThese (AreFirstOfFile why settings.now x) counts.old counts.new)
+        × (result ≡ Closed → IsOutput why) }
+{
+    let mut printer = Printer {
+        alloc,
+        settings,
+        path,
+        file,
+        gtid: Gtid::new(alloc),
+        statements: Statements::new(),
+        tables: KeptTables::new(alloc),
+        lines: Lines::new(alloc),
+    };
+    match printer.print(reader, counts, out, notes) {
+        Ok(()) => {
+            notes.tell_statements(path, &printer.statements);
+            Ended::Whole
+        }
+        Err(Failure::Output(error)) if error.kind() == ErrorKind::BrokenPipe => Ended::Closed,
+        Err(failure) => {
+            notes.tell(path, &failure);
+            Ended::Failed
+        }
+    }
+}

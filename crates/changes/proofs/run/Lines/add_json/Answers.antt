@@ -1,5 +1,0 @@
-use Rattle.changes.proofs.Failures.{line_failure}
-use Rattle.changes.proofs.run.Lines.add_json.Goals as goal
-
-pub returns-in-Err-clause-failed : goal.returns-in-Err-clause-failed
-returns-in-Err-clause-failed c = line_failure c.args.table.now c.args.event.now _ _ c.in-Err.fault _ c.row_failure.result c.row_failure.ensures c.in-Err.ensures.err

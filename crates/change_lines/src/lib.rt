@@ -6,6 +6,6 @@ pub mod arguments;
 pub mod bounds;
 pub mod error;
 pub mod notes;
-mod output;
+pub mod output;
 pub mod progress;
 pub mod run;

@@ -14,8 +14,9 @@ returns-clause-lines g c =
     let e = c.args.change in
     let file = c.args.self.now.file.now in
     let gtid = c.args.self.now.gtid in
+    let at : c.position.result ≡ e.origin.position = c.position.ensures in
     let place : c.as_str.result.now ≡ place_text file e.origin.position e.table =
-    c.as_str.ensures.value ∙ c.in_ok-place.ensures ∙ ap (λ (n : ℕ). place_text file n c.table.result.now) c.position.ensures ∙ ap (λ (u : TableMap). place_text file e.origin.position u) c.table.ensures in
+    c.as_str.ensures.value ∙ c.in_ok-place.ensures ∙ ap (λ (n : ℕ). place_text file n c.table.result.now) at ∙ ap (λ (u : TableMap). place_text file e.origin.position u) c.table.ensures in
     on_ok c.write_text_rows.result _ _
     (rows_weaker (λ row p line. line ≡ c.as_str.result.now ++ signed_line_text p) (IsRowLine form.Text file gtid e) (λ row p line is. is ∙ ap (λ b. b ++ signed_line_text p) place) e _ _ _ _)
     c.write_text_rows.ensures.lines
@@ -25,8 +26,9 @@ returns-clause-first g c =
     let e = c.args.change in
     let file = c.args.self.now.file.now in
     let gtid = c.args.self.now.gtid in
+    let at : c.position.result ≡ e.origin.position = c.position.ensures in
     let place : c.as_str.result.now ≡ place_text file e.origin.position e.table =
-    c.as_str.ensures.value ∙ c.in_ok-place.ensures ∙ ap (λ (n : ℕ). place_text file n c.table.result.now) c.position.ensures ∙ ap (λ (u : TableMap). place_text file e.origin.position u) c.table.ensures in
+    c.as_str.ensures.value ∙ c.in_ok-place.ensures ∙ ap (λ (n : ℕ). place_text file n c.table.result.now) at ∙ ap (λ (u : TableMap). place_text file e.origin.position u) c.table.ensures in
     on_error c.write_text_rows.result _ _
     (first_weaker (λ row p line. line ≡ c.as_str.result.now ++ signed_line_text p) (IsRowLine form.Text file gtid e) (λ row p line is. is ∙ ap (λ b. b ++ signed_line_text p) place) e _ _ _ _)
     c.write_text_rows.ensures.first

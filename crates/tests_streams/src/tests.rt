@@ -1,9 +1,7 @@
 //! Tests of what reads one event after the other: binlog files and their changes, plans that are
-//! kept for later events, a filter, and the events of two servers. And of which types go to other
-//! threads.
+//! kept for later events, and the events of two servers. And of which types go to other threads.
 
 mod file;
-mod filter;
 mod kept;
 mod lent;
 mod servers;

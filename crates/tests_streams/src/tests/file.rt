@@ -15,7 +15,6 @@ use binlog_file::source_changes::SourceChanges;
 use binlog_file::tables::TableMaps;
 use binlog_table::table_map::TableMapEvent;
 use std::alloc::{AllocError, Global};
-use std::io::Read;
 use std::test::Fail;
 
 #[test]
@@ -344,17 +343,6 @@ fn a_choice(rt: HostRuntime) -> Result<(), Fail> {
     Ok(())
 }
 
-/// How many pairs of rows a file has, up to its first error.
-fn count_pairs<R: Read + Drop>(alloc: Global, reader: R) -> Result<u64, FileError> {
-    let file = BinlogFile::new(alloc, Counted::new(reader))?;
-    let mut count: u64 = 0;
-    for change in SourceChanges::new(alloc, file, AllRows) {
-        let change = change?;
-        count = count.saturating_add(change.pairs().len() as u64);
-    }
-    Ok(count)
-}
-
 /// How many pairs of rows a file in memory has, where so many bytes are kept at most.
 fn pairs_in_memory(alloc: Global, file: &[u8], most: usize) -> Result<usize, FileError> {
     let mut count: usize = 0;
@@ -387,8 +375,8 @@ fn plans_are_kept_in_bounds(rt: HostRuntime) -> Result<(), Fail> {
 }
 
 /// Whether the pairs of a file over a reader are so many, or this error ends them.
-fn counts(alloc: Global, file: &[u8], count: Result<u64, (u64, EventError)>) -> bool {
-    match (count_pairs(alloc, file), count) {
+fn counts(alloc: Global, file: &[u8], count: Result<usize, (u64, EventError)>) -> bool {
+    match (pairs_of_source(alloc, file, 1 << 25), count) {
         (Ok(found), Ok(count)) => found == count,
         (Err(found), Err((position, error))) => found == FileError { position, error },
         _ => false,

@@ -1,5 +1,5 @@
 -- The changes of a file: its rows events with their pairs of rows.
-use Rattle.std.specs.Prelude.{◌≡◌, ℕ, ◌+◌, ◌*◌, ◌%◌, ◌<◌, Bool, true, false, nat_eq, ◌&&◌, List, [], ◌∷◌, ◌++◌, length, Option, Some, None, Result, Ok, Err, ◌⊎◌, ⊤}
+use Rattle.std.specs.Prelude.{◌≡◌, ℕ, ◌+◌, ◌*◌, ◌%◌, ◌<◌, Bool, true, false, nat_eq, ◌&&◌, ◌||◌, List, [], ◌∷◌, ◌++◌, length, Option, Some, None, Result, Ok, Err, ◌⊎◌, ⊤}
 use Rattle.std.specs.Option.{option_map}
 use Rattle.binlog_base.specs.declared.fault.Fault.{Fault}
 use Rattle.binlog_consts.specs.declared.consts.event_type.EventType.{EventType}
@@ -25,10 +25,14 @@ pub record Change : Type 0 where
   pub rows : RowsEvent
   pub pairs : List Pair
 
--- MySQL's rows event that only ends a statement: its table id is 0x00FFFFFF, and STMT_END_F, the lowest
--- flag, is set
+-- the table ids of MySQL's rows events that only end a statement: six bytes FF, or three
+abbrev pub is_id_of_dummy : ℕ → Bool
+is_id_of_dummy id = nat_eq id 0xFFFFFFFFFFFF || nat_eq id 0x00FFFFFF
+
+-- MySQL's rows event that only ends a statement: it has such an id and no rows data, and STMT_END_F, the
+-- lowest flag, is set. With rows data it is an event of a table that has this id.
 abbrev pub is_dummy : RowsEvent → Bool
-is_dummy rows = nat_eq rows.table_id 0x00FFFFFF && nat_eq (rows.flags % 2) 1
+is_dummy rows = (is_id_of_dummy rows.table_id && nat_eq (rows.flags % 2) 1) && nat_eq (length rows.rows_data) 0
 
 -- ---- what a rows event gives, by the tables in force
 

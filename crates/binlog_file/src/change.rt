@@ -147,11 +147,19 @@ fn failure<'a>(error: EventError) -> Given<'a>
     }
 }
 
-// Returns whether the event is MySQL's that only ends a statement.
+// Returns whether the table id is that of MySQL's events that only end a statement.
+fn is_id_of_dummy(table_id: u64) -> bool
+    ensures { result ≡ Spec.is_id_of_dummy table_id }
+{
+    table_id == 0xffff_ffff_ffff || table_id == 0x00ff_ffff
+}
+
+// Returns whether the event is MySQL's that only ends a statement. A table may have its id too: then the
+// event has rows data.
 pub(crate) fn is_dummy(rows: &RowsEvent<'_>) -> bool
     ensures { result ≡ Spec.is_dummy rows.now }
 {
-    rows.table_id() == 0x00ff_ffff && rows.flags_raw() % 2 == 1
+    is_id_of_dummy(rows.table_id()) && rows.flags_raw() % 2 == 1 && rows.rows_data().is_empty()
 }
 
 // Returns the change of a rows event, with the table map event that is in force for it.

@@ -247,23 +247,22 @@ fn tables_of_a_statement(rt: HostRuntime) -> Result<(), Fail> {
 }
 
 /// Appends a statement of this table: its table map event, and a rows event of two rows.
-fn push_statement(file: &mut Vec<u8>, table_id: u8) -> Result<(), AllocError> {
+fn push_statement(file: &mut Vec<u8>, table_id: u32) -> Result<(), AllocError> {
     let mut table = [0; 21];
     table.copy_from_slice(TWO_COLUMNS);
-    table[0] = table_id;
+    table[..4].copy_from_slice(&table_id.to_le_bytes());
     push(file, 0x13, 0, &table, false)?;
     let mut rows = [0; 25];
     rows.copy_from_slice(TWO_ROWS);
-    rows[0] = table_id;
+    rows[..4].copy_from_slice(&table_id.to_le_bytes());
     push(file, 0x1e, 0, &rows, false)
 }
 
 /// A file of one statement after the other, of so many tables by turns.
-fn by_turns(alloc: Global, tables: u8, statements: u16) -> Result<Vec<u8>, AllocError> {
+fn by_turns(alloc: Global, tables: u8, statements: u32) -> Result<Vec<u8>, AllocError> {
     let mut file = begun(alloc, false)?;
     for i in 0..statements {
-        let table_id = i % u16::from(tables.max(1));
-        push_statement(&mut file, table_id.to_le_bytes()[0])?;
+        push_statement(&mut file, i % u32::from(tables.max(1)))?;
     }
     Ok(file)
 }
@@ -303,19 +302,30 @@ fn tables_are_kept_in_bounds(rt: HostRuntime) -> Result<(), Fail> {
     Ok(())
 }
 
+/// Bodies of MySQL's rows events that only end a statement, of no column and of one.
+const DUMMIES: &[&[u8]] = &[
+    b"\xff\xff\xff\0\0\0\x01\0\x02\0\0",
+    b"\xff\xff\xff\xff\xff\xff\x01\0\x02\0\x01\0",
+];
+
 #[test]
 fn passed_over(rt: HostRuntime) -> Result<(), Fail> {
     let alloc = rt.alloc();
     let mut file = with_rows(alloc, false, &[0])?;
-    // An unknown type with the flag that it may be ignored, and MySQL's rows event without rows.
+    // An unknown type with the flag that it may be ignored, and MySQL's rows events without rows.
     push(&mut file, 0x50, 0x80, b"", false)?;
-    push(
-        &mut file,
-        0x1e,
-        0,
-        b"\xff\xff\xff\0\0\0\x01\0\x02\0\0",
-        false,
-    )?;
+    for body in DUMMIES {
+        push(&mut file, 0x1e, 0, *body, false)?;
+    }
+    assert!(rt; gives(alloc, &file, &[2])?);
+    Ok(())
+}
+
+#[test]
+fn a_table_with_the_id_of_dummies(rt: HostRuntime) -> Result<(), Fail> {
+    let alloc = rt.alloc();
+    let mut file = begun(alloc, false)?;
+    push_statement(&mut file, 0x00ff_ffff)?;
     assert!(rt; gives(alloc, &file, &[2])?);
     Ok(())
 }

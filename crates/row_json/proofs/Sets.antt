@@ -1,5 +1,5 @@
 -- The names of a SET, joined one by one.
-use Rattle.std.proofs.Common.{◌≡◌, ℕ, ◌/◌, ◌%◌, ◌<◌, ◌+◌, length, drop, map, get_or, Bool, true, false, List, [], ◌∷◌, ◌++◌, arith, refl, sym, ap, ◌∙◌, append_assoc}
+use Rattle.std.proofs.Common.{◌≡◌, ℕ, ◌/◌, ◌%◌, ◌<◌, ◌+◌, length, drop, map, get_or, Bool, true, false, List, [], ◌∷◌, ◌++◌, arith, refl, sym, ap, ◌∙◌, append_assoc, append-nil}
 use Rattle.std.proofs.lemmas.List.{drop_more, drop-map}
 use Rattle.std.specs.Prelude.{Option, Some, None, ◌==◌, if◌then◌else◌, codes}
 use Rattle.std.specs.Option.{option_map}
@@ -32,6 +32,15 @@ join_more (x ∷ y ∷ xs) name =
 
 pub none_step : (names : List (Option (List ℕ))) (left : ℕ) (done : Names) → (left % 2 == 1) ≡ true → after done (set_names (None ∷ names) left) ≡ None
 none_step names left done e = rw e refl
+
+-- no bit is left, so no further name is needed
+no_bits : (names : List (Option (List ℕ))) → set_names names 0 ≡ Some []
+no_bits [] = refl
+no_bits (name ∷ names) = no_bits names
+
+pub all_named : (all : Option Names) (names : List (Option (List ℕ))) (left : ℕ) (done : Names) (text : List ℕ) → all ≡ after done (set_names names left) → left ≡ 0 → text ≡ join_with_byte 44 done → option_map (join_with_byte 44) all ≡ Some text
+all_named all names left done text is none joined =
+    ap (option_map (join_with_byte 44)) (is ∙ (ap (λ (n : ℕ). after done (set_names names n)) none ∙ (ap (after done) (no_bits names) ∙ ap Some (append-nil done)))) ∙ ap Some (sym joined)
 
 pub even : (left : ℕ) → left % 2 ≡ 0 → (left % 2 == 1) ≡ false
 even left h = ap (λ n. n == 1) h

@@ -15,7 +15,7 @@ use mysql_binlog_rows::rows_event::{LentPair, RowPair, RowsEvent};
 use std::alloc::{AllocError, Global};
 use std::mem;
 
-/// From how many bytes on a line isn't copied.
+/// From how many bytes on a line isn't copied, if it is no shorter than the lines before it.
 const LONG: usize = 64 * 1024;
 
 /// Room in which lines are made, kept from line to line. It takes no memory until it is used, and
@@ -48,8 +48,8 @@ impl LineRoom {
         Writer::new(line)
     }
 
-    // Adds the line and a line's end to the lines. A long line isn't copied: the lines before it are put
-    // in front of it, and the buffers change places.
+    // Adds the line and a line's end to the lines. A long line isn't copied: the lines before it, if they
+    // are no longer, are put in front of it, and the buffers change places.
     fn add_to(&mut self, lines: &mut Vec<u8>) -> Result<(), AllocError>
         ensures added { OnOk result
             (lines.new.items ≡ lines.old.items ++ (self.old.line.items ++ codes "\n")) }
@@ -57,7 +57,7 @@ impl LineRoom {
     {
         self.line.push(b'\n')?;
         let len = self.line.len();
-        if len < LONG {
+        if len < LONG || len < lines.len() {
             return lines.extend_from_slice(&self.line);
         }
         self.line.extend_from_slice(lines)?;

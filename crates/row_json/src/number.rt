@@ -72,6 +72,9 @@ fn join_names(text: &mut String, names: &[Option<String>], bits: u64) -> Result<
     let mut left = bits;
     let mut is_first = true;
     for name in names {
+        if left == 0 {
+            return Ok(true);
+        }
         if left % 2 == 0 {
             left /= 2;
             continue;

@@ -138,7 +138,7 @@ WritesFirst why f wanted file from gtid old held new left = (text : List ℕ) ×
 -- the failure at a row with a fault
 abbrev pub IsRowFailure : ℕ → ℕ → Fault → Failure → Type 0
 IsRowFailure at row f (failure.File e) = (f ≢ fault.Memory) × (e.position ≡ at) × (e.error ≡ error.RowsData row f)
-IsRowFailure at row f failure.Memory = ⊤
+IsRowFailure at row f failure.Memory = f ≡ fault.Memory
 IsRowFailure at row f _ = ⊥
 
 -- the line of the row of this number in the event at a position can't be made

@@ -2,7 +2,10 @@
 use Rattle.std.specs.Prelude.{◌≡◌, ◌⊎◌, ℕ, true, List, [], Option, None}
 use Rattle.binlog_file.specs.Events.{Event, is_binlog}
 use Rattle.binlog_file.specs.Changes.{Spot, first_spot}
+use Rattle.std.specs.IoError.{error_kind}
+use Rattle.std.specs.declared.io.ErrorKind.TheVariants as kind
 use Rattle.change_lines.specs.declared.error.Failure.{Failure}
+use Rattle.change_lines.specs.declared.error.Failure.TheVariants as failure
 use Rattle.change_lines.specs.declared.run.Settings.{Settings}
 use Rattle.change_lines.specs.declared.run.Ended.{Ended}
 use Rattle.change_lines.specs.declared.run.Ended.TheVariants as ended
@@ -27,6 +30,17 @@ abbrev pub AreFirstLines : Failure → Settings → List ℕ → List ℕ → Li
 AreFirstLines why settings file x text =
     ((text ≡ []) × EndsAtHeader why x)
     ⊎ ((is_binlog x ≡ true) × AreFirst why settings.form (wanted_by settings.filter) file (first_spot x) None text)
+
+-- the output failed because whoever read it went away
+abbrev pub IsClosedPipe : Failure → Type 0
+IsClosedPipe (failure.Output e) = error_kind e ≡ kind.BrokenPipe
+IsClosedPipe _ = ⊥
+
+-- how a run ends by a failure: closed, if whoever read the output went away, and else failed
+abbrev pub EndsBy : Ended → Failure → Type 0
+EndsBy ended.Whole why = ⊥
+EndsBy ended.Closed why = IsClosedPipe why
+EndsBy ended.Failed why = IsClosedPipe why → ⊥
 
 -- the exit status: 1 if an error was told
 abbrev pub status_of : Ended → ℕ

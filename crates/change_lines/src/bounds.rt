@@ -1,6 +1,6 @@
 //! The positions at which the reading of a file begins and stops.
 
-ghost use Rattle.std.specs.Prelude.{◌≡◌, ◌≢◌, ◌⊎◌, ◌<◌, ℕ, Some, None, OnOk, IfErr, IsFalse};
+ghost use Rattle.std.specs.Prelude.{◌≡◌, ◌≢◌, ◌⊎◌, ◌↔◌, ◌<◌, ℕ, Some, None, OnOk, IfErr, IsFalse};
 ghost use Rattle.change_lines.specs.declared.error.Failure.TheVariants.{NoEvent};
 ghost use Rattle.changed_rows.specs.Names.{is_before};
 ghost use Rattle.changed_rows.specs.Filters.{start_sought, start_after, IsUpTo};
@@ -36,7 +36,7 @@ impl Bounds {
 
     /// Returns whether it has to be seen at which positions events begin.
     pub fn are_given(&self) -> bool
-        ensures { IsFalse result → self.now.stop ≡ None }
+        ensures { IsFalse result ↔ ((self.now.start ≡ None) × (self.now.stop ≡ None)) }
     {
         self.start.is_some() || self.stop.is_some()
     }

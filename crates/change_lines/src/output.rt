@@ -1,6 +1,7 @@
 //! Writing to an output that may fail.
 
-ghost use Rattle.std.specs.Prelude.{OnOk};
+ghost use Rattle.std.specs.Prelude.{◌≢◌, OnOk, IfErr};
+ghost use Rattle.std.specs.IoError.{error_kind};
 ghost use Rattle.std.specs.Io.{WritesAtMost};
 ghost use Rattle.std.specs.Io.KnownBytes.{Appends, WriteAppends};
 ghost use Rattle.change_lines.specs.Outputs.{AppendsFirst};
@@ -12,6 +13,7 @@ use std::io::{ErrorKind, Write};
 fn write_some<O: Write>(out: &mut O, bytes: &[u8]) -> io::Result<usize>
     ensures bound { WritesAtMost result bytes.now }
     ensures bytes { WriteAppends (O.contents out.old) (O.contents out.new) result bytes.now }
+    ensures retried { IfErr result (λ e. error_kind e ≢ ErrorKind.Interrupted) }
 {
     match out.write(bytes) {
         Ok(0) => Err(io::Error::from(ErrorKind::WriteZero)),

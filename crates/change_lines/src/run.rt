@@ -1,6 +1,7 @@
 //! Prints the changes of a file.
 
-ghost use Rattle.std.specs.Prelude.{◌≡◌, ◌≢◌, ◌⊎◌, ℕ, List, [], ◌++◌, OnOk, OnErr, IfOk, IfErr};
+ghost use Rattle.std.specs.IoError.{error_kind};
+ghost use Rattle.std.specs.Prelude.{◌≡◌, ◌≢◌, ◌⊎◌, ◌↔◌, IsTrue, ℕ, List, [], ◌++◌, OnOk, OnErr, IfOk, IfErr};
 ghost use Rattle.std.specs.String.{string_bytes};
 ghost use Rattle.std.specs.Io.KnownBytes.{Appends};
 ghost use Rattle.row_json.specs.Rows.{IsLine};
@@ -13,7 +14,7 @@ ghost use Rattle.binlog_file.specs.declared.lent_changes.LentEvent.TheVariants a
 ghost use Rattle.binlog_file.specs.SourceChanges.{Finds, spot_at, items_left};
 ghost use Rattle.binlog_file.specs.Workings.SourceWalks.{reading_in, kept_in};
 ghost use Rattle.change_lines.specs.declared.run.Form.TheVariants as Form;
-ghost use Rattle.change_lines.specs.declared.run.Ended.TheVariants.{Whole, Closed};
+ghost use Rattle.change_lines.specs.declared.run.Ended.TheVariants.{Whole};
 ghost use Rattle.changed_rows.specs.Filters.{wanted_by};
 ghost use Rattle.changed_rows.specs.Gtids.{gtid_after};
 ghost use Rattle.changed_rows.specs.Sources.{members_in};
@@ -31,7 +32,7 @@ ghost use Rattle.change_lines.specs.CountedFiles.{counted_by, AreEventRows, AreF
 ghost use Rattle.change_lines.specs.CountedFiles.{AreCountedToEnd, AreFirstCounted, AreAllCounted};
 ghost use Rattle.change_lines.specs.CountedFiles.{AreFirstOfFile, CountsThese};
 ghost use Rattle.change_lines.specs.Printers.{IsSame};
-ghost use Rattle.change_lines.specs.Runs.{AreAllLines, AreFirstLines, status_of};
+ghost use Rattle.change_lines.specs.Runs.{AreAllLines, AreFirstLines, EndsBy, status_of};
 
 use crate::bounds::Bounds;
 use crate::error::Failure;
@@ -55,7 +56,7 @@ use mysql_binlog_rows::rows_event::{LentPair, RowsEvent};
 use row_json::{LineRoom, TableJson, write_line_with};
 use row_lines::push_signed_line;
 use std::alloc::{AllocError, Global};
-use std::io::{ErrorKind, Read, Write};
+use std::io::{self, ErrorKind, Read, Write};
 use std::time::Clock;
 
 /// From how many bytes on lines are written out.
@@ -104,6 +105,29 @@ impl Ended {
             Ended::Whole | Ended::Closed => 0,
             Ended::Failed => 1,
         }
+    }
+}
+
+// Returns whether an output failed because whoever read it went away.
+fn is_broken_pipe(error: &io::Error) -> bool
+    ensures { IsTrue result ↔ (error_kind error.now ≡ ErrorKind.BrokenPipe) }
+{
+    error.kind() == ErrorKind::BrokenPipe
+}
+
+// Returns how a run ends by a failure.
+fn ended_by(failure: &Failure) -> Ended
+    ensures { EndsBy result failure.now }
+{
+    match failure {
+        Failure::Output(error) => {
+            if is_broken_pipe(error) {
+                Ended::Closed
+            } else {
+                Ended::Failed
+            }
+        }
+        Failure::File(_) | Failure::NoEvent(_) | Failure::Memory => Ended::Failed,
     }
 }
 
@@ -670,7 +694,7 @@ pub fn run<R: Read + Drop, O: Write, E: Write + Drop, K: Clock>(
         × AppendsUpTo why (O.contents out.old) (O.contents out.new) text
         × (settings.now.form ≡ Form.Count
         → CountsThese (AreFirstOfFile why settings.now x) counts.old counts.new)
-        × (result ≡ Closed → IsOutput why) }
+        × EndsBy result why }
 {
     let mut printer = Printer {
         alloc,
@@ -687,10 +711,12 @@ pub fn run<R: Read + Drop, O: Write, E: Write + Drop, K: Clock>(
             notes.tell_statements(path, &printer.statements);
             Ended::Whole
         }
-        Err(Failure::Output(error)) if error.kind() == ErrorKind::BrokenPipe => Ended::Closed,
         Err(failure) => {
-            notes.tell(path, &failure);
-            Ended::Failed
+            let ended = ended_by(&failure);
+            if ended == Ended::Failed {
+                notes.tell(path, &failure);
+            }
+            ended
         }
     }
 }

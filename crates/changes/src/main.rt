@@ -65,7 +65,7 @@ fn over_files(rt: &HostRuntime, matches: &ArgMatches<'_>) -> io::Result<u8> {
     let mut notes = Notes::new(rt.alloc(), rt.stderr(), arguments.is_quiet);
     let mut ended = Ended::Whole;
     for (index, path) in arguments.files.iter().enumerate() {
-        ended = one_file(rt, &arguments, index, path, &mut counts, &mut notes)?;
+        ended = one_file(rt, &arguments, index, path, &mut counts, &mut notes);
         if !matches!(ended, Ended::Whole) {
             break;
         }
@@ -84,8 +84,26 @@ fn print_counts(rt: &HostRuntime, counts: &Counts) -> io::Result<()> {
     }
 }
 
-// Reads one file.
+// Reads one file. Tells why, if it can't be read.
 fn one_file<'r>(
+    rt: &'r HostRuntime,
+    arguments: &Arguments<'_>,
+    index: usize,
+    path: &str,
+    counts: &mut Counts,
+    notes: &mut Notes<'r, Stderr, HostRuntime>,
+) -> Ended {
+    match read_file(rt, arguments, index, path, counts, notes) {
+        Ok(ended) => ended,
+        Err(error) => {
+            let _told = eprintln!(rt; "changes: {path}: {error}");
+            Ended::Failed
+        }
+    }
+}
+
+// Opens a file and reads it.
+fn read_file<'r>(
     rt: &'r HostRuntime,
     arguments: &Arguments<'_>,
     index: usize,
@@ -110,26 +128,19 @@ fn one_file<'r>(
             notes,
         ));
     }
-    match open(rt, path) {
-        Ok((opened, len)) => {
-            notes.begin(len, arguments.is_progress.then(|| Meter::new(rt, len)));
-            let reader = BufReader::new(rt.alloc(), opened)?;
-            Ok(run(
-                rt.alloc(),
-                &settings,
-                path,
-                file,
-                reader,
-                counts,
-                &mut out,
-                notes,
-            ))
-        }
-        Err(error) => {
-            let _told = eprintln!(rt; "changes: {path}: {error}");
-            Ok(Ended::Failed)
-        }
-    }
+    let (opened, len) = open(rt, path)?;
+    notes.begin(len, arguments.is_progress.then(|| Meter::new(rt, len)));
+    let reader = BufReader::new(rt.alloc(), opened)?;
+    Ok(run(
+        rt.alloc(),
+        &settings,
+        path,
+        file,
+        reader,
+        counts,
+        &mut out,
+        notes,
+    ))
 }
 
 // Returns the last part of a path.

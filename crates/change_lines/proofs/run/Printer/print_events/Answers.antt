@@ -88,7 +88,7 @@ returns-in-None-clause-counts g c =
     let place = c.position-position.ensures ∙ ap (λ (r : EventStreamReader). (kept_by r.kept).at) c.reader.ensures in
     on_ok c.end-in-None.result _ _
     (λ stops counted none x finds. count_ended _ _ _ _ _ _ _ (h.4 counted none x finds) is_each c.args.self.now.settings.now.filter.positions.stop (g.S.Source.remaining mid.source) (reading_in mid.walk) mid.walk.pending gives
-    (λ free. sym h.2 ∙ c.are_given.ensures free)
+    (λ free. sym h.2 ∙ (c.are_given.ensures.0 free).1)
     (elim stops [ inl without ↦ inl (sym h.2 ∙ without) | inr at ↦ inr (sym h.2 ∙ at ∙ ap (λ (n : ℕ). Some n) place) ]))
     c.end-in-None.ensures.stop
 
@@ -114,7 +114,7 @@ returns-in-None-clause-all g c =
     let place = c.position-position.ensures ∙ ap (λ (r : EventStreamReader). (kept_by r.kept).at) c.reader.ensures in
     on_ok c.end-in-None.result _ _
     (λ stops none x finds. ended _ _ _ c.args.self.now.settings.now.filter.positions.stop _ _ _ _ _ _ _ _ _ _ (h.3 none x finds) is_each (g.S.Source.remaining mid.source) (reading_in mid.walk) mid.walk.pending gives
-    (λ free. sym h.2 ∙ c.are_given.ensures free)
+    (λ free. sym h.2 ∙ (c.are_given.ensures.0 free).1)
     (elim stops [ inl without ↦ inl (sym h.2 ∙ without) | inr at ↦ inr (sym h.2 ∙ at ∙ ap (λ (n : ℕ). Some n) place) ]))
     c.end-in-None.ensures.stop
 

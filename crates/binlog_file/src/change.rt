@@ -154,8 +154,8 @@ fn is_id_of_dummy(table_id: u64) -> bool
     table_id == 0xffff_ffff_ffff || table_id == 0x00ff_ffff
 }
 
-// Returns whether the event is MySQL's that only ends a statement. A table may have its id too: then the
-// event has rows data.
+// Returns whether the event is MySQL's that only ends a statement. A table may have such an id too: its
+// events have rows data.
 pub(crate) fn is_dummy(rows: &RowsEvent<'_>) -> bool
     ensures { result ≡ Spec.is_dummy rows.now }
 {

@@ -32,15 +32,15 @@ AreFirstLines why settings file x text =
     ⊎ ((is_binlog x ≡ true) × AreFirst why settings.form (wanted_by settings.filter) file (first_spot x) None text)
 
 -- the output failed because whoever read it went away
-abbrev pub IsClosedPipe : Failure → Type 0
-IsClosedPipe (failure.Output e) = error_kind e ≡ kind.BrokenPipe
-IsClosedPipe _ = ⊥
+abbrev pub IsBrokenPipe : Failure → Type 0
+IsBrokenPipe (failure.Output e) = error_kind e ≡ kind.BrokenPipe
+IsBrokenPipe _ = ⊥
 
 -- how a run ends by a failure: closed, if whoever read the output went away, and else failed
 abbrev pub EndsBy : Ended → Failure → Type 0
 EndsBy ended.Whole why = ⊥
-EndsBy ended.Closed why = IsClosedPipe why
-EndsBy ended.Failed why = IsClosedPipe why → ⊥
+EndsBy ended.Closed why = IsBrokenPipe why
+EndsBy ended.Failed why = IsBrokenPipe why → ⊥
 
 -- the exit status: 1 if an error was told
 abbrev pub status_of : Ended → ℕ

@@ -13,7 +13,7 @@ use std::io::{ErrorKind, Write};
 fn write_some<O: Write>(out: &mut O, bytes: &[u8]) -> io::Result<usize>
     ensures bound { WritesAtMost result bytes.now }
     ensures bytes { WriteAppends (O.contents out.old) (O.contents out.new) result bytes.now }
-    ensures retried { IfErr result (λ e. error_kind e ≢ ErrorKind.Interrupted) }
+    ensures not_interrupted { IfErr result (λ e. error_kind e ≢ ErrorKind.Interrupted) }
 {
     match out.write(bytes) {
         Ok(0) => Err(io::Error::from(ErrorKind::WriteZero)),

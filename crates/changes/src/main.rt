@@ -84,7 +84,7 @@ fn print_counts(rt: &HostRuntime, counts: &Counts) -> io::Result<()> {
     }
 }
 
-// Reads one file. Tells why, if it can't be read.
+// Reads one file. If it can't be opened, or memory for its buffer is refused, that is told here.
 fn one_file<'r>(
     rt: &'r HostRuntime,
     arguments: &Arguments<'_>,

@@ -1,4 +1,5 @@
-//! Tests of `row_json` and `row_lines`, of JSON cells, of trees and of a filter over them. The library itself is empty.
+//! Tests of `row_json`, of JSON cells, of trees and of a filter over them. The library itself is
+//! empty.
 #![tactic(auto)]
 
 #[cfg(test)]

@@ -1,6 +1,6 @@
-//! Tests of rows as JSON, of JSON cells and diffs, of trees of binary JSON, and of a filter that walks
-//! such trees. The tables have no names of
-//! columns unless it is said, so that these are `@0`, `@1` and so on.
+//! Tests of rows as JSON, of JSON cells and diffs, of trees of binary JSON, and of a filter over such
+//! trees. The tables have no names of columns unless it is said, so that these are `@0`, `@1` and so
+//! on.
 
 mod filter;
 mod memory;

@@ -1,4 +1,4 @@
-//! Walks the rows of an event without a list of its pairs, as the example in README.md does, and
+//! Walks the rows of an event without a list of its pairs, as the first program of docs/CALLING.md does, and
 //! goes on to the strings in a JSON column.
 
 use super::all;

@@ -90,9 +90,9 @@ def same(kind, expected, found):
         return struct.pack("<f", float(expected)) == struct.pack("<f", float(found))
     if kind == "double":
         return float(expected) == float(found)
-    # The server leaves the zeros out with which BINARY is filled up.
+    # The server leaves the zero bytes out with which BINARY is filled up.
     if kind == "padded":
-        return expected.rstrip("0") == found.rstrip("0")
+        return bytes.fromhex(expected).rstrip(b"\0") == bytes.fromhex(found).rstrip(b"\0")
     return expected == found
 
 

@@ -171,6 +171,18 @@ fn events_one_after_the_other(rt: HostRuntime) -> Result<(), Fail> {
     Ok(())
 }
 
+/// Returns whether the event has one pair by the plan that is kept, and the steps.
+fn pair_by(
+    alloc: Global,
+    kept: &mut KeptPlan,
+    table: &TableMapEvent<'_>,
+    event: &RowsEvent<'_>,
+) -> Result<(bool, u128), Fault> {
+    let mut pairs = event.rows_by(alloc, table, kept)?;
+    let is_pair = matches!(pairs.next(), Some(Ok(_)));
+    Ok((is_pair && pairs.next().is_none(), pairs.metadata_steps()))
+}
+
 /// Reads both events. Returns whether there is one pair by the plan that is kept, and the steps.
 fn read_by(
     alloc: Global,
@@ -180,10 +192,7 @@ fn read_by(
     event_type: EventType,
 ) -> Result<(bool, u128), Fault> {
     let table: TableMapEvent<'_> = ParseBuf(table).parse(8)?;
-    let event = read(rows, event_type, 10)?;
-    let mut pairs = event.rows_by(alloc, &table, kept)?;
-    let is_pair = matches!(pairs.next(), Some(Ok(_)));
-    Ok((is_pair && pairs.next().is_none(), pairs.metadata_steps()))
+    pair_by(alloc, kept, &table, &read(rows, event_type, 10)?)
 }
 
 /// Does the same by a plan that is there. Not inlined, so that scripts/instructions.sh can count it.
@@ -243,17 +252,47 @@ fn named_update_read_twice(rt: HostRuntime) -> Result<(), Fail> {
     Ok(())
 }
 
+/// A table map event that is shared.
+type SharedTable = Arc<TableMapEvent<'static>>;
+
+/// Reads a table map event, and returns it to be shared.
+fn shared(alloc: Global, table: &[u8]) -> Result<SharedTable, Fault> {
+    let table: TableMapEvent<'_> = ParseBuf(table).parse(8)?;
+    Ok(Arc::new(alloc, table.into_owned(alloc)?)?)
+}
+
+/// Returns whether the event has two pairs by a table map event that is shared, and no fault.
+fn has_two_pairs(
+    alloc: Global,
+    kept: &mut KeptPlan,
+    table: &SharedTable,
+    event: &RowsEvent<'_>,
+) -> Result<bool, Fault> {
+    let decoded = pairs_by_shared(alloc, table, event, kept)?;
+    Ok(decoded.fault.is_none() && decoded.pairs.len() == 2)
+}
+
+/// Returns how many pairs the event has, read one by one by a table map event that is shared, and the
+/// steps.
+fn count_by_shared(
+    alloc: Global,
+    kept: &mut KeptPlan,
+    table: &SharedTable,
+    event: &RowsEvent<'_>,
+) -> Result<(usize, u128), Fault> {
+    let pairs = event.rows_by_shared(alloc, table, kept)?;
+    let steps = pairs.metadata_steps();
+    Ok((pairs.count(), steps))
+}
+
 /// Reads the two rows twice by a table map event that is shared. Returns whether there are two pairs
 /// each time, and the steps of the second time.
 fn read_shared(alloc: Global, kept: &mut KeptPlan) -> Result<(bool, u128), Fault> {
-    let table: TableMapEvent<'_> = ParseBuf(UNSIGNED).parse(8)?;
-    let table = Arc::new(alloc, table.clone(alloc)?.into_owned(alloc)?)?;
+    let table = shared(alloc, UNSIGNED)?;
     let event = read(TWO_ROWS, EventType::WRITE_ROWS_EVENT, 10)?;
-    let decoded = pairs_by_shared(alloc, &table, &event, kept)?;
-    let again = event.rows_by_shared(alloc, &table, kept)?;
-    let steps = again.metadata_steps();
-    let are_two = decoded.fault.is_none() && decoded.pairs.len() == 2 && again.count() == 2;
-    Ok((are_two, steps))
+    let are_two = has_two_pairs(alloc, kept, &table, &event)?;
+    let (count, steps) = count_by_shared(alloc, kept, &table, &event)?;
+    Ok((are_two && count == 2, steps))
 }
 
 #[test]

@@ -271,24 +271,27 @@ fn by_turns(alloc: Global, tables: u8, statements: u32) -> Result<Vec<u8>, Alloc
 /// that takes more than half of all.
 const BOUNDS: &[(usize, usize)] = &[(0, 0), (1619, 0), (1620, 1620), (1 << 23, 2430)];
 
-/// Takes all events of a file. Returns how many bytes are kept then, if the last table is in force.
-fn kept_of(alloc: Global, file: &[u8], most: usize) -> Result<Option<usize>, Fail> {
-    let mut tables = TableMaps::with_kept_bytes(alloc, most);
+/// Takes all events of a file.
+fn take_all(alloc: Global, file: &[u8], tables: &mut TableMaps) -> Result<(), Fail> {
     for event in Events::new(file)? {
         tables.take(alloc, &event?)?;
     }
+    Ok(())
+}
+
+/// Takes all events of a file. Returns how many bytes are kept then, if the last table is in force.
+fn kept_of(alloc: Global, file: &[u8], most: usize) -> Result<Option<usize>, Fail> {
+    let mut tables = TableMaps::with_kept_bytes(alloc, most);
+    take_all(alloc, file, &mut tables)?;
     Ok(tables.get_tme(2).map(|_| tables.kept_bytes()))
 }
 
 /// Reads all events of a file. Returns whether the last table is in force then.
 fn last_table(alloc: Global, file: &[u8], most: usize) -> Result<bool, Fail> {
     let mut reader = EventStreamReader::with_kept_bytes(alloc, most);
-    let mut buffer = EventBuffer::new(alloc);
     let mut source = file.get(4..).unwrap_or(&[]);
-    for _ in 0..13 {
-        reader.read(&mut source, &mut buffer)?;
-    }
-    Ok(reader.position() == file.len() as u64 && reader.get_tme(2).is_some())
+    let all = reads(alloc, &mut reader, &mut source, 13)?;
+    Ok(all && reader.position() == file.len() as u64 && reader.get_tme(2).is_some())
 }
 
 #[test]
@@ -439,14 +442,8 @@ impl Source for Failing<'_> {
     }
 }
 
-#[test]
-fn a_source_that_fails(rt: HostRuntime) -> Result<(), Fail> {
-    let alloc = rt.alloc();
-    let bytes = with_rows(alloc, false, &[1])?;
-    let source = Failing {
-        left: &bytes,
-        failures: 0,
-    };
+/// Returns how many pairs the last change of a source has, and the error after it.
+fn last_of(alloc: Global, source: Failing<'_>) -> Result<(usize, Option<FileError>), FileError> {
     let mut pairs = 0;
     let mut error = None;
     for change in SourceChanges::new(alloc, BinlogFile::new(alloc, source)?, AllRows) {
@@ -455,6 +452,18 @@ fn a_source_that_fails(rt: HostRuntime) -> Result<(), Fail> {
             Err(last) => error = Some(last),
         }
     }
+    Ok((pairs, error))
+}
+
+#[test]
+fn a_source_that_fails(rt: HostRuntime) -> Result<(), Fail> {
+    let alloc = rt.alloc();
+    let bytes = with_rows(alloc, false, &[1])?;
+    let source = Failing {
+        left: &bytes,
+        failures: 0,
+    };
+    let (pairs, error) = last_of(alloc, source)?;
     assert!(rt; pairs == 2);
     let wanted = FileError {
         position: 210,
@@ -509,19 +518,29 @@ fn leads(
     Ok(is_empty && has_changes(alloc, &checkpoint, count)?)
 }
 
-/// Whether the checkpoint after so many events of a file gives no changes, and the rest after it gives
-/// as many as the whole file from there on.
+/// Whether the checkpoint of a reader gives no changes, and what is left after it gives as many as the
+/// whole file from there on.
+fn leads_back(
+    alloc: Global,
+    reader: &EventStreamReader,
+    file: &[u8],
+    left: &[u8],
+) -> Result<bool, AllocError> {
+    let count = changes_from(alloc, file, reader.position())?;
+    match reader.checkpoint(alloc)? {
+        Some(checkpoint) => leads(alloc, checkpoint, left, count),
+        None => Ok(false),
+    }
+}
+
+/// Whether the checkpoint after so many events of a file leads back to the rest of it.
 fn resumed(alloc: Global, file: &[u8], after: usize) -> Result<bool, Fail> {
     let mut reader = EventStreamReader::new(alloc);
     let mut left = file.get(4..).unwrap_or(&[]);
     if !reads(alloc, &mut reader, &mut left, after)? {
         return Ok(true);
     }
-    let count = changes_from(alloc, file, reader.position())?;
-    match reader.checkpoint(alloc)? {
-        Some(checkpoint) => Ok(leads(alloc, checkpoint, left, count)?),
-        None => Ok(false),
-    }
+    Ok(leads_back(alloc, &reader, file, left)?)
 }
 
 #[test]

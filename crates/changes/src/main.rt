@@ -8,7 +8,7 @@ use change_lines::run::{Ended, run};
 use changed_rows::count::Counts;
 use clap::{ArgMatches, Error};
 use std::fs::File;
-use std::io::{BufReader, ErrorKind, Stderr};
+use std::io::{BufReader, ErrorKind, Read, Stderr};
 use std::process::ExitCode;
 use std::{env, io};
 
@@ -111,34 +111,33 @@ fn read_file<'r>(
     counts: &mut Counts,
     notes: &mut Notes<'r, Stderr, HostRuntime>,
 ) -> io::Result<Ended> {
-    let settings = arguments.settings(index);
-    let file = file_name(path);
-    let mut out = rt.stdout();
     if path == "-" {
-        notes.begin(None, arguments.is_progress.then(|| Meter::new(rt, None)));
-        let reader = BufReader::new(rt.alloc(), rt.stdin())?;
-        return Ok(run(
-            rt.alloc(),
-            &settings,
-            path,
-            file,
-            reader,
-            counts,
-            &mut out,
-            notes,
-        ));
+        return read_source(rt, arguments, index, path, rt.stdin(), None, counts, notes);
     }
     let (opened, len) = open(rt, path)?;
+    read_source(rt, arguments, index, path, opened, len, counts, notes)
+}
+
+// Reads a file from its source, which has so many bytes if that is known.
+fn read_source<'r, R: Read + Drop>(
+    rt: &'r HostRuntime,
+    arguments: &Arguments<'_>,
+    index: usize,
+    path: &str,
+    source: R,
+    len: Option<u64>,
+    counts: &mut Counts,
+    notes: &mut Notes<'r, Stderr, HostRuntime>,
+) -> io::Result<Ended> {
     notes.begin(len, arguments.is_progress.then(|| Meter::new(rt, len)));
-    let reader = BufReader::new(rt.alloc(), opened)?;
     Ok(run(
         rt.alloc(),
-        &settings,
+        &arguments.settings(index),
         path,
-        file,
-        reader,
+        file_name(path),
+        BufReader::new(rt.alloc(), source)?,
         counts,
-        &mut out,
+        &mut rt.stdout(),
         notes,
     ))
 }

@@ -186,9 +186,14 @@ with_table at h p t = record {
   table = Some t;
 }
 
--- an event that is no format description
+-- the event that names the file which follows: a server begins a stream with one
+abbrev pub is_rotate : Header → Bool
+is_rotate h = nat_eq h.event_type 0x04
+
+-- An event that is no format description. Before the first description only the names of files may
+-- come: their bodies aren't read, and whether a checksum ends them isn't known.
 abbrev pub other_event : ℕ → Option Description → Header → Parts → FormatOf EventError Event
-other_event at None h p = refusal error.NoDescription
+other_event at None h p = choice (is_rotate h) (no_bytes (plain at h p None)) (refusal error.NoDescription)
 other_event at (Some d) h p =
     choice (nat_eq h.event_type 0x13)
     (map_value (map_fault (all_of p.body (table_map_of d.server (post_header_len d 0x13))) error.TableMap) (with_table at h p))

@@ -14,7 +14,7 @@ pub enum EventError {
     /// The file begins with `FD 62 69 6E`, as encrypted binlog files do.
     #[error("the binlog file is encrypted")]
     Encrypted,
-    /// No format description event comes before this event.
+    /// No format description event comes before this event, and it is no `ROTATE_EVENT`.
     #[error("no format description event")]
     NoDescription,
     /// The binlog version of a format description event isn't 4.

@@ -497,6 +497,38 @@ impl<'a> Model for PlainEvent<'a> {
     } };
 }
 
+// Returns whether the event names the file that follows.
+fn is_rotate(header: &BinlogEventHeader) -> bool
+    ensures { result ≡ Spec.is_rotate header.now }
+{
+    header.event_type() == 0x04
+}
+
+// Reads an event that no description comes before. The name of a file is passed over: a server begins
+// a stream with it.
+fn undescribed_event<'a>(
+    position: u64,
+    header: BinlogEventHeader,
+    parts: Parts<'a>,
+) -> Result<PlainEvent<'a>, EventError>
+    ensures parses { (x : List ℕ) → Parses
+        (Spec.other_event position None header parts.entry) result x x }
+    ensures plain { IfOk result (λ e. e.description ≡ None) }
+    ensures no_table { IfOk result (λ e. e.table ≡ None) }
+{
+    if !is_rotate(&header) {
+        return Err(EventError::NoDescription);
+    }
+    let Parts { body, footer } = parts;
+    Ok(PlainEvent {
+        position,
+        header,
+        body,
+        footer,
+        rows: None,
+    })
+}
+
 // Reads a plain event from its parts.
 fn plain_event<'a>(
     position: u64,
@@ -511,7 +543,7 @@ fn plain_event<'a>(
     ensures no_table { IfOk result (λ e. e.table ≡ None) }
 {
     let Some(description) = in_force else {
-        return Err(EventError::NoDescription);
+        return undescribed_event(position, header, parts);
     };
     if !is_supported(&header) {
         return Err(EventError::NotSupported(header.event_type()));
@@ -530,7 +562,8 @@ impl<'a> PlainEvent<'a> {
     /// Reads the event of these bytes, after the description that is in force.
     ///
     /// Fails with `EventSize` if there is no room for the checksum, `Checksum` if it differs,
-    /// `NoDescription` if no description is in force, and `NotSupported` if the event's type isn't.
+    /// `NoDescription` if no description is in force, unless the event is a `ROTATE_EVENT`, and
+    /// `NotSupported` if the event's type isn't supported.
     #[inline(always)]
     pub fn of_raw(
         position: u64,
@@ -637,12 +670,35 @@ fn other_event<'a>(
         (Spec.other_event position in_force.now header parts.entry) result x x }
 {
     match in_force {
-        None => Err(EventError::NoDescription),
+        None => Ok(Event::of_plain(undescribed_event(position, header, parts)?)),
         Some(description) => after_description(position, description, header, parts),
     }
 }
 
 impl<'a> Event<'a> {
+    // Returns the event that this plain event is.
+    fn of_plain(event: PlainEvent<'a>) -> Event<'a>
+        ensures { result ≡ event.entry }
+    {
+        let PlainEvent {
+            position,
+            header,
+            body,
+            footer,
+            rows,
+        } = event;
+        Event {
+            position,
+            header,
+            body,
+            footer,
+            rows,
+            description: None,
+            table: None,
+            post_header_len: 0,
+        }
+    }
+
     /// Returns where the event begins in the file.
     pub fn position(&self) -> u64
         ensures { result ≡ self.now.position }
@@ -800,8 +856,12 @@ impl<'a> Event<'a> {
     /// the rest of the event is cut; `EventSize` if there is no room for the checksum; `Checksum`
     /// if it differs. Then, for a format description event, with its first fault of
     /// `BinlogVersion`, `ServerVersion`, `HeaderLength`, `ChecksumAlgorithm` and `Description`; for
-    /// another event, with `NoDescription` if none is in force, `TableMap` if it is a table map
-    /// event that can't be read, and `NotSupported` if its type isn't. Takes no memory.
+    /// another event, with `NoDescription` if none is in force, unless it is a `ROTATE_EVENT`,
+    /// `TableMap` if it is a table map event that can't be read, and `NotSupported` if its type
+    /// isn't. Takes no memory.
+    ///
+    /// A server begins a stream with a `ROTATE_EVENT`, which names the file. Before the first format
+    /// description its body is all bytes after the header: whether a checksum ends it isn't known.
     #[tactic(auto, using(crate::proofs::Reading::read_event))]
     pub fn read(
         position: u64,

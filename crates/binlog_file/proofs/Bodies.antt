@@ -11,7 +11,7 @@ use Rattle.binlog_events.specs.declared.error.EventError.TheVariants as error
 use Rattle.binlog_file.specs.Crc32.{crc32}
 use Rattle.binlog_file.specs.Header.{Header}
 use Rattle.binlog_file.specs.Description.{Description, description, post_header_len}
-use Rattle.binlog_file.specs.Events.{Raw, Parts, Event, Glance, parts_of, summed, is_checked, summed_head, has_checksum, event, other_event, event_of_raw, is_description, is_supported, rows_type, rows_ctx, with_description, with_table}
+use Rattle.binlog_file.specs.Events.{Raw, Parts, Event, Glance, parts_of, summed, is_checked, summed_head, has_checksum, event, other_event, event_of_raw, is_description, is_rotate, is_supported, rows_type, rows_ctx, with_description, with_table}
 use Rattle.binlog_file.specs.Stream.{Kept}
 use Rattle.binlog_file.specs.Workings.Taken.{TakesRaw}
 use Rattle.binlog_file.specs.Lemmas.Formats.{exact_event_of_raw}
@@ -47,7 +47,7 @@ mapped_body : {A : Type 0} (f : FormatOf EventError A) (g : A → Event) (b : Li
 mapped_body f g b y e same s = ap (λ (x : Event). x.body) s.5.1 ∙ same s.0
 
 other_body : (at : ℕ) (d : Option Description) (h : Header) (p : Parts) (y : List ℕ) (e : Event) → (other_event at d h p).spells y e → e.body ≡ p.body
-other_body at None h p y e s = absurd s
+other_body at None h p y e s = match_either (is_rotate h) (λ q. ap (λ (x : Event). x.body) q.1) (λ q. absurd q) s
 other_body at (Some d) h p y e s =
     match_either (nat_eq h.event_type 0x13) (mapped_body (map_fault (all_of p.body (table_map_of d.server (post_header_len d 0x13))) error.TableMap) (with_table at h p) p.body y e (λ a. refl)) (match_either (is_supported h) (λ q. ap (λ (x : Event). x.body) q.1) (λ q. absurd q)) s
 
@@ -84,7 +84,7 @@ mapped_rows : {A : Type 0} (f : FormatOf EventError A) (g : A → Event) (y : Li
 mapped_rows f g y e none s = ap (λ (x : Event). x.rows) s.5.1 ∙ none s.0
 
 other_rows : (at : ℕ) (d : Option Description) (h : Header) (p : Parts) (y : List ℕ) (e : Event) → rows_type e.header.event_type ≡ None → (other_event at d h p).spells y e → e.rows ≡ None
-other_rows at None h p y e none s = absurd s
+other_rows at None h p y e none s = match_either (is_rotate h) (λ q. ap (λ (x : Event). x.rows) q.1) (λ q. absurd q) s
 other_rows at (Some d) h p y e none s =
     match_either (nat_eq h.event_type 0x13) (mapped_rows (map_fault (all_of p.body (table_map_of d.server (post_header_len d 0x13))) error.TableMap) (with_table at h p) y e (λ a. refl))
     (match_either (is_supported h) (λ q. ap (λ (x : Event). x.rows) q.1 ∙ no_ctx d h.event_type (subst (λ (n : ℕ). rows_type n ≡ None) (ap (λ (x : Event). x.header.event_type) q.1) none)) (λ q. absurd q)) s

@@ -10,7 +10,7 @@ use Rattle.binlog_events.specs.declared.error.EventError.TheVariants as error
 use Rattle.binlog_file.specs.Header.{Header}
 use Rattle.binlog_file.specs.Description.{Description, description, post_header_len}
 use Rattle.binlog_file.specs.Workings.Stored.{is_gtid}
-use Rattle.binlog_file.specs.Events.{Raw, Parts, Event, event, other_event, event_of_raw, is_description, is_supported, has_checksum, rows_type, rows_ctx, with_description, with_table}
+use Rattle.binlog_file.specs.Events.{Raw, Parts, Event, event, other_event, event_of_raw, is_description, is_rotate, is_supported, has_checksum, rows_type, rows_ctx, with_description, with_table}
 
 abbrev pub placed : ℕ → Event → Event
 placed at e = record e { position = at }
@@ -27,7 +27,7 @@ moved_value : {A : Type 0} (to : ℕ) (f : FormatOf EventError A) (g h : A → E
 moved_value to f g h y e same s = (s.0, s.1, s.2, s.3, s.4, (s.5.0, ap (placed to) s.5.1 ∙ sym (same s.0)))
 
 moved_other : (from to : ℕ) (d : Option Description) (h : Header) (p : Parts) (y : List ℕ) (e : Event) → (other_event from d h p).spells y e → (other_event to d h p).spells y (placed to e)
-moved_other from to None h p y e s = absurd s
+moved_other from to None h p y e s = match_both (is_rotate h) (λ q. (q.0, ap (placed to) q.1)) (λ q. absurd q) s
 moved_other from to (Some d) h p y e s =
     match_both (nat_eq h.event_type 0x13) (moved_value to (map_fault (all_of p.body (table_map_of d.server (post_header_len d 0x13))) error.TableMap) (with_table from h p) (with_table to h p) y e (λ a. refl)) (match_both (is_supported h) (λ q. (q.0, ap (placed to) q.1)) (λ q. absurd q)) s
 
@@ -86,7 +86,14 @@ unfolding rows_ctx
 no_rows d n is = rw (gtid_rows n is) refl
 
 kind_of_other : (at : ℕ) (d : Option Description) (h : Header) (p : Parts) (y : List ℕ) (e : Event) → (other_event at d h p).spells y e → ((t : TableMap) × Maps e t) ⊎ IsPlain e
-kind_of_other at None h p y e s = absurd s
+kind_of_other at None h p y e s = inr (match_with (is_rotate h)
+    (λ is q. record {
+      description = ap (λ (x : Event). x.description) q.1;
+      table = ap (λ (x : Event). x.table) q.1;
+      rows = λ gtid. ap (λ (x : Event). x.rows) q.1;
+    })
+    (λ is q. absurd q)
+    s)
 kind_of_other at (Some d) h p y e s = match_with (nat_eq h.event_type 0x13)
     (λ is q.
     let head : e.header ≡ h = ap (λ (x : Event). x.header) q.5.1 in

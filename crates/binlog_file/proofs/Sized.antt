@@ -8,7 +8,7 @@ use Rattle.binlog_events.specs.declared.error.EventError.{EventError}
 use Rattle.binlog_events.specs.declared.error.EventError.TheVariants as error
 use Rattle.binlog_file.specs.Header.{Header}
 use Rattle.binlog_file.specs.Description.{Description, description, post_header_len}
-use Rattle.binlog_file.specs.Events.{Raw, Parts, Event, raw_event, event, other_event, event_of_raw, is_description, is_supported, rest_len, with_description, with_table}
+use Rattle.binlog_file.specs.Events.{Raw, Parts, Event, raw_event, event, other_event, event_of_raw, is_description, is_rotate, is_supported, rest_len, with_description, with_table}
 
 pub match_either : {P Q R : Type 0} (b : Bool) → (P → R) → (Q → R) → MatchBool b P Q → R
 match_either true f g h = f h
@@ -22,7 +22,7 @@ mapped : {A : Type 0} (f : FormatOf EventError A) (g : A → Event) (h : Header)
 mapped f g h y e empty same s = (no_bytes_left y s.1 s.2 s.3 (empty s.1 s.0 s.4) s.5.0, ap (λ (x : Event). x.header) s.5.1 ∙ same s.0)
 
 of_other : (at : ℕ) (d : Option Description) (h : Header) (p : Parts) (y : List ℕ) (e : Event) → (other_event at d h p).spells y e → (y ≡ []) × (e.header ≡ h)
-of_other at None h p y e s = absurd s
+of_other at None h p y e s = match_either (is_rotate h) (λ q. (q.0, ap (λ (x : Event). x.header) q.1)) (λ q. absurd q) s
 of_other at (Some d) h p y e s =
     match_either (nat_eq h.event_type 0x13) (mapped (map_fault (all_of p.body (table_map_of d.server (post_header_len d 0x13))) error.TableMap) (with_table at h p) h y e (λ u a q. q.0) (λ a. refl)) (match_either (is_supported h) (λ q. (q.0, ap (λ (x : Event). x.header) q.1)) (λ q. absurd q)) s
 

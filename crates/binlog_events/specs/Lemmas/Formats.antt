@@ -61,7 +61,7 @@ exact_raw_event =
     exact_map_value _ _ (exact_taken n))))
 
 exact_other : (at : ℕ) (d : Option Description) (h : Header) (p : Parts) → IsExactOf Any (other_event at d h p)
-exact_other at None h p = exact_refusal error.NoDescription tt
+exact_other at None h p = exact_choice _ _ _ (exact_no_bytes _) (exact_refusal error.NoDescription tt)
 exact_other at (Some d) h p =
     exact_choice _ _ _
     (exact_map_value _ _ (exact_map_fault _ error.TableMap (exact_all_of p.body _ (exact_table_map d.server _)) (λ d k. tt)))

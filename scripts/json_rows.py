@@ -313,6 +313,9 @@ def value_of(column, event):
     if kind in (VARCHAR, VAR_STRING, STRING):
         most = column.length if column.raw == STRING else first + 256 * second
         data = event.take(event.number(1 if most < 256 else 2))
+        if kind == STRING and column.charset == 63:
+            # A BINARY, without the zero bytes at its end.
+            return base64_of(data.ljust(most, b"\0"))
         return text_or_base64(data, column.charset)
     raise AssertionError(f"a column of type {kind}")
 

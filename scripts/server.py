@@ -46,7 +46,10 @@ COLUMNS = [
     ("plain", "VARCHAR(20) CHARACTER SET ascii", "text", ["'ab'", "'x'", "NULL", "''", "'~'"]),
     ("other", "VARCHAR(20) CHARACTER SET cp1251", "bytes", ["'\u0416'", "'x'", "NULL", "''", "'y'"]),
     ("raw", "VARBINARY(20)", "bytes", ["x'00ff'", "'x'", "NULL", "''", "x'80'"]),
-    ("raw_5", "BINARY(5)", "padded", ["x'00ff'", "'x'", "NULL", "''", "x'8000000001'"]),
+    ("raw_5", "BINARY(5)", "bytes", ["x'00ff'", "'x'", "NULL", "''", "x'8000000001'"]),
+    ("key_16", "UUID", "bytes_16", ["'00112233-4455-6677-8899-aabbccddee00'", "'00000000-0000-0000-0000-000000000000'", "NULL", "UUID()", "UUID()"]),
+    ("address", "INET4", "bytes_4", ["'1.2.3.0'", "'0.0.0.0'", "NULL", "'10.0.0.0'", "'255.255.255.255'"]),
+    ("address_6", "INET6", "bytes_16", ["'2001:db8::'", "'::'", "NULL", "'::1'", "'fe80::1:0'"]),
     ("words", "TEXT CHARACTER SET utf8mb4", "text", ["REPEAT('\u0436', 1000)", "'x'", "NULL", "''", "'z'"]),
     ("blob_1", "BLOB", "bytes", ["x'00ff'", "REPEAT('x', 70000)", "NULL", "''", "'z'"]),
     ("doc", "JSON", "text", ["'{\"a\": [1, null, \"\u00fc\"]}'", "'1'", "NULL", "'[]'", "'{}'"]),
@@ -61,7 +64,8 @@ def expression(name, kind, has_names):
     if kind == "enum":
         kind = "text" if has_names else "number"
     forms = {"number": "{} + 0", "float": "CAST({} AS DOUBLE)", "double": "{}", "plain": "CAST({} AS CHAR)", "instant": "CAST({} AS CHAR)"}
-    forms |= {"text": "HEX(CONVERT({} USING utf8mb4))", "bytes": "HEX({})", "padded": "HEX({})"}
+    forms |= {"text": "HEX(CONVERT({} USING utf8mb4))", "bytes": "HEX({})"}
+    forms |= {f"bytes_{count}": f"HEX(CAST({{}} AS BINARY({count})))" for count in (4, 16)}
     return forms[kind].format(f"`{name}`")
 
 
@@ -72,7 +76,7 @@ def shown(kind, value, has_names):
     if kind == "enum":
         # Without names a value is its number, but for 0, which has no name: it is an empty text in either case.
         kind, value = ("text", value) if has_names else ("number", value or 0)
-    if kind in ("bytes", "padded"):
+    if kind.startswith("bytes"):
         data = base64.b64decode(value["base64"]) if isinstance(value, dict) else value.encode("utf-8")
         return data.hex().upper()
     if kind == "text":
@@ -90,9 +94,6 @@ def same(kind, expected, found):
         return struct.pack("<f", float(expected)) == struct.pack("<f", float(found))
     if kind == "double":
         return float(expected) == float(found)
-    # The server leaves the zero bytes out with which BINARY is filled up.
-    if kind == "padded":
-        return bytes.fromhex(expected).rstrip(b"\0") == bytes.fromhex(found).rstrip(b"\0")
     return expected == found
 
 

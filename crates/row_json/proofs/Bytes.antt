@@ -1,5 +1,5 @@
 -- Bytes as JSON.
-use Rattle.std.proofs.Common.{◌≡◌, ◌<◌, ◌^◌, ◌≢◌, ℕ, ℤ, [], List, Bool, true, false, refl, sym, ap, subst, ◌∙◌, arith, Bor}
+use Rattle.std.proofs.Common.{◌≡◌, ◌<◌, ◌≤◌, ◌+◌, ◌-◌, ◌^◌, ◌≢◌, ℕ, ℤ, [], ◌++◌, length, take, drop, replicate, List, Bool, true, false, refl, sym, ap, subst, ◌∙◌, arith, Bor}
 use Rattle.std.specs.Prelude.{Option, Some, None, Result, Ok, Err, MatchResult, decimal, codes, if◌then◌else◌, IsUtf8}
 use Rattle.std.specs.Bool.{Decides}
 use Rattle.std.specs.Fmt.{digits}
@@ -7,6 +7,8 @@ use Rattle.std.specs.Option.{option_map}
 use Rattle.std.specs.Result.{result_ok}
 use Rattle.std.specs.Str.{bytes_eq, is_utf8}
 use Rattle.std.proofs.lemmas.Fmt.{decimal_injective, IsAscii-decimal}
+use Rattle.std.proofs.lemmas.List.{append-nil, drop-replicate, take-replicate}
+use Rattle.std.proofs.Math.Seq.{take-append-add}
 use Rattle.std.proofs.lemmas.Slice.Eq.{bytes_eq-Decides}
 use Rattle.std.proofs.lemmas.Str.{is_utf8-from_IsUtf8, IsUtf8-from_is_utf8, IsUtf8-from_ascii}
 use Rattle.json.specs.Json.{Json, number, string}
@@ -20,7 +22,7 @@ use Rattle.row_json.specs.declared.kind.Kind.TheVariants as kind
 use Rattle.row_json.specs.Charsets.{text_in}
 use Rattle.row_json.specs.Columns.{Column}
 use Rattle.std.specs.Fmt.{signed_decimal}
-use Rattle.row_json.specs.Values.{number_or_bytes, is_whole, year_json, base64_json, string_or, text_json, with_sign, IsBytesJson, IsIntJson, IsPlainJson, IsValueJson}
+use Rattle.row_json.specs.Values.{padded, number_or_bytes, is_whole, year_json, base64_json, string_or, text_json, with_sign, IsBytesJson, IsIntJson, IsPlainJson, IsValueJson}
 
 not_utf8 : (bytes : List ℕ) (b : Bool) → is_utf8 bytes ≡ b → (IsUtf8 bytes → ⊥) → b ≡ false
 not_utf8 bytes true e h = absurd (h (IsUtf8-from_is_utf8 bytes e))
@@ -74,6 +76,7 @@ value_of_bytes c kind.OldTime bytes j is = is
 value_of_bytes c kind.Enum bytes j is = is
 value_of_bytes c kind.Set bytes j is = is
 value_of_bytes c (kind.Text s) bytes j is = is
+value_of_bytes c (kind.Binary n) bytes j is = is
 
 -- text in UTF-8
 pub text_value : (c : Column) (bytes : List ℕ) (j : Json) → c.kind ≡ kind.Text Utf8mb4 → IsUtf8 bytes → j ≡ string bytes → IsValueJson c (Bytes bytes) j
@@ -82,19 +85,20 @@ text_value c bytes j is utf8 e =
     value_of_bytes c c.kind bytes j (subst (λ (k : Kind). IsBytesJson c k bytes j) (sym is) (e ∙ text))
 
 -- bytes of a kind that has no bytes
-pub other_bytes : (c : Column) (k : Kind) (bytes : List ℕ) (j : Json) → ((s : Charset) → k ≡ kind.Text s → ⊥) → (k ≡ kind.Year → ⊥) → (k ≡ kind.Bits → ⊥) → (k ≡ kind.Set → ⊥) → ((d : ℕ) → k ≡ kind.Timestamp d → ⊥) →
+pub other_bytes : (c : Column) (k : Kind) (bytes : List ℕ) (j : Json) → ((s : Charset) → k ≡ kind.Text s → ⊥) → ((n : ℕ) → k ≡ kind.Binary n → ⊥) → (k ≡ kind.Year → ⊥) → (k ≡ kind.Bits → ⊥) → (k ≡ kind.Set → ⊥) → ((d : ℕ) → k ≡ kind.Timestamp d → ⊥) →
     j ≡ base64_json bytes → IsBytesJson c k bytes j
-other_bytes c kind.Plain bytes j text year bits set time is = is
-other_bytes c kind.Year bytes j text year bits set time is = absurd (year refl)
-other_bytes c kind.Bits bytes j text year bits set time is = absurd (bits refl)
-other_bytes c kind.Date bytes j text year bits set time is = is
-other_bytes c (kind.Datetime d) bytes j text year bits set time is = is
-other_bytes c (kind.Timestamp d) bytes j text year bits set time is = absurd (time d refl)
-other_bytes c (kind.Time d) bytes j text year bits set time is = is
-other_bytes c kind.OldTime bytes j text year bits set time is = is
-other_bytes c kind.Enum bytes j text year bits set time is = is
-other_bytes c kind.Set bytes j text year bits set time is = absurd (set refl)
-other_bytes c (kind.Text s) bytes j text year bits set time is = absurd (text s refl)
+other_bytes c kind.Plain bytes j text binary year bits set time is = is
+other_bytes c kind.Year bytes j text binary year bits set time is = absurd (year refl)
+other_bytes c kind.Bits bytes j text binary year bits set time is = absurd (bits refl)
+other_bytes c kind.Date bytes j text binary year bits set time is = is
+other_bytes c (kind.Datetime d) bytes j text binary year bits set time is = is
+other_bytes c (kind.Timestamp d) bytes j text binary year bits set time is = absurd (time d refl)
+other_bytes c (kind.Time d) bytes j text binary year bits set time is = is
+other_bytes c kind.OldTime bytes j text binary year bits set time is = is
+other_bytes c kind.Enum bytes j text binary year bits set time is = is
+other_bytes c kind.Set bytes j text binary year bits set time is = absurd (set refl)
+other_bytes c (kind.Text s) bytes j text binary year bits set time is = absurd (text s refl)
+other_bytes c (kind.Binary n) bytes j text binary year bits set time is = absurd (binary n refl)
 
 -- a number of a kind that numbers alone decide
 pub other_int : (c : Column) (k : Kind) (z : ℤ) (j : Json) → ((d : ℕ) → k ≡ kind.Timestamp d → ⊥) → (k ≡ kind.Enum → ⊥) → j ≡ number (signed_decimal z) → IsIntJson c k z j
@@ -109,3 +113,21 @@ other_int c kind.OldTime z j time enum is = is
 other_int c kind.Enum z j time enum is = absurd (enum refl)
 other_int c kind.Set z j time enum is = is
 other_int c (kind.Text s) z j time enum is = is
+other_int c (kind.Binary n) z j time enum is = is
+
+-- ---- padding
+
+-- bytes that are long enough are padded already
+pub long_enough : (n : ℕ) (x : List ℕ) → n ≤ length x → base64_json x ≡ base64_json (padded n x)
+long_enough n x long =
+    let none : n - length x ≡ 0 = omega arith in
+    ap base64_json (sym (ap (λ (k : ℕ). x ++ replicate k 0) none ∙ append-nil x))
+
+-- the first bytes of a room of zeros in which others were put
+pub in_room : (n : ℕ) (x : List ℕ) → length x ≤ n → n ≤ 255 → take n (x ++ drop (length x) (replicate 255 0)) ≡ padded n x
+in_room n x short fits =
+    let k = n - length x in
+    let few : k ≤ 255 - length x = omega arith in
+    let whole : length x + k ≡ n = omega arith in
+    let more : take k (drop (length x) (replicate 255 0)) ≡ replicate k 0 = ap (take k) (drop-replicate (length x) 255 0) ∙ take-replicate k (255 - length x) 0 few in
+    ap (λ (m : ℕ). take m (x ++ drop (length x) (replicate 255 0))) (sym whole) ∙ (take-append-add x (drop (length x) (replicate 255 0)) k ∙ ap (λ (l : List ℕ). x ++ l) more)

@@ -189,6 +189,7 @@ bytes_fit c kind.Set bytes j h =
     let bits = little_number (length bytes) bytes in
     rw h (one_of (nat_lt 8 (length bytes)) (base64_json bytes) (set_of_bits c.names bits) (omega arith) (string_or_number_fits bits (option_map (join_with_byte 44) (set_names c.names bits))))
 bytes_fit c (kind.Text s) bytes j h = rw h (string_or_fits bytes (text_in s bytes))
+bytes_fit c (kind.Binary n) bytes j h = rw h (omega arith)
 
 int_fits : (c : Column) (k : Kind) (z : ℤ) (j : Json) → IsIntJson c k z j → depth j ≤ 1
 int_fits c kind.Plain z j h = rw h (omega arith)
@@ -204,6 +205,7 @@ int_fits c kind.Enum z j h =
     rw h (one_of (n == 0) (json.string []) (string_or_number n (name_of c.names n)) (omega arith) (string_or_number_fits n (name_of c.names n)))
 int_fits c kind.Set z j h = rw h (omega arith)
 int_fits c (kind.Text s) z j h = rw h (omega arith)
+int_fits c (kind.Binary n) z j h = rw h (omega arith)
 
 pub plain_fits : (c : Column) (v : PlainValue) (j : Json) → IsPlainJson c v j → depth j ≤ 1
 plain_fits c Null j h = rw h (omega arith)

@@ -1,9 +1,10 @@
 -- The kinds of columns: what decides the text of their values.
-use Rattle.std.specs.Prelude.{ℕ, List, [], ◌∷◌, Result, Ok, Err}
+use Rattle.std.specs.Prelude.{ℕ, ◌==◌, if◌then◌else◌, List, [], ◌∷◌, Result, Ok, Err}
 use Rattle.binlog_base.specs.declared.fault.Fault.{Fault}
 use Rattle.binlog_base.specs.declared.below.columns.column_type.ColumnType.{ColumnType}
 use Rattle.binlog_base.specs.declared.below.columns.column_type.ColumnType.TheVariants as column
 use Rattle.binlog_base.specs.ColumnTypes.{column_type_of}
+use Rattle.row_json.specs.declared.charset.Charset.{Charset}
 use Rattle.row_json.specs.declared.charset.Charset.TheVariants.{Utf8mb4, Binary}
 use Rattle.row_json.specs.declared.kind.Kind.{Kind}
 use Rattle.row_json.specs.declared.kind.Kind.TheVariants as kind
@@ -44,6 +45,17 @@ abbrev pub inner_kind : Result ColumnType Fault → List ℕ → ℕ → Kind
 inner_kind (Ok type) metadata n = element_kind type metadata n
 inner_kind (Err e) metadata n = kind.Plain
 
+-- BINARY(n): its metadata are FE, which is the type STRING, and n
+abbrev pub binary_kind : List ℕ → Kind
+binary_kind (m0 ∷ m1 ∷ more) = if m0 == 0xFE then kind.Binary m1 else kind.Text Binary
+binary_kind _ = kind.Text Binary
+
+-- a STRING column is a BINARY, if it is of the character set binary, and else a CHAR
+abbrev pub string_kind : Charset → List ℕ → Kind
+string_kind Binary metadata = binary_kind metadata
+string_kind charset metadata = kind.Text charset
+
 abbrev pub kind_of : ColumnType → List ℕ → ℕ → Kind
+kind_of column.MYSQL_TYPE_STRING metadata n = string_kind (charset_of n) metadata
 kind_of column.MYSQL_TYPE_TYPED_ARRAY metadata n = inner_kind (column_type_of (decimals_in metadata)) metadata n
 kind_of type metadata n = element_kind type metadata n

@@ -15,7 +15,7 @@ use Rattle.row_json.specs.declared.kind.Kind.{Kind}
 use Rattle.row_json.specs.declared.kind.Kind.TheVariants as kind
 use Rattle.row_json.specs.Columns.{Column}
 use Rattle.row_json.specs.Times.{timestamp_in}
-use Rattle.row_json.specs.Values.{name_of, set_names, with_sign}
+use Rattle.row_json.specs.Values.{padded, name_of, set_names, with_sign}
 
 -- What is shown of a value. Two values of one column have the same JSON exactly if the same is shown
 -- of both.
@@ -72,6 +72,7 @@ shown_timestamp decimals all None = bytes all
 shown_timestamp decimals all (Some t) = shown_instant decimals t.0 t.1
 
 abbrev pub shown_bytes : Column → Kind → List ℕ → Shown
+shown_bytes c (kind.Binary n) all = bytes (padded n all)
 shown_bytes c kind.Year all = shown_year all
 shown_bytes c kind.Bits all = shown_number (λ b. number (pos (big_number (length b) b))) all
 shown_bytes c kind.Set all = shown_number (λ b. shown_set c.names (little_number (length b) b)) all

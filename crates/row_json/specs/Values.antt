@@ -1,5 +1,5 @@
 -- What a plain value is as JSON, by the kind of its column.
-use Rattle.std.specs.Prelude.{◌≡◌, ℕ, ◌-◌, ◌*◌, ◌+◌, ◌/◌, ◌%◌, ◌^◌, ◌==◌, nat_lt, Bool, true, if◌then◌else◌, ℤ, unsigned_abs, List, [], ◌∷◌, length, Option, Some, None, unwrap_or, option_and_then, slice_get, decimal, codes}
+use Rattle.std.specs.Prelude.{◌≡◌, ℕ, ◌-◌, ◌*◌, ◌+◌, ◌/◌, ◌%◌, ◌^◌, ◌==◌, nat_lt, Bool, true, if◌then◌else◌, ℤ, unsigned_abs, List, [], ◌∷◌, ◌++◌, length, replicate, Option, Some, None, unwrap_or, option_and_then, slice_get, decimal, codes}
 use Rattle.std.specs.Bool.{MatchBool}
 use Rattle.std.specs.Option.{option_map}
 use Rattle.std.specs.List.{join_with_byte}
@@ -33,6 +33,10 @@ base64_json bytes = object (member (codes "base64") (string (encode_of standard 
 abbrev pub string_or : List ℕ → Option (List ℕ) → Json
 string_or bytes None = base64_json bytes
 string_or bytes (Some text) = string text
+
+-- A BINARY has all of its n bytes: zero bytes at its end, which servers leave out, stand there again.
+abbrev pub padded : ℕ → List ℕ → List ℕ
+padded n bytes = bytes ++ replicate (n - length bytes) 0
 
 abbrev pub text_json : Charset → List ℕ → Json
 text_json charset bytes = string_or bytes (text_in charset bytes)
@@ -106,6 +110,7 @@ IsTimestampOrText decimals bytes (Some t) j = IsTimestampJson decimals t.0 t.1 j
 -- bytes of a column of this kind
 abbrev pub IsBytesJson : Column → Kind → List ℕ → Json → Type 0
 IsBytesJson c (kind.Text charset) bytes j = j ≡ text_json charset bytes
+IsBytesJson c (kind.Binary n) bytes j = j ≡ base64_json (padded n bytes)
 IsBytesJson c kind.Year bytes j = j ≡ year_json bytes
 IsBytesJson c kind.Bits bytes j = j ≡ number_json (λ b. big_number (length b) b) bytes
 IsBytesJson c kind.Set bytes j = j ≡ set_json c.names bytes

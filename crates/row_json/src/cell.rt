@@ -23,7 +23,7 @@ use crate::instant::{instant_of, push_timestamp, timestamp_in};
 use crate::kind::Kind;
 use crate::number::{write_bits, write_enum, write_set};
 use crate::table::ColumnJson;
-use crate::text::{write_base64, write_text, write_year, write_year_number};
+use crate::text::{write_base64, write_padded, write_text, write_year, write_year_number};
 use crate::time::{Clock, Day, TimeText};
 use binlog_base::below::{ColumnType, Value};
 use binlog_base::fault::Fault;
@@ -80,6 +80,7 @@ fn write_bytes(
 {
     match column.kind() {
         Kind::Text(charset) => write_text(text, out, charset, bytes),
+        Kind::Binary(length) => write_padded(text, out, length, bytes),
         Kind::Year => write_year(text, out, bytes),
         Kind::Bits => write_bits(text, out, bytes),
         Kind::Set => write_set(text, out, column.names(), bytes),

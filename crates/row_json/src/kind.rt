@@ -1,7 +1,7 @@
 //! The kinds of columns.
 
 ghost use Rattle.std.specs.Prelude.{◌≡◌};
-ghost use Rattle.row_json.specs.Kinds.{decimals_in, element_kind, kind_of};
+ghost use Rattle.row_json.specs.Kinds.{decimals_in, element_kind, string_kind, kind_of};
 
 use crate::charset::{Charset, charset_of};
 use binlog_base::below::{ColumnType, Constant};
@@ -31,6 +31,9 @@ pub enum Kind {
     Set,
     /// Bytes of a character set.
     Text(Charset),
+    /// BINARY, with so many bytes. Servers leave out the zero bytes at the end of a value. UUID, INET4
+    /// and INET6 of MariaDB are such columns too.
+    Binary(u8),
 }
 
 // Returns how many decimals a column has, by its metadata.
@@ -75,12 +78,24 @@ fn element_kind(column_type: ColumnType, metadata: &[u8], collation: u16) -> Kin
     }
 }
 
+// Returns the kind of a STRING column: a BINARY or a CHAR. The metadata of a BINARY are its type and
+// its length.
+fn string_kind(charset: Charset, metadata: &[u8]) -> Kind
+    ensures { result ≡ string_kind charset metadata.now }
+{
+    match (charset, metadata) {
+        (Charset::Binary, [0xfe, length, ..]) => Kind::Binary(*length),
+        _ => Kind::Text(charset),
+    }
+}
+
 // Returns the kind of a column, by its type, its metadata and the number of its collation. An array is
 // of the kind of its inner type, which the first byte of the metadata names.
 pub(crate) fn kind_of(column_type: ColumnType, metadata: &[u8], collation: u16) -> Kind
     ensures { result ≡ kind_of column_type metadata.now collation }
 {
     match column_type {
+        ColumnType::MYSQL_TYPE_STRING => string_kind(charset_of(collation), metadata),
         ColumnType::MYSQL_TYPE_TYPED_ARRAY => {
             match ColumnType::from_number(decimals_in(metadata)) {
                 Ok(inner) => element_kind(inner, metadata, collation),

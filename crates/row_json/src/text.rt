@@ -7,7 +7,7 @@ ghost use Rattle.base64.specs.GeneralPurpose.{encode_of};
 ghost use Rattle.json.specs.Json.{member, no_members, object, string};
 ghost use Rattle.json.specs.Tree.{json_tokens};
 ghost use Rattle.row_json.specs.declared.text.TheConstants.{SHORT, SHORT_ENCODING};
-ghost use Rattle.row_json.specs.Values.{base64_json, text_json, number_or_string, year_json};
+ghost use Rattle.row_json.specs.Values.{base64_json, padded, text_json, number_or_string, year_json};
 ghost use Rattle.row_json.specs.Wrote.{Adds, AddsSome};
 
 use crate::charset::{Charset, push_latin1, str_in};
@@ -72,6 +72,28 @@ pub(crate) fn write_base64(
         return write_encoding(out, encode_short(bytes, &mut room));
     }
     write_long_base64(text, out, bytes)
+}
+
+/// Writes `{"base64":".."}` of bytes with zero bytes after them, up to a length. Not inlined, so that
+/// other bytes need no room.
+#[inline(never)]
+pub(crate) fn write_padded(
+    text: &mut String,
+    out: &mut Writer,
+    length: u8,
+    bytes: &[u8],
+) -> Result<(), AllocError>
+    ensures written { OnOk result (Adds out.old out.new
+        (json_tokens (base64_json (padded length bytes.now)))) }
+    ensures stays { AddsSome out.old out.new }
+{
+    let length = usize::from(length);
+    if bytes.len() >= length {
+        return write_base64(text, out, bytes);
+    }
+    let mut room = [0; 255];
+    room[..bytes.len()].copy_from_slice(bytes);
+    write_base64(text, out, &room[..length])
 }
 
 /// Writes bytes as a string if they are text of their character set, and else in base64.

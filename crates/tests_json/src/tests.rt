@@ -12,7 +12,7 @@ use binlog_base::fault::Fault;
 use binlog_consts::consts::EventType;
 use binlog_table::table_map::TableMapEvent;
 use json::Writer;
-use mysql_binlog_rows::rows_event::{LentPair, RowsEvent, RowsEventCtx};
+use mysql_binlog_rows::rows_event::{LentPair, RowsEvent, RowsEventCtx, RowsEventRows};
 use row_json::{
     Charset, ColumnJson, Kind, LineRoom, Members, NoMembers, TableJson, charset_of, write_line,
     write_line_with, write_owned_line,
@@ -43,6 +43,69 @@ fn read(bytes: &[u8], event_type: EventType) -> Result<RowsEvent<'_>, Fault> {
     })
 }
 
+/// Lines of pairs, by rows that lend their cells and by rows that own their values, and those that are
+/// expected.
+#[derive(Drop)]
+struct Written {
+    room: LineRoom,
+    lent: Vec<u8>,
+    owned: Vec<u8>,
+    expected: Vec<u8>,
+}
+
+impl Written {
+    /// No lines.
+    fn new(alloc: Global) -> Written {
+        Written {
+            room: LineRoom::new(alloc),
+            lent: Vec::new(alloc),
+            owned: Vec::new(alloc),
+            expected: Vec::new(alloc),
+        }
+    }
+
+    /// Adds the lines of a pair, and the one that is expected.
+    fn add(
+        &mut self,
+        alloc: Global,
+        columns: &TableJson,
+        event: &RowsEvent<'_>,
+        pair: &LentPair<'_>,
+        line: &String,
+    ) -> Result<(), Fault> {
+        write_line(alloc, &mut self.room, &mut self.lent, columns, event, pair)?;
+        let own = pair.to_owned(alloc)?;
+        write_owned_line(alloc, &mut self.room, &mut self.owned, columns, event, &own)?;
+        self.expected.extend_from_slice(line.as_bytes())?;
+        Ok(())
+    }
+
+    /// Adds the lines of the pairs of an event, and those that are expected. Whether there are as many.
+    fn add_all<'a>(
+        &mut self,
+        alloc: Global,
+        columns: &TableJson,
+        event: &RowsEvent<'_>,
+        rows: &mut RowsEventRows<'a>,
+        pair: &mut LentPair<'a>,
+        lines: &[String],
+    ) -> Result<bool, Fault> {
+        for line in lines {
+            match rows.next_lent(pair) {
+                None => return Ok(false),
+                Some(read) => read?,
+            }
+            self.add(alloc, columns, event, pair, line)?;
+        }
+        Ok(rows.next_lent(pair).is_none())
+    }
+
+    /// Whether all lines are the ones that are expected.
+    fn is_right(&self) -> bool {
+        self.lent == self.expected && self.owned == self.expected
+    }
+}
+
 /// Whether the pairs of an event are written as these lines, by rows that lend their cells and by rows
 /// that own their values.
 fn writes(
@@ -54,21 +117,10 @@ fn writes(
     let columns = TableJson::new(alloc, table)?;
     let mut rows = event.rows(alloc, table);
     let mut pair = LentPair::new(alloc);
-    let mut room = LineRoom::new(alloc);
-    let mut lent = Vec::new(alloc);
-    let mut owned = Vec::new(alloc);
-    let mut expected = Vec::new(alloc);
-    for line in lines {
-        match rows.next_lent(&mut pair) {
-            None => return Ok(false),
-            Some(read) => read?,
-        }
-        write_line(alloc, &mut room, &mut lent, &columns, event, &pair)?;
-        let own = pair.to_owned(alloc)?;
-        write_owned_line(alloc, &mut room, &mut owned, &columns, event, &own)?;
-        expected.extend_from_slice(line.as_bytes())?;
-    }
-    Ok(rows.next_lent(&mut pair).is_none() && lent == expected && owned == expected)
+    let mut written = Written::new(alloc);
+    let ended = written.add_all(alloc, &columns, event, &mut rows, &mut pair, lines);
+    let is_right = written.is_right();
+    ended.map(|ended| ended && is_right)
 }
 
 /// Whether the pairs of two events are written as these lines.
@@ -317,6 +369,18 @@ const TEXTS: &[Case] = &[
             "{\"@0\":\"\u{20ac}\",\"@1\":\"ab\",\"@2\":{\"base64\":\"Bw==\"}}",
             "{\"@0\":{\"base64\":\"8J+YgA==\"},\"@1\":{\"base64\":\"/g==\"},\"@2\":null}",
             "{\"@0\":null,\"@1\":\"\",\"@2\":{\"base64\":\"\"}}",
+        ],
+    ),
+    // BINARY(3), BINARY(2), and one of 300 bytes, which no server has.
+    (
+        b"\x01\0\0\0\0\0\x01\0\x01d\0\x01t\0\x03\xfe\xfe\xfe\x06\xfe\x03\xfe\x02\xee\x2c\0\x02\
+            \x01?",
+        b"\x01\0\0\0\0\0\x01\0\x02\0\x03\x07\0\x02ab\x02\x01\x02\x01\0a\0\0\x03\x01\x02\x03\0\0\
+            \x07",
+        &[
+            "{\"@0\":{\"base64\":\"YWIA\"},\"@1\":{\"base64\":\"AQI=\"},\"@2\":{\"base64\":\"YQ==\"}}",
+            "{\"@0\":{\"base64\":\"AAAA\"},\"@1\":{\"base64\":\"AQID\"},\"@2\":{\"base64\":\"\"}}",
+            "{\"@0\":null,\"@1\":null,\"@2\":null}",
         ],
     ),
     // escapes.

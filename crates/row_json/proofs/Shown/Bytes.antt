@@ -1,5 +1,5 @@
 -- Bytes with the same JSON are the same.
-use Rattle.std.proofs.Common.{◌≡◌, ℕ, Bool, true, false, List, refl, sym, ap, ◌∙◌, Ok, arith}
+use Rattle.std.proofs.Common.{◌≡◌, ℕ, zero, suc, ◌-◌, Bool, true, false, List, [], ◌∷◌, ◌++◌, length, replicate, refl, sym, ap, ◌∙◌, Ok, arith}
 use Rattle.std.proofs.lemmas.Fmt.{decimal_digit}
 use Rattle.std.specs.Prelude.{Option, Some, None, codes, decimal, if◌then◌else◌, ◌&&◌}
 use Rattle.std.specs.Str.{bytes_eq, is_utf8}
@@ -12,7 +12,7 @@ use Rattle.json.specs.Word.{after_number}
 use Rattle.row_json.specs.declared.charset.Charset.{Charset}
 use Rattle.row_json.specs.declared.charset.Charset.TheVariants.{Ascii, Latin1, Utf8mb3, Utf8mb4, Binary, Other}
 use Rattle.row_json.specs.Charsets.{text_in, str_in, may_be_text}
-use Rattle.row_json.specs.Values.{base64_json, string_or, text_json, is_whole, number_or_bytes, year_json}
+use Rattle.row_json.specs.Values.{base64_json, padded, string_or, text_json, is_whole, number_or_bytes, year_json}
 use Rattle.row_json.specs.Shown.{bytes, shown_year}
 use Rattle.row_json.proofs.Shown.Latin1.{latin1_text_injective}
 
@@ -21,6 +21,19 @@ same_base64 x y hx hy e =
     let texts : encode_of standard x ≡ encode_of standard y = cc in
     let read : Ok x ≡ Ok y = sym (decode_of-encode_of standard x refl hx) ∙ (ap (decode_of standard) texts ∙ decode_of-encode_of standard y refl hy) in
     cc
+
+-- ---- zero bytes at the end
+
+zeros : (n : ℕ) → AreBytes (replicate n 0)
+zeros zero = λ i. omega arith
+zeros (suc n) = elim [ zero ↦ omega arith | suc i ↦ zeros n i ]
+
+both : (x y : List ℕ) → AreBytes x → AreBytes y → AreBytes (x ++ y)
+both [] y hx hy = hy
+both (b ∷ x) y hx hy = elim [ zero ↦ hx 0 | suc i ↦ both x y (λ k. hx (suc k)) hy i ]
+
+pub padded_bytes : (n : ℕ) (x : List ℕ) → AreBytes x → AreBytes (padded n x)
+padded_bytes n x all = both x (replicate (n - length x) 0) all (zeros (n - length x))
 
 -- ---- texts of a character set
 

@@ -47,7 +47,10 @@ use Rattle.mysql_binlog_rows.specs.Images.{nullable_cell, is_partial, is_json}
 use Rattle.row_json.specs.declared.kind.Kind.{Kind}
 use Rattle.row_json.specs.declared.kind.Kind.TheVariants as kind
 use Rattle.row_json.specs.Columns.{Names, column_of}
-use Rattle.row_json.specs.Kinds.{kind_of, element_kind, inner_kind}
+use Rattle.row_json.specs.declared.charset.Charset.{Charset}
+use Rattle.row_json.specs.declared.charset.Charset.TheVariants.{Binary}
+use Rattle.row_json.specs.Charsets.{charset_of}
+use Rattle.row_json.specs.Kinds.{kind_of, element_kind, string_kind, inner_kind}
 use Rattle.row_json.proofs.Shown.Numbers.{little_below, big_below}
 use Rattle.row_json.specs.Shown.{IsInRange, HasDigits, AreAlike, IsOfColumn, AreOfOneColumn, IsCellOf}
 
@@ -477,7 +480,18 @@ inner_stamp : (type : Result ColumnType Fault) (metadata : List ℕ) (unsigned :
 inner_stamp (Ok type) metadata unsigned n d f k e = element_stamp type metadata unsigned n d f k e
 inner_stamp (Err fault) metadata unsigned n d f k e = absurd (cc (e))
 
+string_stamp : (charset : Charset) (metadata : List ℕ) (d : ℕ) → string_kind charset metadata ≡ kind.Timestamp d → ⊥
+string_stamp Binary [] d k = cc
+string_stamp Binary (m0 ∷ []) d k = cc
+string_stamp Binary (m0 ∷ m1 ∷ more) d k = by (m0 == 0xFE) k
+  where
+    by : (b : Bool) → (if b then kind.Binary m1 else kind.Text Binary) ≡ kind.Timestamp d → ⊥
+    by true e = cc
+    by false e = cc
+string_stamp _ metadata d k = cc
+
 stamp : (type : ColumnType) (metadata : List ℕ) (unsigned : Bool) (n d : ℕ) (f : PlainForm) → kind_of type metadata n ≡ kind.Timestamp d → form_of type metadata unsigned ≡ Ok (way.Plain f) → IsStamp f
+stamp column.MYSQL_TYPE_STRING metadata unsigned n d f k e = absurd (string_stamp (charset_of n) metadata d k)
 stamp column.MYSQL_TYPE_TYPED_ARRAY [] unsigned n d f k e = absurd (cc (e))
 stamp column.MYSQL_TYPE_TYPED_ARRAY (m0 ∷ more) unsigned n d f k e = inner_stamp (column_type_of m0) (m0 ∷ more) unsigned n d f k e
 stamp type metadata unsigned n d f k e = element_stamp type metadata unsigned n d f k e

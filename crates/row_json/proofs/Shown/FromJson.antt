@@ -18,13 +18,13 @@ use Rattle.row_json.specs.Charsets.{text_in}
 use Rattle.row_json.specs.Columns.{Column}
 use Rattle.row_json.specs.Floats.{IsFloatJson, IsNumberOf, special_text}
 use Rattle.row_json.specs.Times.{timestamp_in, IsInstantText, IsTimestampText, two_digits, date_text, clock_text, datetime_text, time_text}
-use Rattle.row_json.specs.Values.{text_json, base64_json, string_or, is_whole, number_or_bytes, string_or_number, set_of_bits, name_of, IsTimestampJson, IsTimestampOrText, IsBytesJson, IsIntJson, IsPlainJson, date_by, time_by}
+use Rattle.row_json.specs.Values.{text_json, base64_json, padded, string_or, is_whole, number_or_bytes, string_or_number, set_of_bits, name_of, IsTimestampJson, IsTimestampOrText, IsBytesJson, IsIntJson, IsPlainJson, date_by, time_by}
 use Rattle.row_json.specs.Shown.{Shown, shown_instant, shown_timestamp, shown_bytes, shown_int, shown_float, shown_date, shown_time, shown_plain, shown, IsInRange, HasDigits, AreAlike, AreOfOneColumn}
 use Rattle.row_json.specs.Shown as show
 use Rattle.row_json.proofs.Shown.Clocks.{AreShort, same_dates, same_datetimes, same_times}
 use Rattle.row_json.proofs.Shown.Floats.{same_floats, bits_back}
 use Rattle.row_json.proofs.Shown.Instants.{same_timestamps}
-use Rattle.row_json.proofs.Shown.Bytes.{str_is, same_base64, same_text_json, same_year_json}
+use Rattle.row_json.proofs.Shown.Bytes.{padded_bytes, str_is, same_base64, same_text_json, same_year_json}
 use Rattle.row_json.proofs.Shown.Numbers.{same_decimals, signed_size, same_signed, same_bits_json, same_enum_json, same_enum_number, same_set_json}
 use Rattle.binlog_decimal.specs.TimeText.{fraction_text}
 
@@ -73,6 +73,7 @@ bytes_told c kind.Year x y j hx hy rx ry a b = same_year_json x y hx hy (sym a �
 bytes_told c kind.Bits x y j hx hy rx ry a b = same_bits_json x y hx hy (sym a ∙ b)
 bytes_told c kind.Set x y j hx hy rx ry a b = same_set_json c.names x y hx hy (sym a ∙ b)
 bytes_told c (kind.Timestamp n) x y j hx hy rx ry a b = timestamps n x y (timestamp_in x) (timestamp_in y) j hx hy rx ry a b
+bytes_told c (kind.Binary n) x y j hx hy rx ry a b = ap show.bytes (same_base64 (padded n x) (padded n y) (padded_bytes n x hx) (padded_bytes n y hy) (sym a ∙ b))
 bytes_told c _ x y j hx hy rx ry a b = ap show.bytes (same_base64 x y hx hy (sym a ∙ b))
 
 -- ---- whole numbers
@@ -169,6 +170,7 @@ bytes_not_null c kind.Year x a = either_not_null (bytes_eq x (codes "1900")) (nu
 bytes_not_null c kind.Bits x a = either_not_null (nat_lt 8 (length x)) (base64_json x) (number (decimal (big_number (length x) x))) (λ e. cc) (λ e. cc) (sym a)
 bytes_not_null c kind.Set x a = either_not_null (nat_lt 8 (length x)) (base64_json x) (set_of_bits c.names (little_number (length x) x)) (λ e. cc) (named_not_null (little_number (length x) x) _) (sym a)
 bytes_not_null c (kind.Timestamp n) x a = timestamp_not_null n x (timestamp_in x) a
+bytes_not_null c (kind.Binary n) x a = base64_not_null (padded n x) (sym a)
 bytes_not_null c _ x a = base64_not_null x (sym a)
 
 int_not_null : (c : Column) (k : Kind) (z : ℤ) → IsIntJson c k z null → ⊥

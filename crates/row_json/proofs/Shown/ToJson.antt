@@ -22,7 +22,7 @@ use Rattle.row_json.specs.Charsets.{text_in}
 use Rattle.row_json.specs.Columns.{Column}
 use Rattle.row_json.specs.Floats.{IsFloatJson, IsNumberOf, special_text}
 use Rattle.row_json.specs.Times.{timestamp_in, IsInstantText, two_digits, date_text, clock_text, datetime_text, time_text}
-use Rattle.row_json.specs.Values.{base64_json, text_json, number_or_bytes, number_json, string_or_number, set_of_bits, set_json, name_of, IsTimestampJson, IsTimestampOrText, IsBytesJson, IsIntJson, IsPlainJson, date_by, time_by}
+use Rattle.row_json.specs.Values.{base64_json, padded, text_json, number_or_bytes, number_json, string_or_number, set_of_bits, set_json, name_of, IsTimestampJson, IsTimestampOrText, IsBytesJson, IsIntJson, IsPlainJson, date_by, time_by}
 use Rattle.row_json.specs.Shown.{Shown, shown_fraction, shown_instant, shown_timestamp, shown_bytes, shown_year, shown_number, name_or_number, shown_enum, shown_set, shown_int, shown_float, shown_date, shown_time, shown_plain, shown, IsInRange, AreAlike, AreOfOneColumn}
 use Rattle.row_json.specs.Shown as show
 
@@ -171,6 +171,7 @@ bytes_json c kind.Year x y j e a = a ∙ years x y (bytes_eq x (codes "1900")) (
 bytes_json c kind.Bits x y j e a = a ∙ bits x y e
 bytes_json c kind.Set x y j e a = a ∙ sets c.names x y e
 bytes_json c (kind.Timestamp n) x y j e a = timestamps n x y (timestamp_in x) (timestamp_in y) j e a
+bytes_json c (kind.Binary n) x y j e a = let same : padded n x ≡ padded n y = cc in a ∙ ap base64_json same
 bytes_json c _ x y j e a = let same : x ≡ y = cc in a ∙ ap base64_json same
 
 ints_json : (c : Column) (k : Kind) (y z : ℤ) (j : Json) → shown_int c k y ≡ shown_int c k z → IsIntJson c k y j → IsIntJson c k z j

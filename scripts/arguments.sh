@@ -155,10 +155,16 @@ def named(table):
 
 said = [statement(text) for text in (b"insert into t values (1)", b" \n\tReplace t", b"CREATE TABLE t (a int)", b"", b"INSER")]
 write("statements", *((2, body) for body in said), (2, statement(b"DELETE", b"\0\0")), (2, b"short"), (0x12, b""), (0xA5, b""), (0xA5, b"x"))
+ended = [statement(text) for text in (b"truncate t", b" TRUNCATE TABLE `t`", b"rollback ", b"XA ROLLBACK X'61',X'',1", b"ROLLBACK TO `s`", b"COMMIT")]
+write("ends", *((2, body) for body in ended), (0x26, b"\0\1"), (0x26, b"\1\1"), (0x26, b""), (0x1A, b"\1\0\0"))
 write("payload", (0x28, b"\0"))
 write("compressed", (0xA6, b"\0"))
 write("encrypted_events", (0xA4, b"\1" + bytes(16)))
 first, second = named(0), named(1)
+# Up to eight of the twelve columns are numbers, whose signs are one byte; names are missing.
+write("signs", (0x13, first[0][1] + b"\x01\x01\0"), first[1])
+no_row = bytes([18]) + bytes(5) + b"\1\0" + b"\x0c\0\0"
+write("no_row", first[0], (0x17, no_row))
 write("two_tables", *first, *second)
 with open("two_descriptions", "wb") as out:
     file = File(out, None)
@@ -173,15 +179,23 @@ with open("two_descriptions", "wb") as out:
     for event in second:
         file.event(*event)
 END
-case_of 0 'changes: statements: 4 statements were logged as text, so that their rows' statements
-case_of 0 'changes: statements: 2 statements are compressed' statements
+case_of 0 "rows aren't in the file (binlog_format): 4" statements
+case_of 0 'changes: statements: compressed statements, whose rows may not be in the file (log_bin_compress): 2' statements
 notes_of 0 'changes:' --quiet statements
+case_of 0 'changes: ends: TRUNCATE statements, which have no rows: 2' ends
+case_of 0 'rows that they roll back are in a file all the same: 3' ends
+case_of 0 'whose rows are here whether they were committed or not: 1' ends
+case_of 0 'changes: ends: incidents, by which the server says that changes are missing: 1' ends
+notes_of 4 'changes:' --count ends
+lines_of 0 0 'changes: no_row: rows events without a row, as of inserts of defaults alone (binlog_row_image): 1' no_row
+notes_of 0 'changes:' --quiet no_row
+notes_of 1 'the server logged no names (binlog_row_metadata): columns are @0, @1, ..' signs
 notes_of 0 'logged as text' --start-position 4 --stop-position 4 statements
 case_of 1 'payload at 256: the transaction is compressed: turn off binlog_transaction_compression' payload
 case_of 1 'compressed at 256: the event is compressed: turn off log_bin_compress' compressed
-case_of 1 'encrypted_events at 256: the events are encrypted: turn off encrypt_binlog' encrypted_events
+case_of 1 'encrypted_events at 256: the events are encrypted: have the server read them' encrypted_events
 printf '\xfdbin' >encrypted
-case_of 1 'encrypted at 0: the file is encrypted: turn off binlog_encryption, or encrypt_binlog' encrypted
+case_of 1 'encrypted at 0: the file is encrypted: have the server read it' encrypted
 echo text >text
 case_of 1 'text at 0: this isn'"'"'t a binlog file' text
 notes_of 1 'shop.items: the server logged no signs' two_descriptions

@@ -23,6 +23,7 @@ use Rattle.change_lines.specs.declared.run.Form.{Form}
 use Rattle.change_lines.specs.declared.run.Form.TheVariants as form
 use Rattle.change_lines.specs.declared.run.Settings.{Settings}
 use Rattle.changed_rows.specs.declared.filter.Filter.{Filter}
+use Rattle.changed_rows.specs.declared.filter.Positions.{Positions}
 use Rattle.changed_rows.specs.Filters.{wanted_by}
 use Rattle.change_lines.specs.Outputs.{Outputs}
 use Rattle.changed_rows.specs.Names.{up_to_most}
@@ -122,9 +123,9 @@ first_counted f file gtid c old held same why h =
 -- ---- the events of a file
 
 -- the lines of some events were written, and then nothing more
-pub events_so_far : (f : Form) (wanted : Wanted) (file : List ℕ) (from : Spot) (gtid : Option (List ℕ)) (out : Option (List ℕ)) (held : List ℕ) (source : Option (List ℕ)) (r : Reading) (p : Option FileError) (here : Option (List ℕ)) (new : Option (List ℕ)) (left : List ℕ)
-    → SoFar f wanted file from gtid out held source r p here new left → (why : Failure) → IsNotOfFile why → WritesFirst why f wanted file from gtid out held new left
-events_so_far f wanted file from gtid out held source r p here new left h why not =
+pub events_so_far : (f : Form) (wanted : Wanted) (file : List ℕ) (from : Spot) (gtid : Option (List ℕ)) (out : Option (List ℕ)) (held : List ℕ) (source : Option (List ℕ)) (r : Reading) (p : Option FileError) (here : Option (List ℕ)) (new : Option (List ℕ)) (left : List ℕ) (start sought : Option ℕ)
+    → SoFar f wanted file from gtid out held source r p here new left start sought → (why : Failure) → IsNotOfFile why → WritesFirst why f wanted file from gtid out held new left
+events_so_far f wanted file from gtid out held source r p here new left start sought h why not =
     let at = spot_at r.kept None h.bytes in (
       h.text,
       record { events = h.events; front = h.text; at = at; here = here; rows = []; lines = h.lines; next = inl (refl, not_at_event why wanted at not); whole = sym (append-nil h.text) },
@@ -133,10 +134,10 @@ events_so_far f wanted file from gtid out held source r p here new left h why no
 
 -- the lines of some events were written, and then an event can't be read, perhaps after others that were
 -- passed over
-pub error_so_far : (f : Form) (wanted : Wanted) (file : List ℕ) (from : Spot) (gtid : Option (List ℕ)) (out : Option (List ℕ)) (held : List ℕ) (old : Option (List ℕ)) (r : Reading) (p : Option FileError) (here : Option (List ℕ)) (new : Option (List ℕ)) (left : List ℕ)
-    → SoFar f wanted file from gtid out held old r p here new left
+pub error_so_far : (f : Form) (wanted : Wanted) (file : List ℕ) (from : Spot) (gtid : Option (List ℕ)) (out : Option (List ℕ)) (held : List ℕ) (old : Option (List ℕ)) (r : Reading) (p : Option FileError) (here : Option (List ℕ)) (new : Option (List ℕ)) (left : List ℕ) (start sought : Option ℕ)
+    → SoFar f wanted file from gtid out held old r p here new left start sought
     → (is_each : Bool) (e : FileError) (source : Option (List ℕ)) (s : Reading) (q : Option FileError) → SourceNext wanted is_each old r p (Some (Err e)) source s q → WritesFirst (failure.File e) f wanted file from gtid out held new left
-error_so_far f wanted file from gtid out held old r p here new left h is_each e source s q gives =
+error_so_far f wanted file from gtid out held old r p here new left start sought h is_each e source s q gives =
     let m = gives h.bytes h.finds in
     let at = m.2 in
     let passes = subst (λ (o : Option FileError). Passes is_each (spot_at r.kept o h.bytes) at) h.goes_on m.3 in
@@ -147,11 +148,11 @@ error_so_far f wanted file from gtid out held old r p here new left h is_each e 
     )
 
 -- the lines of some events were written, and then those of some first rows of the next one
-pub event_so_far : (f : Form) (wanted : Wanted) (file : List ℕ) (from : Spot) (gtid : Option (List ℕ)) (out : Option (List ℕ)) (held : List ℕ) (old : Option (List ℕ)) (r : Reading) (p : Option FileError) (here : Option (List ℕ)) (mid : Option (List ℕ)) (kept : List ℕ)
-    → SoFar f wanted file from gtid out held old r p here mid kept
+pub event_so_far : (f : Form) (wanted : Wanted) (file : List ℕ) (from : Spot) (gtid : Option (List ℕ)) (out : Option (List ℕ)) (held : List ℕ) (old : Option (List ℕ)) (r : Reading) (p : Option FileError) (here : Option (List ℕ)) (mid : Option (List ℕ)) (kept : List ℕ) (start sought : Option ℕ)
+    → SoFar f wanted file from gtid out held old r p here mid kept start sought
     → (is_each : Bool) (x : LentEvent) (source : Option (List ℕ)) (s : Reading) (q : Option FileError) (new : Option (List ℕ)) (left : List ℕ)
     → SourceNext wanted is_each old r p (Some (Ok x)) source s q → (why : Failure) → WritesFirstOfEvent why f file here x mid kept new left → WritesFirst why f wanted file from gtid out held new left
-event_so_far f wanted file from gtid out held old r p here mid kept h is_each x source s q new left gives why writes =
+event_so_far f wanted file from gtid out held old r p here mid kept start sought h is_each x source s q new left gives why writes =
     let m = gives h.bytes h.finds in
     let at = m.2 in
     let passes = subst (λ (o : Option FileError). Passes is_each (spot_at r.kept o h.bytes) at) h.goes_on m.3 in
@@ -187,19 +188,19 @@ first_but_output why g f wanted file from gtid text is h = record {
 
 -- What was written of a file up to a failure: that of the reading, or of the output, whether the file was
 -- read to its end or not.
-pub written_of : (r : Result (Unit {0}) Failure) (g : Failure) (f : Form) (wanted : Wanted) (file : List ℕ) (stop : Option ℕ) (from : Spot) (gtid : Option (List ℕ)) (old : Option (List ℕ)) (held : List ℕ) (new : Option (List ℕ)) (left : List ℕ)
-    → OnOk r (Writes f wanted file stop from gtid old held new left) → IfErr r (λ why. WritesFirst why f wanted file from gtid old held new left) → IsOutput g ⊎ (r ≡ Err g)
+pub written_of : (r : Result (Unit {0}) Failure) (g : Failure) (f : Form) (wanted : Wanted) (file : List ℕ) (positions : Positions) (from : Spot) (gtid : Option (List ℕ)) (old : Option (List ℕ)) (held : List ℕ) (new : Option (List ℕ)) (left : List ℕ)
+    → OnOk r (Writes f wanted file positions from gtid old held new left) → IfErr r (λ why. WritesFirst why f wanted file from gtid old held new left) → IsOutput g ⊎ (r ≡ Err g)
     → (text : List ℕ) × AreFirst g f wanted file from gtid text × (lost : List ℕ) × OutputsBut old held text new left lost × IsLostBy r lost
-written_of (Ok u) g f wanted file stop from gtid old held new left all first (inl is) = (
+written_of (Ok u) g f wanted file positions from gtid old held new left all first (inl is) = (
   all.text,
   record { events = all.events; front = all.text; at = all.end; here = all.after; rows = []; lines = all.lines; next = inl (refl, not_at_event g wanted all.end (output_not_file g is)); whole = sym (append-nil all.text) },
   [],
   (all.outputs.0, all.outputs.1, all.outputs.2 ∙ ap (λ (t : List ℕ). all.outputs.0 ++ t) (sym (append-nil left))),
   refl,
 )
-written_of (Ok u) g f wanted file stop from gtid old held new left all first (inr same) = absurd cc
-written_of (Err why) g f wanted file stop from gtid old held new left all first (inl is) = (first.0, first_but_output why g f wanted file from gtid first.0 is first.1, first.2.1, (first.2.0, first.2.2, first.2.3), first.2.4)
-written_of (Err why) g f wanted file stop from gtid old held new left all first (inr same) =
+written_of (Ok u) g f wanted file positions from gtid old held new left all first (inr same) = absurd cc
+written_of (Err why) g f wanted file positions from gtid old held new left all first (inl is) = (first.0, first_but_output why g f wanted file from gtid first.0 is first.1, first.2.1, (first.2.0, first.2.2, first.2.3), first.2.4)
+written_of (Err why) g f wanted file positions from gtid old held new left all first (inr same) =
     let is : why ≡ g = cc in
     (first.0, subst (λ (k : Failure). AreFirst k f wanted file from gtid first.0) is first.1, first.2.1, (first.2.0, first.2.2, first.2.3), first.2.4)
 

@@ -8,6 +8,8 @@ pub mod Pairs
 pub mod Written
 pub mod Events
 pub mod Passed
+pub mod Begun
 pub mod Whole
 pub mod CountedFiles
 pub mod First
+pub mod Causes

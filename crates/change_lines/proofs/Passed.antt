@@ -1,5 +1,5 @@
 -- Events that are passed over.
-use Rattle.std.proofs.Common.{◌≡◌, ◌||◌, ℕ, zero, suc, Bool, true, false, List, [], ◌∷◌, ◌++◌, if◌then◌else◌, Option, None, refl, sym, subst, ◌∙◌, append-nil, inl, inr}
+use Rattle.std.proofs.Common.{◌≡◌, ◌||◌, ℕ, zero, suc, Bool, true, false, List, [], ◌∷◌, ◌++◌, if◌then◌else◌, Option, None, refl, sym, subst, ap, ◌∙◌, append_assoc, append-nil, inl, inr}
 use Rattle.std.specs.Prelude.{nat_eq}
 use Rattle.std.specs.Option.{is_some}
 use Rattle.std.proofs.lemmas.Bool.{eq-eqb}
@@ -58,20 +58,30 @@ same_gtid old o not =
 
 -- ---- their lines
 
+-- events that come after others
+abbrev pub Extends : List Event → List Event → Type 0
+Extends es ds = (more : List Event) × (ds ≡ es ++ more)
+
 -- events that give no lines are added to the others
 over_more : (f : Form) (wanted : Wanted) (file : List ℕ) (from : Spot) (gtid : Option (List ℕ)) (es : List Event) (text : List ℕ) (mid : Spot) (here : Option (List ℕ)) (n : ℕ) (new : Spot)
-    → AreLines f wanted file from gtid es text mid here → PassesOver seen_types n mid new → (ds : List Event) × AreLines f wanted file from gtid ds text new here
-over_more f wanted file from gtid es text mid here zero new lines same = (es, subst (λ (s : Spot). AreLines f wanted file from gtid es text s here) (sym same) lines)
+    → AreLines f wanted file from gtid es text mid here → PassesOver seen_types n mid new → (ds : List Event) × AreLines f wanted file from gtid ds text new here × Extends es ds
+over_more f wanted file from gtid es text mid here zero new lines same = (es, subst (λ (s : Spot). AreLines f wanted file from gtid es text s here) (sym same) lines, ([], sym (append-nil es)))
 over_more f wanted file from gtid es text mid here (suc n) new lines h =
     let before = over_more f wanted file from gtid es text mid here n h.0 lines h.1 in
     let e = h.2.0 in
     let o = other_of (glance_of e) in
     let more = event_more f wanted file from gtid before.0 text h.0 here e new (lent.Other o) [] before.1 h.2.1 (passed_shows wanted seen_types h.0 new h.2) refl in
     let ds = before.0 ++ e ∷ [] in
-    let same_text = subst (λ (t : List ℕ). AreLines f wanted file from gtid ds t new (gtid_after here o)) (append-nil text) more in
-    (ds, subst (λ (g : Option (List ℕ)). AreLines f wanted file from gtid ds text new g) (same_gtid here o h.2.2) same_text)
+    let same_text = subst (λ (t : List ℕ). AreLines f wanted file from gtid ds t new (gtid_after here o)) (append-nil text) more in (
+      ds,
+      subst (λ (g : Option (List ℕ)). AreLines f wanted file from gtid ds text new g) (same_gtid here o h.2.2) same_text,
+      (
+        before.2.0 ++ e ∷ [],
+        ap (λ (l : List Event). l ++ e ∷ []) before.2.1 ∙ append_assoc es before.2.0 (e ∷ []),
+      ),
+    )
 
 pub passed_more : (f : Form) (wanted : Wanted) (file : List ℕ) (from : Spot) (gtid : Option (List ℕ)) (es : List Event) (text : List ℕ) (mid : Spot) (here : Option (List ℕ)) (is_each : Bool) (new : Spot)
-    → AreLines f wanted file from gtid es text mid here → Passes is_each mid new → (ds : List Event) × AreLines f wanted file from gtid ds text new here
-passed_more f wanted file from gtid es text mid here true new lines same = (es, subst (λ (s : Spot). AreLines f wanted file from gtid es text s here) (sym same) lines)
+    → AreLines f wanted file from gtid es text mid here → Passes is_each mid new → (ds : List Event) × AreLines f wanted file from gtid ds text new here × Extends es ds
+passed_more f wanted file from gtid es text mid here true new lines same = (es, subst (λ (s : Spot). AreLines f wanted file from gtid es text s here) (sym same) lines, ([], sym (append-nil es)))
 passed_more f wanted file from gtid es text mid here false new lines passes = over_more f wanted file from gtid es text mid here passes.0 new lines passes.1

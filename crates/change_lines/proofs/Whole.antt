@@ -1,5 +1,5 @@
 -- A file is read event by event, from its start to its end.
-use Rattle.std.proofs.Common.{◌≡◌, ◌<◌, ◌^◌, ◌+◌, ℕ, Bool, true, false, List, [], ◌∷◌, ◌++◌, length, Option, Some, None, Ok, ◌⊎◌, inl, inr, refl, sym, ap, subst, ◌∙◌, length-append, arith}
+use Rattle.std.proofs.Common.{◌≡◌, ◌<◌, ◌^◌, ◌+◌, ℕ, Bool, true, false, List, [], ◌∷◌, ◌++◌, length, Option, Some, None, Ok, ◌⊎◌, inl, inr, refl, sym, ap, subst, ◌∙◌, append-nil, length-append, arith}
 use Rattle.std.specs.Io.KnownBytes.{Appends, Keeps, Consumes}
 use Rattle.std.proofs.KnownBytes.{Appends-trans}
 use Rattle.binlog_events.specs.declared.error.FileError.{FileError}
@@ -12,18 +12,21 @@ use Rattle.binlog_file.specs.SourceChanges.{Found, Finds, spot_at}
 use Rattle.change_lines.specs.declared.run.Form.{Form}
 use Rattle.change_lines.specs.declared.run.Settings.{Settings}
 use Rattle.changed_rows.specs.declared.filter.Filter.{Filter}
-use Rattle.changed_rows.specs.Filters.{wanted_by}
+use Rattle.changed_rows.specs.Names.{is_before}
+use Rattle.changed_rows.specs.declared.filter.Positions.{Positions}
+use Rattle.changed_rows.specs.Filters.{wanted_by, start_sought, start_after}
 use Rattle.change_lines.specs.Outputs.{Outputs}
 use Rattle.change_lines.specs.Readings.{Passes, SourceNext}
 use Rattle.change_lines.specs.Lines.{gtid_past, AreLines, WritesEvent, IsEnd, Writes}
 use Rattle.change_lines.specs.Runs.{AreAllLines}
 use Rattle.change_lines.proofs.Events.{event_more}
 use Rattle.change_lines.proofs.Passed.{passed_more}
+use Rattle.change_lines.proofs.Begun.{IsSought, past_position, sought_next, begun_at_end}
 use Rattle.change_lines.proofs.Outputs.{outputs_more}
 
 -- What was written so far: the lines of the events from a spot on up to the place of a reading, which finds
--- these bytes.
-pub record SoFar (f : Form) (wanted : Wanted) (file : List ℕ) (from : Spot) (gtid : Option (List ℕ)) (out : Option (List ℕ)) (held : List ℕ) (source : Option (List ℕ)) (r : Reading) (pending : Option FileError) (here : Option (List ℕ)) (new : Option (List ℕ)) (left : List ℕ) : Type 0 where
+-- these bytes. An event is looked for at the start position, or began there.
+pub record SoFar (f : Form) (wanted : Wanted) (file : List ℕ) (from : Spot) (gtid : Option (List ℕ)) (out : Option (List ℕ)) (held : List ℕ) (source : Option (List ℕ)) (r : Reading) (pending : Option FileError) (here : Option (List ℕ)) (new : Option (List ℕ)) (left : List ℕ) (start sought : Option ℕ) : Type 0 where
   pub goes_on : pending ≡ None
   pub bytes : List ℕ
   pub finds : Finds r source bytes
@@ -31,13 +34,19 @@ pub record SoFar (f : Form) (wanted : Wanted) (file : List ℕ) (from : Spot) (g
   pub text : List ℕ
   pub lines : AreLines f wanted file from gtid events text (spot_at r.kept None bytes) here
   pub outputs : Outputs out held text new left
+  pub is_sought : IsSought start sought events
+
+stays_at : (is_each : Bool) (old at : Spot) → Passes is_each old at → is_each ≡ true → at.place.at ≡ old.place.at
+stays_at true old at same each = ap (λ (s : Spot). s.place.at) same
+stays_at false old at same each = absurd (let bad = each in cc)
 
 -- one event more was read and written, perhaps after others that were passed over
-pub step : (f : Form) (wanted : Wanted) (file : List ℕ) (from : Spot) (gtid : Option (List ℕ)) (out : Option (List ℕ)) (held : List ℕ) (old : Option (List ℕ)) (r : Reading) (p : Option FileError) (here : Option (List ℕ)) (mid : Option (List ℕ)) (kept : List ℕ)
-    → SoFar f wanted file from gtid out held old r p here mid kept
+pub step : (f : Form) (wanted : Wanted) (file : List ℕ) (from : Spot) (gtid : Option (List ℕ)) (out : Option (List ℕ)) (held : List ℕ) (old : Option (List ℕ)) (r : Reading) (p : Option FileError) (here : Option (List ℕ)) (mid : Option (List ℕ)) (kept : List ℕ) (start sought : Option ℕ)
+    → SoFar f wanted file from gtid out held old r p here mid kept start sought
     → (is_each : Bool) (x : LentEvent) (source : Option (List ℕ)) (s : Reading) (q : Option FileError) (after : Option (List ℕ)) (new : Option (List ℕ)) (left : List ℕ)
-    → SourceNext wanted is_each old r p (Some (Ok x)) source s q → WritesEvent f file here x mid kept new left → after ≡ gtid_past here x → SoFar f wanted file from gtid out held source s q after new left
-step f wanted file from gtid out held old r p here mid kept h is_each x source s q after new left gives writes is =
+    → SourceNext wanted is_each old r p (Some (Ok x)) source s q → WritesEvent f file here x mid kept new left → after ≡ gtid_past here x → (is_each ≡ false → sought ≡ None)
+    → (next : Option ℕ) → next ≡ start_after sought r.kept.at → SoFar f wanted file from gtid out held source s q after new left start next
+step f wanted file from gtid out held old r p here mid kept start sought h is_each x source s q after new left gives writes is free next goes =
     let m = gives h.bytes h.finds in
     let at = m.2 in
     let passes = subst (λ (o : Option FileError). Passes is_each (spot_at r.kept o h.bytes) at) h.goes_on m.3 in
@@ -53,6 +62,7 @@ step f wanted file from gtid out held old r p here mid kept h is_each x source s
       text = h.text ++ writes.0;
       lines = subst (λ (g : Option (List ℕ)). AreLines f wanted file from gtid (passed.0 ++ e ∷ []) (h.text ++ writes.0) (spot_at s.kept None m.0) g) (sym is) lines;
       outputs = outputs_more out mid new held kept left h.text writes.0 h.outputs writes.2;
+      is_sought = subst (λ (o : Option ℕ). IsSought start o (passed.0 ++ e ∷ [])) (sym goes) (sought_next start sought r.kept.at at.place.at h.events passed.0 e is_each h.is_sought free (stays_at is_each (spot_at r.kept None h.bytes) at passes) (past_position at (spot_at s.kept None m.0) e past) passed.2);
     }
 
 end_without : (at : Spot) (stop : Option ℕ) → at.place.left ≡ [] → stop ≡ None → IsEnd stop at
@@ -66,11 +76,11 @@ is_end_at true stop old at same left whole stops = elim stops [ inl none ↦ end
 is_end_at false stop old at passes left whole stops = end_without at stop left (whole refl)
 
 -- no event is left, perhaps after others that were passed over
-pub ended : (f : Form) (wanted : Wanted) (file : List ℕ) (stop : Option ℕ) (from : Spot) (gtid : Option (List ℕ)) (out : Option (List ℕ)) (held : List ℕ) (old : Option (List ℕ)) (r : Reading) (p : Option FileError) (here : Option (List ℕ)) (mid : Option (List ℕ)) (kept : List ℕ)
-    → SoFar f wanted file from gtid out held old r p here mid kept
+pub ended : (f : Form) (wanted : Wanted) (file : List ℕ) (positions : Positions) (from : Spot) (gtid : Option (List ℕ)) (out : Option (List ℕ)) (held : List ℕ) (old : Option (List ℕ)) (r : Reading) (p : Option FileError) (here : Option (List ℕ)) (mid : Option (List ℕ)) (kept : List ℕ) (sought : Option ℕ)
+    → SoFar f wanted file from gtid out held old r p here mid kept (start_sought positions) sought
     → (is_each : Bool) (source : Option (List ℕ)) (s : Reading) (q : Option FileError) → SourceNext wanted is_each old r p None source s q
-    → (is_each ≡ false → stop ≡ None) → (stop ≡ None) ⊎ (stop ≡ Some r.kept.at) → Writes f wanted file stop from gtid out held mid kept
-ended f wanted file stop from gtid out held old r p here mid kept h is_each source s q gives whole stops =
+    → (is_each ≡ false → positions.stop ≡ None) → (positions.stop ≡ None) ⊎ (positions.stop ≡ Some r.kept.at) → sought ≡ None → Writes f wanted file positions from gtid out held mid kept
+ended f wanted file positions from gtid out held old r p here mid kept sought h is_each source s q gives whole stops found =
     let m = gives h.bytes h.finds in
     let at = m.2 in
     let passes = subst (λ (o : Option FileError). Passes is_each (spot_at r.kept o h.bytes) at) h.goes_on m.3 in
@@ -80,9 +90,30 @@ ended f wanted file stop from gtid out held old r p here mid kept h is_each sour
       end = at;
       after = here;
       lines = passed.1;
-      is_end = is_end_at is_each stop (spot_at r.kept None h.bytes) at passes m.4.1 whole stops;
+      is_end = is_end_at is_each positions.stop (spot_at r.kept None h.bytes) at passes m.4.1 whole stops;
+      begun = begun_at_end (start_sought positions) sought h.events passed.0 h.is_sought found passed.2;
       outputs = h.outputs;
     }
+
+-- the stop position is reached
+pub stopped : (f : Form) (wanted : Wanted) (file : List ℕ) (positions : Positions) (from : Spot) (gtid : Option (List ℕ)) (out : Option (List ℕ)) (held : List ℕ) (source : Option (List ℕ)) (r : Reading) (p : Option FileError) (here : Option (List ℕ)) (new : Option (List ℕ)) (left : List ℕ) (sought : Option ℕ)
+    → SoFar f wanted file from gtid out held source r p here new left (start_sought positions) sought
+    → is_before positions.stop r.kept.at ≡ false → (positions.stop ≡ None) ⊎ (positions.stop ≡ Some r.kept.at) → sought ≡ None → Writes f wanted file positions from gtid out held new left
+stopped f wanted file positions from gtid out held source r p here new left sought h past stops found =
+    let at = spot_at r.kept None h.bytes in
+    elim stops [
+      | inl none ↦ absurd (let bad : true ≡ false = subst (λ (o : Option ℕ). is_before o r.kept.at ≡ false) none past in cc)
+      | inr is ↦ record {
+        events = h.events;
+        text = h.text;
+        end = at;
+        after = here;
+        lines = h.lines;
+        is_end = subst (λ (o : Option ℕ). IsEnd o at) (sym is) refl;
+        begun = begun_at_end (start_sought positions) sought h.events h.events h.is_sought found ([], sym (append-nil h.events));
+        outputs = h.outputs;
+      }
+    ]
 
 appends_kept : (a b d : Option (List ℕ)) (t : List ℕ) → Appends a b t → Keeps b d → Appends a d t
 appends_kept None b d t p q = tt
@@ -93,7 +124,7 @@ appends_kept (Some x) (Some y) (Some z) t p q = q ∙ p
 -- the lines of a whole file were written
 pub whole : (settings : Settings) (choice : Filter) (file x : List ℕ) (source : Option (List ℕ)) (r : Reading) (gtid : Option (List ℕ)) (a b d e : Option (List ℕ)) (held left : List ℕ)
     → Consumes (Some x) source magic → r.kept ≡ first_kept → r.is_over ≡ false → length x < 2 ^ 64 → choice ≡ settings.filter → held ≡ [] → gtid ≡ None
-    → ((y : List ℕ) → Finds r source y → Writes settings.form (wanted_by choice) file settings.filter.positions.stop (spot_at r.kept None y) gtid a held b left)
+    → ((y : List ℕ) → Finds r source y → Writes settings.form (wanted_by choice) file settings.filter.positions (spot_at r.kept None y) gtid a held b left)
     → Appends b d left → Keeps d e → (text : List ℕ) × AreAllLines settings file x text × Appends a e text
 whole settings choice file x None r gtid a b d e held left consumes kept on small chosen empty none writes written flushed = absurd consumes
 whole settings choice file x (Some y) r gtid a b d e held left consumes kept on small chosen empty none writes written flushed =
@@ -106,4 +137,4 @@ whole settings choice file x (Some y) r gtid a b d e held left consumes kept on 
     let all = Appends-trans a b d w.outputs.0 left w.outputs.1 written in
     let out = subst (λ (t : List ℕ). Appends a d t) (sym w.outputs.2 ∙ ap (λ (t : List ℕ). t ++ w.text) empty) all in
     subst (λ (t : List ℕ). (text : List ℕ) × AreAllLines settings file t text × Appends a e text) (sym consumes)
-    (w.text, record { magic = refl; events = w.events; end = w.end; gtid = w.after; lines = lines3; is_end = w.is_end }, appends_kept a d e w.text out flushed)
+    (w.text, record { magic = refl; events = w.events; end = w.end; gtid = w.after; lines = lines3; is_end = w.is_end; begun = w.begun }, appends_kept a d e w.text out flushed)

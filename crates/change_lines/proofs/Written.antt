@@ -24,6 +24,10 @@ pub on_ok : {A E : Type 0} (r : Result A E) (P Q : Type 0) → (P → Q) → OnO
 on_ok (Ok a) P Q f h = f h
 on_ok (Err e) P Q f h = tt
 
+pub both_ok : {A E : Type 0} (r : Result A E) (P Q R : Type 0) → (P → Q → R) → OnOk r P → OnOk r Q → OnOk r R
+both_ok (Ok a) P Q R f h k = f h k
+both_ok (Err e) P Q R f h k = tt
+
 pub rows_weaker : (Is Be : ℕ → Pair → List ℕ → Type 0) → ((row : ℕ) (p : Pair) (line : List ℕ) → Is row p line → Be row p line) → (c : LentChange) (old : Option (List ℕ)) (held : List ℕ) (new : Option (List ℕ)) (left : List ℕ)
     → WritesRows Is c old held new left → WritesRows Be c old held new left
 rows_weaker Is Be to c old held new left h = record {

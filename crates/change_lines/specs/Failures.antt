@@ -22,6 +22,10 @@ use Rattle.change_lines.specs.declared.error.Failure.{Failure}
 use Rattle.change_lines.specs.declared.error.Failure.TheVariants as failure
 use Rattle.change_lines.specs.declared.run.Form.{Form}
 use Rattle.changed_rows.specs.Names.{up_to_most}
+use Rattle.std.specs.declared.io.Error.{Error}
+use Rattle.changed_rows.specs.declared.filter.Positions.{Positions}
+use Rattle.changed_rows.specs.Filters.{start_sought}
+use Rattle.change_lines.specs.Outputs.{IsErrorOf}
 use Rattle.change_lines.specs.Rows.{AreLinesBy, BeginsWith}
 use Rattle.change_lines.specs.Lines.{AreRowLines, AreLines}
 
@@ -36,6 +40,24 @@ IsOutput _ = ⊥
 abbrev pub IsNotOfFile : Failure → Type 0
 IsNotOfFile (failure.File e) = ⊥
 IsNotOfFile _ = ⊤
+
+-- it is of no output, and no position is missing
+abbrev pub IsOfReading : Failure → Type 0
+IsOfReading (failure.File e) = ⊤
+IsOfReading failure.Memory = ⊤
+IsOfReading _ = ⊥
+
+-- a failure of the output is the error of one of its calls; no position is missing
+abbrev pub IsOfEvent : {O : Type 0} → (O → List ℕ → Result ℕ Error → O → Type 0) → (O → Result (Unit {0}) Error → O → Type 0) → Failure → Type 0
+IsOfEvent writes flushes (failure.Output e) = IsErrorOf writes flushes e
+IsOfEvent writes flushes (failure.NoEvent n) = ⊥
+IsOfEvent writes flushes _ = ⊤
+
+-- a failure of the output is the error of one of its calls, and the position at which no event begins is one
+-- that was asked for
+abbrev pub IsOfRun : {O : Type 0} → Positions → (O → List ℕ → Result ℕ Error → O → Type 0) → (O → Result (Unit {0}) Error → O → Type 0) → Failure → Type 0
+IsOfRun p writes flushes (failure.NoEvent n) = (start_sought p ≡ Some n) ⊎ (p.stop ≡ Some n)
+IsOfRun p writes flushes why = IsOfEvent writes flushes why
 
 -- the row at the start of this rest can't be read
 abbrev pub IsUnreadable : LentChange → List ℕ → Fault → Type 0

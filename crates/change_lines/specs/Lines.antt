@@ -1,5 +1,5 @@
 -- The lines of a file's rows.
-use Rattle.std.specs.Prelude.{◌≡◌, ℕ, List, [], ◌∷◌, ◌++◌, codes, decimal, Option, None, MatchOption}
+use Rattle.std.specs.Prelude.{◌≡◌, ◌⊎◌, ℕ, List, [], ◌∷◌, ◌++◌, codes, decimal, Option, Some, None, MatchOption, ⊤}
 use Rattle.std.specs.Str.Lossy.{utf8_lossy}
 use Rattle.binlog_table.specs.TableMap.{TableMap}
 use Rattle.mysql_binlog_rows.specs.Images.{Pair, pair}
@@ -15,6 +15,8 @@ use Rattle.row_json.specs.Rows.{IsLine}
 use Rattle.row_lines.specs.Lines.{signed_line_text}
 use Rattle.change_lines.specs.declared.run.Form.{Form}
 use Rattle.change_lines.specs.declared.run.Form.TheVariants as form
+use Rattle.changed_rows.specs.declared.filter.Positions.{Positions}
+use Rattle.changed_rows.specs.Filters.{start_sought}
 use Rattle.changed_rows.specs.Names.{up_to_most}
 use Rattle.changed_rows.specs.Gtids.{gtid_after}
 use Rattle.changed_rows.specs.Origins.{member_of_row}
@@ -68,12 +70,23 @@ AreLines f wanted file old gtid (e ∷ es) text new after =
 abbrev pub WritesEvent : Form → List ℕ → Option (List ℕ) → LentEvent → Option (List ℕ) → List ℕ → Option (List ℕ) → List ℕ → Type 0
 WritesEvent f file gtid x old held new left = (text : List ℕ) × AreEventLines f file gtid x text × Outputs old held text new left
 
+-- an event begins at a position
+abbrev pub BeginsAt : ℕ → List Event → Type 0
+BeginsAt n [] = ⊥
+BeginsAt n (e ∷ es) = (e.position ≡ n) ⊎ BeginsAt n es
+
+-- an event begins at the position, where one is looked for
+abbrev pub IsBegun : Option ℕ → List Event → Type 0
+IsBegun None es = ⊤
+IsBegun (Some start) es = BeginsAt start es
+
 -- What is printed of a file from a spot on, up to its end or the stop position, was written.
-pub record Writes (f : Form) (wanted : Wanted) (file : List ℕ) (stop : Option ℕ) (from : Spot) (gtid : Option (List ℕ)) (old : Option (List ℕ)) (held : List ℕ) (new : Option (List ℕ)) (left : List ℕ) : Type 0 where
+pub record Writes (f : Form) (wanted : Wanted) (file : List ℕ) (p : Positions) (from : Spot) (gtid : Option (List ℕ)) (old : Option (List ℕ)) (held : List ℕ) (new : Option (List ℕ)) (left : List ℕ) : Type 0 where
   pub events : List Event
   pub text : List ℕ
   pub end : Spot
   pub after : Option (List ℕ)
   pub lines : AreLines f wanted file from gtid events text end after
-  pub is_end : IsEnd stop end
+  pub is_end : IsEnd p.stop end
+  pub begun : IsBegun (start_sought p) events
   pub outputs : Outputs old held text new left

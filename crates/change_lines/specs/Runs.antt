@@ -9,12 +9,13 @@ use Rattle.change_lines.specs.declared.error.Failure.TheVariants as failure
 use Rattle.change_lines.specs.declared.run.Settings.{Settings}
 use Rattle.change_lines.specs.declared.run.Ended.{Ended}
 use Rattle.change_lines.specs.declared.run.Ended.TheVariants as ended
-use Rattle.changed_rows.specs.Filters.{wanted_by}
-use Rattle.change_lines.specs.Lines.{AreLines, IsEnd}
+use Rattle.changed_rows.specs.Filters.{wanted_by, start_sought}
+use Rattle.change_lines.specs.Lines.{AreLines, IsEnd, IsBegun}
 use Rattle.change_lines.specs.Failures.{EndsAtHeader, AreFirst}
 
 -- These are all lines of a file of this name and these bytes: those of the events from its beginning up to
--- its end or the stop position, each of which is read without an error.
+-- its end or the stop position, each of which is read without an error. One of them begins at the start
+-- position, where one is looked for there.
 pub record AreAllLines (settings : Settings) (file : List ℕ) (x : List ℕ) (text : List ℕ) : Type 0 where
   pub magic : is_binlog x ≡ true
   pub events : List Event
@@ -22,6 +23,7 @@ pub record AreAllLines (settings : Settings) (file : List ℕ) (x : List ℕ) (t
   pub gtid : Option (List ℕ)
   pub lines : AreLines settings.form (wanted_by settings.filter) file (first_spot x) None events text end gtid
   pub is_end : IsEnd settings.filter.positions.stop end
+  pub begun : IsBegun (start_sought settings.filter.positions) events
 
 -- These are first lines of a file of this name and these bytes, up to a failure: none, where it is no binlog
 -- file; or those of some first events, each of which is read without an error, and then those of some first

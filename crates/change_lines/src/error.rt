@@ -83,7 +83,7 @@ impl fmt::Display for Sentence {
         match self.error {
             EventError::NotABinlogFile => f.write_str("this isn't a binlog file"),
             EventError::Encrypted => f.write_str(
-                "the file is encrypted: turn off binlog_encryption, or encrypt_binlog of MariaDB",
+                "the file is encrypted: have the server read it (mysqlbinlog -R --raw), or turn off binlog_encryption",
             ),
             EventError::Cut(missing) => self.write_cut(f, missing),
             EventError::RowsData(row, fault) => write!(f, "row {row} can't be read: {fault}"),
@@ -94,7 +94,9 @@ impl fmt::Display for Sentence {
                 f.write_str("the event is compressed: turn off log_bin_compress")
             }
             EventError::NotSupported(0xA4) => {
-                f.write_str("the events are encrypted: turn off encrypt_binlog")
+                f.write_str(
+                    "the events are encrypted: have the server read them (mariadb-binlog -R --raw), or turn off encrypt_binlog",
+                )
             }
             EventError::Reader => f.write_str("the file can't be read"),
             error => write!(f, "{error}"),

@@ -6,14 +6,14 @@ use crate::run::Form;
 use binlog_file::lent_changes::LentEvent;
 use binlog_table::table_map::TableMapEvent;
 use changed_rows::count::TableName;
-use changed_rows::signs::lacks_signs;
-use changed_rows::statements::Statements;
+use changed_rows::gaps::Gaps;
+use changed_rows::lacks::{Lack, lack_of};
 use std::alloc::{AllocError, Global};
 use std::collections::BTreeSet;
 use std::io::Write;
 use std::time::Clock;
 
-/// How many tables without signs are told at most.
+/// How many tables whose events lack something are told at most.
 const MOST_TABLES: usize = 1024;
 /// How many table ids are remembered whose tables were looked at.
 const MOST_IDS: usize = 4096;
@@ -84,24 +84,53 @@ impl<'c, E: Write + Drop, K: Clock> Notes<'c, E, K> {
         }
     }
 
-    /// Tells how many statements were logged as text.
-    pub fn tell_statements(&mut self, path: &str, statements: &Statements) {
+    // Tells how often a file says something of changes that its rows don't show, unless it never does.
+    fn tell_gap(&mut self, path: &str, what: &str, count: u64) {
+        if count > 0 {
+            let _written = writeln!(self.err, "changes: {path}: {what}: {count}");
+        }
+    }
+
+    /// Tells what a file says of changes that its rows don't show.
+    pub fn tell_gaps(&mut self, path: &str, gaps: &Gaps) {
         if self.is_quiet {
             return;
         }
-        let (text, compressed) = (statements.text, statements.compressed);
-        if text > 0 {
-            let _written = writeln!(
-                self.err,
-                "changes: {path}: {text} statements were logged as text, so that their rows aren't in the file (binlog_format)"
-            );
-        }
-        if compressed > 0 {
-            let _written = writeln!(
-                self.err,
-                "changes: {path}: {compressed} statements are compressed, and may have changed rows that aren't in the file (log_bin_compress)"
-            );
-        }
+        self.tell_gap(
+            path,
+            "statements logged as text, so that their rows aren't in the file (binlog_format)",
+            gaps.statements,
+        );
+        self.tell_gap(
+            path,
+            "compressed statements, whose rows may not be in the file (log_bin_compress)",
+            gaps.compressed,
+        );
+        self.tell_gap(
+            path,
+            "TRUNCATE statements, which have no rows",
+            gaps.truncations,
+        );
+        self.tell_gap(
+            path,
+            "ROLLBACK and XA ROLLBACK statements: rows that they roll back are in a file all the same",
+            gaps.rollbacks,
+        );
+        self.tell_gap(
+            path,
+            "transactions prepared by XA, whose rows are here whether they were committed or not",
+            gaps.prepared,
+        );
+        self.tell_gap(
+            path,
+            "incidents, by which the server says that changes are missing",
+            gaps.incidents,
+        );
+        self.tell_gap(
+            path,
+            "rows events without a row, as of inserts of defaults alone (binlog_row_image)",
+            gaps.without_rows,
+        );
     }
 
     /// Takes in an event that is printed in a form.
@@ -116,7 +145,7 @@ impl<'c, E: Write + Drop, K: Clock> Notes<'c, E, K> {
         }
     }
 
-    // Tells once for each table that its event has no signs although it has columns of numbers.
+    // Tells once for each table what its event lacks.
     fn see_table(&mut self, table: &TableMapEvent<'_>) -> Result<(), AllocError> {
         let id = table.table_id();
         if self.is_quiet || self.last == Some(id) || self.seen.contains(&id) {
@@ -126,23 +155,27 @@ impl<'c, E: Write + Drop, K: Clock> Notes<'c, E, K> {
         if self.seen.len() < MOST_IDS {
             self.seen.insert(id)?;
         }
-        self.tell_signs(table)
+        self.tell_lack(table)
     }
 
-    // Tells that a table's event has no signs, if that is so and wasn't told.
-    fn tell_signs(&mut self, table: &TableMapEvent<'_>) -> Result<(), AllocError> {
-        if self.told.len() >= MOST_TABLES || !lacks_signs(table) {
+    // Tells what a table's event lacks, if it lacks something and that wasn't told.
+    fn tell_lack(&mut self, table: &TableMapEvent<'_>) -> Result<(), AllocError> {
+        if self.told.len() >= MOST_TABLES {
             return Ok(());
         }
+        let what = match lack_of(table) {
+            None => return Ok(()),
+            Some(Lack::Signs) => {
+                "signs (binlog_row_metadata): unsigned numbers may be negative here, and columns are @0, @1, .."
+            }
+            Some(Lack::Names) => "names (binlog_row_metadata): columns are @0, @1, ..",
+        };
         let name = TableName::of(self.alloc, table)?;
         if self.told.contains(&name) {
             return Ok(());
         }
         let text = name.text(self.alloc)?;
-        let _written = writeln!(
-            self.err,
-            "changes: {text}: the server logged no signs (binlog_row_metadata): unsigned numbers may be negative here, and columns are @0, @1, .."
-        );
+        let _written = writeln!(self.err, "changes: {text}: the server logged no {what}");
         self.told.insert(name)?;
         Ok(())
     }

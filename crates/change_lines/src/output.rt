@@ -1,31 +1,37 @@
 //! Writing to an output that may fail.
 
-ghost use Rattle.std.specs.Prelude.{◌≢◌, OnOk, IfErr};
+ghost use Rattle.std.specs.Prelude.{◌≢◌, ℕ, Result, OnOk, IfErr};
 ghost use Rattle.std.specs.IoError.{error_kind};
+ghost use Rattle.std.specs.declared.io.Error.{Error};
 ghost use Rattle.std.specs.Io.{WritesAtMost};
 ghost use Rattle.std.specs.Io.KnownBytes.{Appends, WriteAppends};
-ghost use Rattle.change_lines.specs.Outputs.{AppendsFirst};
+ghost use Rattle.change_lines.specs.Outputs.{AppendsFirst, IsTakenAs, IsWriteError};
 
-use std::io;
-use std::io::{ErrorKind, Write};
+use binlog_base::below::WriteOnce;
+use std::io::{self, ErrorKind};
 
 // Writes some of the bytes out, and returns how many: none if the call was interrupted.
-fn write_some<O: Write>(out: &mut O, bytes: &[u8]) -> io::Result<usize>
+fn write_some<O: WriteOnce>(out: &mut O, bytes: &[u8]) -> io::Result<usize>
     ensures bound { WritesAtMost result bytes.now }
     ensures bytes { WriteAppends (O.contents out.old) (O.contents out.new) result bytes.now }
     ensures not_interrupted { IfErr result (λ e. error_kind e ≢ ErrorKind.Interrupted) }
+    ensures once { (answer : Result ℕ Error) × O.writes out.old bytes.now answer out.new
+        × IsTakenAs answer result }
 {
-    match out.write(bytes) {
+    match out.write_once(bytes) {
         Ok(0) => Err(io::Error::from(ErrorKind::WriteZero)),
         Err(error) if error.kind() == ErrorKind::Interrupted => Ok(0),
         written => written,
     }
 }
 
-/// Writes bytes out, as `Write::write_all` does. If the output fails, a beginning of them was written.
-pub fn write_whole<O: Write>(out: &mut O, bytes: &[u8]) -> io::Result<()>
+/// Writes bytes out, as `Write::write_all` does. If the output fails, a beginning of them was written, and
+/// the error is that of the call of `write` that failed, or `WriteZero` if it wrote nothing. Only calls that
+/// are interrupted without end end with `Interrupted`.
+pub fn write_whole<O: WriteOnce>(out: &mut O, bytes: &[u8]) -> io::Result<()>
     ensures whole { OnOk result (Appends (O.contents out.old) (O.contents out.new) bytes.now) }
     ensures first { AppendsFirst (O.contents out.old) (O.contents out.new) bytes.now }
+    ensures error { IfErr result (IsWriteError O.writes) }
 {
     let mut rest = bytes;
     for _ in 0..u64::MAX {
@@ -35,5 +41,5 @@ pub fn write_whole<O: Write>(out: &mut O, bytes: &[u8]) -> io::Result<()>
         let count = write_some(out, rest)?;
         rest = &rest[count..];
     }
-    Err(io::Error::from(ErrorKind::Other))
+    Err(io::Error::from(ErrorKind::Interrupted))
 }

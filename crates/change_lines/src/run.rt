@@ -7,7 +7,7 @@ ghost use Rattle.std.specs.Io.KnownBytes.{Appends};
 ghost use Rattle.row_json.specs.Rows.{IsLine};
 ghost use Rattle.row_json.specs.Columns.{columns_of};
 ghost use Rattle.row_lines.specs.Lines.{signed_line_text};
-ghost use Rattle.std.specs.Prelude.{◌^◌, ◌<◌, length, Some, None, Err, IfSome, IsSome, IsOk};
+ghost use Rattle.std.specs.Prelude.{◌^◌, ◌*◌, ◌<◌, length, Some, None, Ok, Err, IfSome, IsSome, IsOk};
 ghost use Rattle.mysql_binlog_rows.specs.Images.{Pair, pair};
 ghost use Rattle.mysql_binlog_rows.specs.Cover.{Covers};
 ghost use Rattle.binlog_file.specs.declared.lent_changes.LentEvent.TheVariants as lent;
@@ -24,10 +24,11 @@ ghost use Rattle.change_lines.specs.Readings.{Stays, SourceNext};
 ghost use Rattle.change_lines.specs.Lines.{place_text, IsRowLine, gtid_past, WritesEvent, Writes};
 ghost use Rattle.change_lines.specs.declared.error.Failure.{Failure};
 ghost use Rattle.change_lines.specs.Failures.{IsOutput, IsErrorOfRow, EndsAtRow, IsRowFailure, IsLineFailure};
+ghost use Rattle.change_lines.specs.Failures.{IsOfReading, IsOfEvent, IsOfRun};
 ghost use Rattle.change_lines.specs.Failures.{IsLostBy, OutputsUpTo, AppendsUpTo};
 ghost use Rattle.change_lines.specs.Failures.{WritesFirstRows, WritesFirstOfEvent, WritesFirst};
 ghost use Rattle.changed_rows.specs.Names.{up_to_most};
-ghost use Rattle.changed_rows.specs.Counted.{name_of, CountsMore};
+ghost use Rattle.changed_rows.specs.Counted.{name_of, CountsMore, table_text};
 ghost use Rattle.change_lines.specs.CountedFiles.{counted_by, AreEventRows, AreFirstEventRows};
 ghost use Rattle.change_lines.specs.CountedFiles.{AreCountedToEnd, AreFirstCounted, AreAllCounted};
 ghost use Rattle.change_lines.specs.CountedFiles.{AreFirstOfFile, CountsThese};
@@ -38,7 +39,7 @@ use crate::bounds::Bounds;
 use crate::error::Failure;
 use crate::notes::Notes;
 use crate::output::write_whole;
-use binlog_base::below::{Counted, Source as Bytes};
+use binlog_base::below::{Counted, Source as Bytes, WriteOnce};
 use binlog_base::fault::Fault;
 use binlog_file::error::{EventError, FileError};
 use binlog_file::file::BinlogFile;
@@ -48,9 +49,9 @@ use binlog_file::source_changes::SourceChanges;
 use binlog_table::table_map::TableMapEvent;
 use changed_rows::count::{Counts, TableName};
 use changed_rows::filter::{Filter, Operation};
+use changed_rows::gaps::Gaps;
 use changed_rows::gtid::Gtid;
 use changed_rows::source::Source;
-use changed_rows::statements::Statements;
 use changed_rows::tables::KeptTables;
 use mysql_binlog_rows::rows_event::{LentPair, RowsEvent};
 use row_json::{LineRoom, TableJson, write_line_with};
@@ -176,11 +177,12 @@ impl Lines {
     }
 
     // Writes the lines out. They are gone then, even if the output fails.
-    fn write_out<O: Write>(&mut self, out: &mut O) -> Result<(), Failure>
+    fn write_out<O: WriteOnce>(&mut self, out: &mut O) -> Result<(), Failure>
         ensures written { OnOk result
             (Appends (O.contents out.old) (O.contents out.new) self.old.bytes.items) }
         ensures first { AppendsFirst (O.contents out.old) (O.contents out.new) self.old.bytes.items }
         ensures failed { IfErr result IsOutput }
+        ensures cause { IfErr result (IsOfEvent O.writes O.flushes) }
         ensures left { self.new.bytes.items ≡ [] }
     {
         let written = write_whole(out, &self.bytes);
@@ -192,12 +194,14 @@ impl Lines {
     }
 
     // Writes the lines out if there are many.
-    fn write_if_full<O: Write>(&mut self, out: &mut O) -> Result<(), Failure>
+    fn write_if_full<O: WriteOnce>(&mut self, out: &mut O) -> Result<(), Failure>
         ensures all { OnOk result (Outputs (O.contents out.old) self.old.bytes.items []
             (O.contents out.new) self.new.bytes.items) }
         ensures first { IfErr result (λ why. OutputsUpTo why (O.contents out.old) self.old.bytes.items []
             (O.contents out.new) self.new.bytes.items) }
         ensures failed { IfErr result IsOutput }
+        ensures cause { IfErr result (IsOfEvent O.writes O.flushes) }
+        ensures few { OnOk result (length self.new.bytes.items < 32 * 1024) }
     {
         if self.bytes.len() < FULL {
             return Ok(());
@@ -206,15 +210,21 @@ impl Lines {
     }
 
     // Writes the lines out once a reading ended, and returns how it ended, or that the output failed.
-    fn finish<O: Write>(&mut self, read: Result<(), Failure>, out: &mut O) -> Result<(), Failure>
+    fn finish<O: WriteOnce>(
+        &mut self,
+        read: Result<(), Failure>,
+        out: &mut O,
+    ) -> Result<(), Failure>
         ensures all { OnOk result (IsOk read
             × Appends (O.contents out.old) (O.contents out.new) self.old.bytes.items) }
         ensures failed { IfErr result (λ why. IsOutput why ⊎ (read ≡ Err why)) }
+        ensures cause { IfErr result (λ why. (read ≡ Err why) ⊎ IsOfEvent O.writes O.flushes why) }
+        ensures flushed { OnOk result ((mid : O) × (u : Unit {0}) × O.flushes mid (Ok u) out.new) }
         ensures first { IfErr result (λ why. (lost : List ℕ) → IsLostBy read lost → AppendsUpTo why
             (O.contents out.old) (O.contents out.new) (self.old.bytes.items ++ lost)) }
     {
         self.write_out(out)?;
-        match out.flush() {
+        match out.flush_once() {
             Ok(()) => read,
             Err(error) => Err(Failure::Output(error)),
         }
@@ -223,7 +233,6 @@ impl Lines {
     // Adds a row of an event as a line of JSON.
     fn add_json(
         &mut self,
-        alloc: Global,
         table: &TableJson,
         event: &RowsEvent<'_>,
         pair: &LentPair<'_>,
@@ -235,28 +244,32 @@ impl Lines {
         ensures kept { OnErr result (self.new.bytes.items ≡ self.old.bytes.items) }
         ensures failed { IfErr result (IsLineFailure table.now event.now source.now.origin.position
             source.now.row pair.now) }
+        ensures cause { IfErr result IsOfReading }
     {
         let bytes = &mut self.bytes;
-        match write_line_with(alloc, &mut self.room, bytes, table, event, pair, source) {
+        match write_line_with(
+            self.alloc,
+            &mut self.room,
+            bytes,
+            table,
+            event,
+            pair,
+            source,
+        ) {
             Ok(()) => Ok(()),
             Err(fault) => Err(row_failure(source.origin.position, source.row, fault)),
         }
     }
 
     // Adds a row of an event as a line of text, which begins with this text.
-    fn add_text(
-        &mut self,
-        alloc: Global,
-        place: &str,
-        pair: &LentPair<'_>,
-    ) -> Result<(), AllocError>
+    fn add_text(&mut self, place: &str, pair: &LentPair<'_>) -> Result<(), AllocError>
         ensures line { OnOk result (self.new.bytes.items
             ≡ self.old.bytes.items ++ (place.now ++ signed_line_text pair.now)) }
         ensures kept { OnErr result (self.new.bytes.items ≡ self.old.bytes.items) }
     {
         let len = self.bytes.len();
         self.bytes.extend_from_slice(place.as_bytes())?;
-        let pushed = push_signed_line(alloc, &mut self.bytes, pair);
+        let pushed = push_signed_line(self.alloc, &mut self.bytes, pair);
         if pushed.is_err() {
             self.bytes.truncate(len);
         }
@@ -266,30 +279,29 @@ impl Lines {
 
 // Writes each row of an event as a line of JSON, and returns how many there are. `source` is that of any
 // row of the event.
-fn write_json_rows<'f, S: Bytes + Drop, O: Write>(
-    alloc: Global,
+fn write_json_rows<'f, 'b, S: Bytes + Drop, O: WriteOnce>(
     changes: &mut SourceChanges<S, Filter<'f>>,
-    change: LentChange<'_>,
+    change: &mut LentChange<'b>,
+    buffer: &mut LentPair<'b>,
     table: &TableJson,
     source: &Source<'_>,
     lines: &mut Lines,
     out: &mut O,
 ) -> Result<u64, Failure>
-    ensures lines { OnOk result (WritesRows (IsJsonLine table.now change.entry.rows source.now)
-        change.entry (O.contents out.old) lines.old.bytes.items (O.contents out.new)
+    ensures lines { OnOk result (WritesRows (IsJsonLine table.now change.old.rows source.now)
+        change.old (O.contents out.old) lines.old.bytes.items (O.contents out.new)
         lines.new.bytes.items) }
-    ensures first { source.now.origin ≡ change.entry.origin → table.now ≡ columns_of change.entry.table
+    ensures first { source.now.origin ≡ change.old.origin → table.now ≡ columns_of change.old.table
         → IfErr result (λ why. WritesFirstRows why
-        (IsJsonLine table.now change.entry.rows source.now) change.entry (O.contents out.old)
+        (IsJsonLine table.now change.old.rows source.now) change.old (O.contents out.old)
         lines.old.bytes.items (O.contents out.new) lines.new.bytes.items) }
     ensures stays { OnOk result (Stays changes.old changes.new) }
+    ensures cause { IfErr result (IsOfEvent O.writes O.flushes) }
 {
-    let mut change = change;
-    let mut pair = LentPair::new(alloc);
     let mut row: u64 = 0;
-    while let Some(read) = changes.next_pair(&mut change, &mut pair) {
+    while let Some(read) = changes.next_pair(change, buffer) {
         read?;
-        lines.add_json(alloc, table, change.rows(), &pair, &source.at(row))?;
+        lines.add_json(table, change.rows(), buffer, &source.at(row))?;
         lines.write_if_full(out)?;
         row = row.saturating_add(1);
     }
@@ -298,28 +310,27 @@ fn write_json_rows<'f, S: Bytes + Drop, O: Write>(
 
 // Writes each row of an event as a line of text, which begins with `place`, and returns how many there
 // are.
-fn write_text_rows<'f, S: Bytes + Drop, O: Write>(
-    alloc: Global,
+fn write_text_rows<'f, 'b, S: Bytes + Drop, O: WriteOnce>(
     changes: &mut SourceChanges<S, Filter<'f>>,
-    change: LentChange<'_>,
+    change: &mut LentChange<'b>,
+    buffer: &mut LentPair<'b>,
     place: &str,
     lines: &mut Lines,
     out: &mut O,
 ) -> Result<u64, Failure>
     ensures lines { OnOk result (WritesRows (λ row p line. line ≡ place.now ++ signed_line_text p)
-        change.entry (O.contents out.old) lines.old.bytes.items (O.contents out.new)
+        change.old (O.contents out.old) lines.old.bytes.items (O.contents out.new)
         lines.new.bytes.items) }
     ensures first { IfErr result (λ why. WritesFirstRows why
-        (λ row p line. line ≡ place.now ++ signed_line_text p) change.entry (O.contents out.old)
+        (λ row p line. line ≡ place.now ++ signed_line_text p) change.old (O.contents out.old)
         lines.old.bytes.items (O.contents out.new) lines.new.bytes.items) }
     ensures stays { OnOk result (Stays changes.old changes.new) }
+    ensures cause { IfErr result (IsOfEvent O.writes O.flushes) }
 {
-    let mut change = change;
-    let mut pair = LentPair::new(alloc);
     let mut count: u64 = 0;
-    while let Some(read) = changes.next_pair(&mut change, &mut pair) {
+    while let Some(read) = changes.next_pair(change, buffer) {
         read?;
-        lines.add_text(alloc, place, &pair)?;
+        lines.add_text(place, buffer)?;
         lines.write_if_full(out)?;
         count = count.saturating_add(1);
     }
@@ -327,23 +338,21 @@ fn write_text_rows<'f, S: Bytes + Drop, O: Write>(
 }
 
 // Returns how many rows an event has, up to the first that can't be read, and the error of that one.
-fn count_rows<'f, S: Bytes + Drop>(
-    alloc: Global,
+fn count_rows<'f, 'b, S: Bytes + Drop>(
     changes: &mut SourceChanges<S, Filter<'f>>,
-    change: LentChange<'_>,
+    change: &mut LentChange<'b>,
+    buffer: &mut LentPair<'b>,
 ) -> (u64, Option<FileError>)
     ensures covers { result.1 ≡ None → (ps : List Pair)
-        × Covers (pair change.entry.table change.entry.rows) change.entry.left ps None
+        × Covers (pair change.old.table change.old.rows) change.old.left ps None
         × (result.0 ≡ up_to_most (length ps)) }
     ensures first { IfSome result.1 (λ error. (ps : List Pair) × (rest : List ℕ)
-        × BeginsWith (pair change.entry.table change.entry.rows) change.entry.left ps rest
-        × IsErrorOfRow change.entry (length ps) rest error × (result.0 ≡ up_to_most (length ps))) }
+        × BeginsWith (pair change.old.table change.old.rows) change.old.left ps rest
+        × IsErrorOfRow change.old (length ps) rest error × (result.0 ≡ up_to_most (length ps))) }
     ensures stays { result.1 ≡ None → Stays changes.old changes.new }
 {
-    let mut change = change;
-    let mut pair = LentPair::new(alloc);
     let mut count: u64 = 0;
-    while let Some(read) = changes.next_pair(&mut change, &mut pair) {
+    while let Some(read) = changes.next_pair(change, buffer) {
         match read {
             Ok(()) => count = count.saturating_add(1),
             Err(error) => return (count, Some(error)),
@@ -374,8 +383,8 @@ fn add_rows(
 }
 
 // The types of the events that are looked at beside rows events: those after which another GTID may be
-// in force, and those with statements. Those that come most are first.
-const SEEN: [u8; 8] = [0xA2, 0x21, 0x02, 0x0F, 0x12, 0x22, 0x2A, 0xA5];
+// in force, and those that say something of changes. Those that come most are first.
+const SEEN: [u8; 10] = [0xA2, 0x21, 0x02, 0x0F, 0x12, 0x22, 0x2A, 0xA5, 0x26, 0x1A];
 
 // Reads the next event into a buffer: each one, or only those that are looked at.
 fn next_event<'f, 'b, S: Bytes + Drop>(
@@ -405,7 +414,7 @@ struct Printer<'a> {
     path: &'a str,
     file: &'a str,
     gtid: Gtid,
-    statements: Statements,
+    gaps: Gaps,
     tables: KeptTables,
     lines: Lines,
 }
@@ -423,21 +432,23 @@ impl<'a> Printer<'a> {
     }
 
     // Prints the rows of an event as lines of JSON.
-    fn print_json<'f, S: Bytes + Drop, O: Write>(
+    fn print_json<'f, 'b, S: Bytes + Drop, O: WriteOnce>(
         &mut self,
         changes: &mut SourceChanges<S, Filter<'f>>,
-        change: LentChange<'_>,
+        change: &mut LentChange<'b>,
+        buffer: &mut LentPair<'b>,
         out: &mut O,
     ) -> Result<u64, Failure>
         ensures lines { OnOk result (WritesRows
-            (IsRowLine Form.Json self.old.file.now self.old.gtid change.entry) change.entry
+            (IsRowLine Form.Json self.old.file.now self.old.gtid change.old) change.old
             (O.contents out.old) self.old.lines.bytes.items (O.contents out.new)
             self.new.lines.bytes.items) }
         ensures first { IfErr result (λ why. WritesFirstRows why
-            (IsRowLine Form.Json self.old.file.now self.old.gtid change.entry) change.entry
+            (IsRowLine Form.Json self.old.file.now self.old.gtid change.old) change.old
             (O.contents out.old) self.old.lines.bytes.items (O.contents out.new)
             self.new.lines.bytes.items) }
         ensures stays { OnOk result (Stays changes.old changes.new) }
+        ensures cause { IfErr result (IsOfEvent O.writes O.flushes) }
         ensures same { IsSame self.old self.new }
         ensures gtid { self.new.gtid ≡ self.old.gtid }
     {
@@ -446,41 +457,35 @@ impl<'a> Printer<'a> {
         let gtid = self.gtid.text();
         let source = Source::first(self.file, change.origin(), gtid, database, name);
         let json = table.json();
-        write_json_rows(
-            self.alloc,
-            changes,
-            change,
-            json,
-            &source,
-            &mut self.lines,
-            out,
-        )
+        write_json_rows(changes, change, buffer, json, &source, &mut self.lines, out)
     }
 
     // Prints the rows of an event as lines of text.
-    fn print_text<'f, S: Bytes + Drop, O: Write>(
+    fn print_text<'f, 'b, S: Bytes + Drop, O: WriteOnce>(
         &mut self,
         changes: &mut SourceChanges<S, Filter<'f>>,
-        change: LentChange<'_>,
+        change: &mut LentChange<'b>,
+        buffer: &mut LentPair<'b>,
         out: &mut O,
     ) -> Result<u64, Failure>
         ensures lines { OnOk result (WritesRows
-            (IsRowLine Form.Text self.old.file.now self.old.gtid change.entry) change.entry
+            (IsRowLine Form.Text self.old.file.now self.old.gtid change.old) change.old
             (O.contents out.old) self.old.lines.bytes.items (O.contents out.new)
             self.new.lines.bytes.items) }
         ensures first { IfErr result (λ why. WritesFirstRows why
-            (IsRowLine Form.Text self.old.file.now self.old.gtid change.entry) change.entry
+            (IsRowLine Form.Text self.old.file.now self.old.gtid change.old) change.old
             (O.contents out.old) self.old.lines.bytes.items (O.contents out.new)
             self.new.lines.bytes.items) }
         ensures stays { OnOk result (Stays changes.old changes.new) }
+        ensures cause { IfErr result (IsOfEvent O.writes O.flushes) }
         ensures same { IsSame self.old self.new }
         ensures gtid { self.new.gtid ≡ self.old.gtid }
     {
         let place = self.place(change.position(), change.table())?;
         write_text_rows(
-            self.alloc,
             changes,
             change,
+            buffer,
             place.as_str(),
             &mut self.lines,
             out,
@@ -488,26 +493,28 @@ impl<'a> Printer<'a> {
     }
 
     // Counts the rows of an event.
-    fn count<'f, S: Bytes + Drop>(
+    fn count<'f, 'b, S: Bytes + Drop>(
         &self,
         changes: &mut SourceChanges<S, Filter<'f>>,
-        change: LentChange<'_>,
+        change: &mut LentChange<'b>,
+        buffer: &mut LentPair<'b>,
         counts: &mut Counts,
     ) -> Result<u64, Failure>
         ensures covers { OnOk result ((ps : List Pair)
-            × Covers (pair change.entry.table change.entry.rows) change.entry.left ps None) }
+            × Covers (pair change.old.table change.old.rows) change.old.left ps None) }
         ensures first { IfErr result (λ why. (ps : List Pair) × (rest : List ℕ)
-            × BeginsWith (pair change.entry.table change.entry.rows) change.entry.left ps rest
-            × EndsAtRow why change.entry (length ps) rest) }
+            × BeginsWith (pair change.old.table change.old.rows) change.old.left ps rest
+            × EndsAtRow why change.old (length ps) rest) }
         ensures stays { OnOk result (Stays changes.old changes.new) }
-        ensures counts { OnOk result (CountsThese (AreEventRows (lent.Rows change.entry))
+        ensures cause { IfErr result IsOfReading }
+        ensures counts { OnOk result (CountsThese (AreEventRows (lent.Rows change.old))
             counts.old counts.new) }
         ensures first_counts { IfErr result (λ why. CountsThese
-            (AreFirstEventRows why (lent.Rows change.entry)) counts.old counts.new) }
+            (AreFirstEventRows why (lent.Rows change.old)) counts.old counts.new) }
     {
         let name = TableName::of(self.alloc, change.table())?;
         let operation = Operation::of(change.rows().event_type());
-        let (rows, error) = count_rows(self.alloc, changes, change);
+        let (rows, error) = count_rows(changes, change, buffer);
         add_rows(counts, name, operation, rows)?;
         match error {
             None => Ok(rows),
@@ -516,31 +523,33 @@ impl<'a> Printer<'a> {
     }
 
     // Prints the rows of an event in the form that is wanted.
-    fn print_rows<'f, S: Bytes + Drop, O: Write>(
+    fn print_rows<'f, 'b, S: Bytes + Drop, O: WriteOnce>(
         &mut self,
         changes: &mut SourceChanges<S, Filter<'f>>,
-        change: LentChange<'_>,
+        change: &mut LentChange<'b>,
+        buffer: &mut LentPair<'b>,
         counts: &mut Counts,
         out: &mut O,
     ) -> Result<u64, Failure>
         ensures lines { OnOk result (WritesEvent self.old.settings.now.form self.old.file.now
-            self.old.gtid (lent.Rows change.entry) (O.contents out.old) self.old.lines.bytes.items
+            self.old.gtid (lent.Rows change.old) (O.contents out.old) self.old.lines.bytes.items
             (O.contents out.new) self.new.lines.bytes.items) }
         ensures first { IfErr result (λ why. WritesFirstOfEvent why self.old.settings.now.form
-            self.old.file.now self.old.gtid (lent.Rows change.entry) (O.contents out.old)
+            self.old.file.now self.old.gtid (lent.Rows change.old) (O.contents out.old)
             self.old.lines.bytes.items (O.contents out.new) self.new.lines.bytes.items) }
         ensures stays { OnOk result (Stays changes.old changes.new) }
+        ensures cause { IfErr result (IsOfEvent O.writes O.flushes) }
         ensures same { IsSame self.old self.new }
         ensures gtid { self.new.gtid ≡ self.old.gtid }
         ensures counts { OnOk result (self.old.settings.now.form ≡ Form.Count
-            → CountsThese (AreEventRows (lent.Rows change.entry)) counts.old counts.new) }
+            → CountsThese (AreEventRows (lent.Rows change.old)) counts.old counts.new) }
         ensures first_counts { IfErr result (λ why. self.old.settings.now.form ≡ Form.Count
-            → CountsThese (AreFirstEventRows why (lent.Rows change.entry)) counts.old counts.new) }
+            → CountsThese (AreFirstEventRows why (lent.Rows change.old)) counts.old counts.new) }
     {
         match self.settings.form {
-            Form::Json => self.print_json(changes, change, out),
-            Form::Text => self.print_text(changes, change, out),
-            Form::Count => self.count(changes, change, counts),
+            Form::Json => self.print_json(changes, change, buffer, out),
+            Form::Text => self.print_text(changes, change, buffer, out),
+            Form::Count => self.count(changes, change, buffer, counts),
         }
     }
 
@@ -552,13 +561,13 @@ impl<'a> Printer<'a> {
     {
         self.gtid.see(self.alloc, event)?;
         if self.settings.filter.positions.contains(event.position()) {
-            self.statements.see(event);
+            self.gaps.see(event);
         }
         Ok(())
     }
 
     // Prints what an event gives. Returns how many rows it has that are wanted.
-    fn print_event<'f, S: Bytes + Drop, O: Write>(
+    fn print_event<'f, S: Bytes + Drop, O: WriteOnce>(
         &mut self,
         changes: &mut SourceChanges<S, Filter<'f>>,
         event: LentEvent<'_>,
@@ -572,6 +581,7 @@ impl<'a> Printer<'a> {
             self.old.file.now self.old.gtid event.entry (O.contents out.old)
             self.old.lines.bytes.items (O.contents out.new) self.new.lines.bytes.items) }
         ensures stays { OnOk result (Stays changes.old changes.new) }
+        ensures cause { IfErr result (IsOfEvent O.writes O.flushes) }
         ensures same { IsSame self.old self.new }
         ensures gtid { OnOk result (self.new.gtid ≡ gtid_past self.old.gtid event.entry) }
         ensures counts { OnOk result (self.old.settings.now.form ≡ Form.Count
@@ -584,12 +594,18 @@ impl<'a> Printer<'a> {
                 self.see(&event)?;
                 Ok(0)
             }
-            LentEvent::Rows(change) => self.print_rows(changes, change, counts, out),
+            LentEvent::Rows(change) => {
+                let mut change = change;
+                let mut buffer = LentPair::new(self.alloc);
+                let rows = self.print_rows(changes, &mut change, &mut buffer, counts, out)?;
+                self.gaps.see_rows(rows);
+                Ok(rows)
+            }
         }
     }
 
     // Prints the events of a file up to its end, or to the stop position.
-    fn print_events<'f, S: Bytes + Drop, O: Write, E: Write + Drop, K: Clock>(
+    fn print_events<'f, S: Bytes + Drop, O: WriteOnce, E: Write + Drop, K: Clock>(
         &mut self,
         changes: &mut SourceChanges<S, Filter<'f>>,
         counts: &mut Counts,
@@ -599,7 +615,7 @@ impl<'a> Printer<'a> {
         ensures all { OnOk result (changes.old.walk.pending ≡ None
             → (x : List ℕ) → Finds (reading_in changes.old.walk) (S.remaining changes.old.source) x
             → Writes self.old.settings.now.form (wanted_by changes.old.choice) self.old.file.now
-            self.old.settings.now.filter.positions.stop
+            self.old.settings.now.filter.positions
             (spot_at (kept_in changes.old.walk) None x) self.old.gtid
             (O.contents out.old) self.old.lines.bytes.items
             (O.contents out.new) self.new.lines.bytes.items) }
@@ -620,6 +636,8 @@ impl<'a> Printer<'a> {
             → Finds (reading_in changes.old.walk) (S.remaining changes.old.source) x
             → CountsThese (AreFirstCounted why (wanted_by changes.old.choice)
             (spot_at (kept_in changes.old.walk) None x)) counts.old counts.new) }
+        ensures cause { IfErr result (IsOfRun self.old.settings.now.filter.positions
+            O.writes O.flushes) }
     {
         let mut bounds = Bounds::of(self.settings.filter.positions);
         let mut buffer = EventBuffer::new(self.alloc);
@@ -640,7 +658,7 @@ impl<'a> Printer<'a> {
     }
 
     // Prints the changes of a file.
-    fn print<R: Read + Drop, O: Write, E: Write + Drop, K: Clock>(
+    fn print<R: Read + Drop, O: WriteOnce, E: Write + Drop, K: Clock>(
         &mut self,
         reader: R,
         counts: &mut Counts,
@@ -661,6 +679,9 @@ impl<'a> Printer<'a> {
         ensures first_counts { IfErr result (λ why. self.old.settings.now.form ≡ Form.Count
             → (x : List ℕ) → R.remaining reader ≡ Some x → length x < 2 ^ 64
             → CountsThese (AreFirstOfFile why self.old.settings.now x) counts.old counts.new) }
+        ensures cause { IfErr result (IsOfRun self.old.settings.now.filter.positions
+            O.writes O.flushes) }
+        ensures flushed { OnOk result ((mid : O) × (u : Unit {0}) × O.flushes mid (Ok u) out.new) }
     {
         let file = BinlogFile::new(self.alloc, Counted::new(reader))?;
         let mut changes = SourceChanges::new(self.alloc, file, self.settings.filter);
@@ -673,7 +694,7 @@ impl<'a> Printer<'a> {
 /// `path` that in what is told. With `Form::Count` the rows are counted in `counts`, and nothing is printed.
 ///
 /// An error is told after all lines before it.
-pub fn run<R: Read + Drop, O: Write, E: Write + Drop, K: Clock>(
+pub fn run<R: Read + Drop, O: WriteOnce, E: Write + Drop, K: Clock>(
     alloc: Global,
     settings: &Settings<'_>,
     path: &str,
@@ -695,6 +716,9 @@ pub fn run<R: Read + Drop, O: Write, E: Write + Drop, K: Clock>(
         × (settings.now.form ≡ Form.Count
         → CountsThese (AreFirstOfFile why settings.now x) counts.old counts.new)
         × EndsBy result why }
+    ensures cause { result ≢ Whole → (why : Failure) × EndsBy result why
+        × IsOfRun settings.now.filter.positions O.writes O.flushes why }
+    ensures flushed { result ≡ Whole → (mid : O) × (u : Unit {0}) × O.flushes mid (Ok u) out.new }
 {
     let mut printer = Printer {
         alloc,
@@ -702,13 +726,13 @@ pub fn run<R: Read + Drop, O: Write, E: Write + Drop, K: Clock>(
         path,
         file,
         gtid: Gtid::new(alloc),
-        statements: Statements::new(),
+        gaps: Gaps::new(),
         tables: KeptTables::new(alloc),
         lines: Lines::new(alloc),
     };
     match printer.print(reader, counts, out, notes) {
         Ok(()) => {
-            notes.tell_statements(path, &printer.statements);
+            notes.tell_gaps(path, &printer.gaps);
             Ended::Whole
         }
         Err(failure) => {
@@ -719,4 +743,23 @@ pub fn run<R: Read + Drop, O: Write, E: Write + Drop, K: Clock>(
             ended
         }
     }
+}
+
+/// Writes the table of the counts out (`Counts::print`), and flushes the output. The table is made in
+/// memory first, so that a failure is `Memory`, or `Output` with the error of the output.
+pub fn write_counts<O: WriteOnce>(
+    alloc: Global,
+    counts: &Counts,
+    out: &mut O,
+) -> Result<(), Failure>
+    ensures written { OnOk result
+        (Appends (O.contents out.old) (O.contents out.new) (table_text counts.now)) }
+    ensures cause { IfErr result (IsOfEvent O.writes O.flushes) }
+    ensures flushed { OnOk result ((mid : O) × (u : Unit {0}) × O.flushes mid (Ok u) out.new) }
+{
+    let mut lines = Lines::new(alloc);
+    if counts.print(&mut lines.bytes).is_err() {
+        return Err(Failure::Memory);
+    }
+    lines.finish(Ok(()), out)
 }

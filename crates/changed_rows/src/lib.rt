@@ -4,9 +4,9 @@
 
 pub mod count;
 pub mod filter;
+pub mod gaps;
 pub mod gtid;
-pub mod signs;
+pub mod lacks;
 pub mod source;
-pub mod statements;
 pub mod table;
 pub mod tables;

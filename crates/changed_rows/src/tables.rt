@@ -1,6 +1,6 @@
 //! What is kept of the tables that rows belong to.
 
-ghost use Rattle.std.specs.Prelude.{◌≡◌, Some, IfOk, IsTrue, IsFalse, IsSome, OnOk};
+ghost use Rattle.std.specs.Prelude.{◌≡◌, ◌*◌, Some, IfOk, IsTrue, IsFalse, IsSome, OnOk};
 ghost use Rattle.binlog_kept.specs.Kept.{kept_at};
 ghost use Rattle.changed_rows.specs.Tables.{Tells, TellsIf};
 
@@ -30,7 +30,9 @@ pub struct KeptTables {
 
 impl KeptTables {
     /// Returns no tables.
-    pub fn new(alloc: Global) -> KeptTables {
+    pub fn new(alloc: Global) -> KeptTables
+        ensures most { result.stored.most ≡ 24 * 1024 * 1024 }
+    {
         KeptTables {
             stored: Generations::new(alloc, MOST_BYTES),
             last: None,

@@ -2,9 +2,10 @@
 #![tactic(auto)]
 
 use change_lines::arguments::{Arguments, command, usage_error};
+use change_lines::error::Failure;
 use change_lines::notes::Notes;
 use change_lines::progress::Meter;
-use change_lines::run::{Ended, run};
+use change_lines::run::{Ended, run, write_counts};
 use changed_rows::count::Counts;
 use clap::{ArgMatches, Error};
 use std::fs::File;
@@ -78,9 +79,11 @@ fn over_files(rt: &HostRuntime, matches: &ArgMatches<'_>) -> io::Result<u8> {
 
 // Prints the numbers of rows. That whoever reads them went away is no error.
 fn print_counts(rt: &HostRuntime, counts: &Counts) -> io::Result<()> {
-    match counts.print(&mut rt.stdout()) {
-        Err(error) if error.kind() == ErrorKind::BrokenPipe => Ok(()),
-        printed => printed,
+    match write_counts(rt.alloc(), counts, &mut rt.stdout()) {
+        Ok(()) => Ok(()),
+        Err(Failure::Output(error)) if error.kind() == ErrorKind::BrokenPipe => Ok(()),
+        Err(Failure::Output(error)) => Err(error),
+        Err(_) => Err(io::Error::from(ErrorKind::OutOfMemory)),
     }
 }
 

@@ -5,13 +5,13 @@ use Rattle.change_lines.proofs.run.count_rows.Goals as goal
 
 pub loop-read-init : goal.loop-read-init
 loop-read-init g c =
-    let e = c.args.change in
+    let e = c.args.change.now in
     (record { walk = refl; source = refl; choice = refl }, refl, refl, [], nothing_read e.table e.rows e.left, refl, omega arith, refl)
 
 pub loop-read-preserved : goal.loop-read-preserved
 loop-read-preserved g c =
     let h = c.loop-read.invariant in
-    let e = c.args.change in
+    let e = c.args.change.now in
     let old = c.loop-read.change in
     let new = c.next_pair.new.change in
     let p = c.next_pair.new.pair in
@@ -37,4 +37,4 @@ returns-in-Err-clause-first g c =
     let new = c.next_pair.new.change in
     let p = c.next_pair.new.pair in
     let gives = err_gives old new p c.in-Some.read c.in-Err.error c.in-Err.is c.in-Some.ensures.pair in
-    (h.3, old.left, h.4, row_error c.args.change old new (length h.3) p c.in-Err.error h.1 h.2 h.5 h.6 gives, h.7)
+    (h.3, old.left, h.4, row_error c.args.change.now old new (length h.3) p c.in-Err.error h.1 h.2 h.5 h.6 gives, h.7)

@@ -19,3 +19,14 @@ returns-clause-first g c = λ not x known small.
         | else-eq w ↦ subst (λ (e : Ended). EndsBy e why) (sym w.result-is) c.ended_by-ended.ensures
       ],
     )
+
+pub returns-clause-cause : goal.returns-clause-cause
+returns-clause-cause g c = λ not.
+    let why = c.in-Err.failure in (
+      why,
+      elim c.if-eq.branch [
+        | then-eq w ↦ subst (λ (e : Ended). EndsBy e why) (sym w.result-is) c.ended_by-ended.ensures
+        | else-eq w ↦ subst (λ (e : Ended). EndsBy e why) (sym w.result-is) c.ended_by-ended.ensures
+      ],
+      of_error c.print.result why _ c.in-Err.is c.print.ensures.cause,
+    )

@@ -14,17 +14,18 @@ use Rattle.change_lines.proofs.Errors.{passed_on}
 use Rattle.change_lines.proofs.Failures.{up_to_more, up_to_line, not_at_row, output_not_file}
 use Rattle.change_lines.proofs.First.{rows_so_far, err_gives, row_error, line_error}
 use Rattle.change_lines.proofs.Outputs.{outputs_nothing, outputs_line, outputs_more}
+use Rattle.change_lines.proofs.Causes.{of_reading}
 use Rattle.change_lines.proofs.run.write_json_rows.Goals as goal
 
 pub loop-read-init : goal.loop-read-init
 loop-read-init g c =
-    let e = c.args.change in
+    let e = c.args.change.now in
     (record { walk = refl; source = refl; choice = refl }, refl, refl, [], [], nothing_read e.table e.rows e.left, refl, refl, outputs_nothing (g.O.Write.contents c.args.out.now) c.args.lines.now.bytes.items, refl, omega arith)
 
 pub loop-read-preserved : goal.loop-read-preserved
 loop-read-preserved g c =
     let h = c.loop-read.invariant in
-    let e = c.args.change in
+    let e = c.args.change.now in
     let old = c.loop-read.change in
     let new = c.next_pair.new.change in
     let p = c.next_pair.new.pair in
@@ -58,7 +59,7 @@ loop-read-preserved g c =
 pub returns-in_err-read-clause-first : goal.returns-in_err-read-clause-first
 returns-in_err-read-clause-first g c =
     let h = c.loop-read.invariant in
-    let e = c.args.change in
+    let e = c.args.change.now in
     let old = c.loop-read.change in
     let p = c.next_pair.new.pair in
     let error = c.in_err-read.field-0.0 in
@@ -69,7 +70,7 @@ returns-in_err-read-clause-first g c =
 pub returns-in_err-add_json-clause-first : goal.returns-in_err-add_json-clause-first
 returns-in_err-add_json-clause-first g c =
     let h = c.loop-read.invariant in
-    let e = c.args.change in
+    let e = c.args.change.now in
     let old = c.loop-read.change in
     let new = c.next_pair.new.change in
     let p = c.next_pair.new.pair in
@@ -90,7 +91,7 @@ returns-in_err-add_json-clause-first g c =
 pub returns-in_err-write_if_full-clause-first : goal.returns-in_err-write_if_full-clause-first
 returns-in_err-write_if_full-clause-first g c =
     let h = c.loop-read.invariant in
-    let e = c.args.change in
+    let e = c.args.change.now in
     let old = c.loop-read.change in
     let new = c.next_pair.new.change in
     let p = c.next_pair.new.pair in
@@ -114,3 +115,12 @@ returns-in_err-write_if_full-clause-first g c =
       ends = not_at_row why e (length (h.3 ++ p ∷ [])) new.left (output_not_file why c.in_err-write_if_full.ensures.failed);
       outputs = up_to_more why _ _ _ _ c.loop-read.lines.bytes.items _ h.4 line h.8 out;
     })
+
+pub returns-in_err-read-clause-cause : goal.returns-in_err-read-clause-cause
+returns-in_err-read-clause-cause g c = passed_on _ (failure.File c.in_err-read.field-0.0) _ c.from_residual.ensures.1 tt
+
+pub returns-in_err-add_json-clause-cause : goal.returns-in_err-add_json-clause-cause
+returns-in_err-add_json-clause-cause g c = let why = c.in_err-add_json.field-0.0 in passed_on _ why _ c.from_residual-in_err-add_json.ensures.1 (of_reading g.O.WriteOnce.writes g.O.WriteOnce.flushes why c.in_err-add_json.ensures.cause)
+
+pub returns-in_err-write_if_full-clause-cause : goal.returns-in_err-write_if_full-clause-cause
+returns-in_err-write_if_full-clause-cause g c = passed_on _ c.in_err-write_if_full.field-0.0 _ c.from_residual-in_err-write_if_full.ensures.1 c.in_err-write_if_full.ensures.cause

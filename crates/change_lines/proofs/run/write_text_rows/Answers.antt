@@ -11,13 +11,13 @@ use Rattle.change_lines.proofs.run.write_text_rows.Goals as goal
 
 pub loop-read-init : goal.loop-read-init
 loop-read-init g c =
-    let e = c.args.change in
+    let e = c.args.change.now in
     (record { walk = refl; source = refl; choice = refl }, refl, refl, [], [], nothing_read e.table e.rows e.left, refl, outputs_nothing (g.O.Write.contents c.args.out.now) c.args.lines.now.bytes.items, refl, omega arith)
 
 pub loop-read-preserved : goal.loop-read-preserved
 loop-read-preserved g c =
     let h = c.loop-read.invariant in
-    let e = c.args.change in
+    let e = c.args.change.now in
     let old = c.loop-read.change in
     let new = c.next_pair.new.change in
     let p = c.next_pair.new.pair in
@@ -44,7 +44,7 @@ loop-read-preserved g c =
 pub returns-in_err-read-clause-first : goal.returns-in_err-read-clause-first
 returns-in_err-read-clause-first g c =
     let h = c.loop-read.invariant in
-    let e = c.args.change in
+    let e = c.args.change.now in
     let old = c.loop-read.change in
     let p = c.next_pair.new.pair in
     let error = c.in_err-read.field-0.0 in
@@ -55,12 +55,12 @@ returns-in_err-read-clause-first g c =
 pub returns-in_err-add_text-clause-first : goal.returns-in_err-add_text-clause-first
 returns-in_err-add_text-clause-first g c =
     let h = c.loop-read.invariant in
-    passed_on _ failure.Memory _ c.from_residual-in_err-add_text.ensures.1 (rows_so_far failure.Memory _ c.args.change _ _ _ c.loop-read.lines.bytes.items _ h.3 c.loop-read.change.left h.4 h.5 h.6 h.7 c.in_err-add_text.ensures.kept tt)
+    passed_on _ failure.Memory _ c.from_residual-in_err-add_text.ensures.1 (rows_so_far failure.Memory _ c.args.change.now _ _ _ c.loop-read.lines.bytes.items _ h.3 c.loop-read.change.left h.4 h.5 h.6 h.7 c.in_err-add_text.ensures.kept tt)
 
 pub returns-in_err-write_if_full-clause-first : goal.returns-in_err-write_if_full-clause-first
 returns-in_err-write_if_full-clause-first g c =
     let h = c.loop-read.invariant in
-    let e = c.args.change in
+    let e = c.args.change.now in
     let old = c.loop-read.change in
     let new = c.next_pair.new.change in
     let p = c.next_pair.new.pair in
@@ -78,3 +78,12 @@ returns-in_err-write_if_full-clause-first g c =
       ends = not_at_row why e (length (h.3 ++ p ∷ [])) new.left (output_not_file why c.in_err-write_if_full.ensures.failed);
       outputs = up_to_more why _ _ _ _ c.loop-read.lines.bytes.items _ h.4 line h.7 out;
     })
+
+pub returns-in_err-read-clause-cause : goal.returns-in_err-read-clause-cause
+returns-in_err-read-clause-cause g c = passed_on _ (failure.File c.in_err-read.field-0.0) _ c.from_residual.ensures.1 tt
+
+pub returns-in_err-add_text-clause-cause : goal.returns-in_err-add_text-clause-cause
+returns-in_err-add_text-clause-cause g c = passed_on _ failure.Memory _ c.from_residual-in_err-add_text.ensures.1 tt
+
+pub returns-in_err-write_if_full-clause-cause : goal.returns-in_err-write_if_full-clause-cause
+returns-in_err-write_if_full-clause-cause g c = passed_on _ c.in_err-write_if_full.field-0.0 _ c.from_residual-in_err-write_if_full.ensures.1 c.in_err-write_if_full.ensures.cause

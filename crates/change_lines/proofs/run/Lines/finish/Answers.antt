@@ -1,7 +1,8 @@
-use Rattle.std.proofs.Common.{refl, inl}
+use Rattle.std.proofs.Common.{refl, inl, inr}
 use Rattle.std.proofs.KnownBytes.{Appends-kept}
 use Rattle.change_lines.proofs.Errors.{passed_on}
 use Rattle.change_lines.proofs.Failures.{failed_appended, kept_appended, own_error}
+use Rattle.change_lines.proofs.Causes.{own_cause}
 use Rattle.change_lines.proofs.run.Lines.finish.Goals as goal
 
 pub returns-in_err-write_out-clause-failed : goal.returns-in_err-write_out-clause-failed
@@ -21,3 +22,9 @@ returns-in-Ok-clause-first g c = kept_appended c.args.read _ _ _ _ c.in_ok-write
 pub returns-in-Err-clause-first : goal.returns-in-Err-clause-first
 returns-in-Err-clause-first g c = λ lost is.
     (c.args.self.now.bytes.items, lost, Appends-kept _ _ _ _ c.in_ok-write_out.ensures.written c.in-Err.ensures.bytes, refl, tt)
+
+pub returns-in_err-write_out-clause-cause : goal.returns-in_err-write_out-clause-cause
+returns-in_err-write_out-clause-cause g c = passed_on _ c.in_err-write_out.field-0.0 _ c.from_residual.ensures.1 (inr c.in_err-write_out.ensures.cause)
+
+pub returns-in-Ok-clause-cause : goal.returns-in-Ok-clause-cause
+returns-in-Ok-clause-cause g c = own_cause g.O.WriteOnce.writes g.O.WriteOnce.flushes c.args.read

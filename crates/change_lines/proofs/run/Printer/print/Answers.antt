@@ -11,7 +11,8 @@ use Rattle.binlog_file.specs.Workings.SourceWalks.{reading_in, kept_in}
 use Rattle.change_lines.specs.declared.error.Failure.TheVariants as failure
 use Rattle.changed_rows.specs.Filters.{wanted_by}
 use Rattle.change_lines.specs.CountedFiles.{AreCountedToEnd, AreFirstCounted}
-use Rattle.change_lines.proofs.Errors.{passed_on, on_error, on_errors, if_ok}
+use Rattle.change_lines.proofs.Errors.{passed_on, on_error, on_errors, of_error, if_ok}
+use Rattle.change_lines.proofs.Causes.{of_event}
 use Rattle.change_lines.proofs.Failures.{nothing_appended, all_appended}
 use Rattle.change_lines.proofs.First.{written_of, first_lines}
 use Rattle.change_lines.proofs.Written.{on_ok}
@@ -56,7 +57,7 @@ returns-clause-first g c =
     subst (λ (o : Option (List ℕ)). Consumes o (g.R.Read.remaining w.source.inner) magic) source
     (subst (λ (o : Option (List ℕ)). Consumes (g.R.Read.remaining c.new.result.inner) o magic) (sym (ap (λ (k : CountedState _). g.R.Read.remaining k.inner) c.new-changes.ensures.source)) file.ok) in
     first_lines why s.settings.now w.choice s.file.now x (g.R.Read.remaining w.source.inner) (reading_in w.walk) s.gtid _ left kept on small c.new-changes.ensures.choice gtid (λ y finds.
-    let of = written_of c.print_events-read.result why s.settings.now.form (wanted_by w.choice) s.file.now s.settings.now.filter.positions.stop (spot_at (kept_in w.walk) None y) s.gtid (g.O.Write.contents c.args.out.now) s.lines.bytes.items (g.O.Write.contents c.print_events-read.new.out) c.print_events-read.new.self.lines.bytes.items
+    let of = written_of c.print_events-read.result why s.settings.now.form (wanted_by w.choice) s.file.now s.settings.now.filter.positions (spot_at (kept_in w.walk) None y) s.gtid (g.O.Write.contents c.args.out.now) s.lines.bytes.items (g.O.Write.contents c.print_events-read.new.out) c.print_events-read.new.self.lines.bytes.items
     (on_ok c.print_events-read.result _ _ (λ f. f c.new-changes.ensures.pending y finds) c.print_events-read.ensures.all)
     (on_error c.print_events-read.result _ _ (λ why f. f c.new-changes.ensures.pending y finds) c.print_events-read.ensures.first) is in
     (of.0, of.1, all_appended why _ _ _ _ of.0 _ of.2 of.3 held (appends of.2 of.4))))
@@ -106,3 +107,10 @@ returns-clause-first_counts g c =
     (on_error c.print_events-read.result _ _ (λ why f. f same c.new-changes.ensures.pending y finds) c.print_events-read.ensures.first_counts) is) in
     (first.1.0, inr (first.0, first.1.1), first.1.2))
     c.finish.ensures.failed
+
+pub returns-clause-cause : goal.returns-clause-cause
+returns-clause-cause g c =
+    on_error c.finish.result _ _ (λ why is. elim is [ inl same ↦ of_error c.print_events-read.result why _ same c.print_events-read.ensures.cause | inr event ↦ of_event c.args.self.now.settings.now.filter.positions g.O.WriteOnce.writes g.O.WriteOnce.flushes why event ]) c.finish.ensures.cause
+
+pub returns-in_err-file-clause-cause : goal.returns-in_err-file-clause-cause
+returns-in_err-file-clause-cause g c = passed_on _ (failure.File c.in_err-file.field-0.0) _ c.from_residual.ensures.1 tt

@@ -3,8 +3,8 @@ use Rattle.binlog_file.specs.declared.lent_changes.LentEvent.{LentEvent}
 use Rattle.change_lines.specs.declared.error.Failure.TheVariants as failure
 use Rattle.change_lines.specs.declared.run.Lines.{Lines}
 use Rattle.change_lines.specs.Lines.{AreEventLines}
-use Rattle.change_lines.specs.Failures.{AreFirstOfEvent, OutputsUpTo}
-use Rattle.change_lines.specs.CountedFiles.{AreEventRows, AreFirstEventRows}
+use Rattle.change_lines.specs.Failures.{AreFirstOfEvent, OutputsUpTo, WritesFirstOfEvent}
+use Rattle.change_lines.specs.CountedFiles.{AreEventRows, AreFirstEventRows, CountsThese}
 use Rattle.change_lines.proofs.Errors.{passed_on}
 use Rattle.change_lines.proofs.Failures.{up_to_nothing}
 use Rattle.change_lines.proofs.Outputs.{outputs_held}
@@ -35,3 +35,17 @@ returns-in_ok-see-in-Other-clause-counts g c = λ same. ([], subst (λ (x : Lent
 pub returns-in_err-see-in-Other-clause-first_counts : goal.returns-in_err-see-in-Other-clause-first_counts
 returns-in_err-see-in-Other-clause-first_counts g c =
     passed_on _ failure.Memory _ c.from_residual.ensures.1 (λ same. ([], subst (λ (x : LentEvent). AreFirstEventRows failure.Memory x []) (sym c.in-Other.is) (refl, tt), counts_nothing c.args.counts.now))
+
+pub returns-in_err-rows-in-Rows-clause-first : goal.returns-in_err-rows-in-Rows-clause-first
+returns-in_err-rows-in-Rows-clause-first g c =
+    let s = c.args.self.now in
+    let why = c.in_err-rows-in-Rows.field-0.0 in
+    passed_on _ why _ c.from_residual-in_err-rows-in-Rows.ensures.1
+    (subst (λ (x : LentEvent). WritesFirstOfEvent why s.settings.now.form s.file.now s.gtid x (g.O.Write.contents c.args.out.now) s.lines.bytes.items (g.O.Write.contents c.print_rows.new.out) c.print_rows.new.self.lines.bytes.items) (sym c.in-Rows.is)
+    c.in_err-rows-in-Rows.ensures.first)
+
+pub returns-in_err-rows-in-Rows-clause-first_counts : goal.returns-in_err-rows-in-Rows-clause-first_counts
+returns-in_err-rows-in-Rows-clause-first_counts g c =
+    let why = c.in_err-rows-in-Rows.field-0.0 in
+    passed_on _ why _ c.from_residual-in_err-rows-in-Rows.ensures.1
+    (λ same. subst (λ (x : LentEvent). CountsThese (AreFirstEventRows why x) c.args.counts.now c.print_rows.new.counts) (sym c.in-Rows.is) (c.in_err-rows-in-Rows.ensures.first_counts same))

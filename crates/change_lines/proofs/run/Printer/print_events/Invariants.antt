@@ -1,7 +1,7 @@
-use Rattle.std.proofs.Common.{◌≡◌, ℕ, List, None}
+use Rattle.std.proofs.Common.{◌≡◌, ◌⊎◌, ℕ, List, None}
 use Rattle.binlog_file.specs.SourceChanges.{Finds, spot_at, items_left}
 use Rattle.binlog_file.specs.Workings.SourceWalks.{reading_in, kept_in}
-use Rattle.changed_rows.specs.Filters.{wanted_by}
+use Rattle.changed_rows.specs.Filters.{wanted_by, start_sought}
 use Rattle.change_lines.specs.Printers.{IsSame}
 use Rattle.change_lines.specs.declared.run.Form.TheVariants as form
 use Rattle.change_lines.proofs.Whole.{SoFar}
@@ -15,9 +15,11 @@ invariant-loop-bounds g l =
     × (l.bounds.stop ≡ l.fn.self.settings.now.filter.positions.stop)
     × (l.fn.changes.walk.pending ≡ None → (x : List ℕ) → Finds (reading_in l.fn.changes.walk) (g.S.Source.remaining l.fn.changes.source) x
     → SoFar l.fn.self.settings.now.form (wanted_by l.fn.changes.choice) l.fn.self.file.now (spot_at (kept_in l.fn.changes.walk) None x) l.fn.self.gtid (g.O.Write.contents l.fn.out) l.fn.self.lines.bytes.items
-    (g.S.Source.remaining l.changes.source) (reading_in l.changes.walk) l.changes.walk.pending l.self.gtid (g.O.Write.contents l.out) l.self.lines.bytes.items)
+    (g.S.Source.remaining l.changes.source) (reading_in l.changes.walk) l.changes.walk.pending l.self.gtid (g.O.Write.contents l.out) l.self.lines.bytes.items
+    (start_sought l.fn.self.settings.now.filter.positions) l.bounds.start)
     × (l.fn.self.settings.now.form ≡ form.Count → l.fn.changes.walk.pending ≡ None → (x : List ℕ) → Finds (reading_in l.fn.changes.walk) (g.S.Source.remaining l.fn.changes.source) x
     → CountedSoFar (wanted_by l.fn.changes.choice) (spot_at (kept_in l.fn.changes.walk) None x) l.fn.counts (g.S.Source.remaining l.changes.source) (reading_in l.changes.walk) l.changes.walk.pending l.counts)
+    × ((l.bounds.start ≡ start_sought l.fn.self.settings.now.filter.positions) ⊎ (l.bounds.start ≡ None))
 
 abbrev pub decreases-loop-bounds : goal.decreases-loop-bounds
 decreases-loop-bounds g l = items_left (reading_in l.changes.walk) l.changes.walk.pending

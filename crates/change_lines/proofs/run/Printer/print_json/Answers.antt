@@ -15,7 +15,7 @@ use Rattle.change_lines.proofs.run.Printer.print_json.Goals as goal
 
 pub returns-clause-lines : goal.returns-clause-lines
 returns-clause-lines g c =
-    let e = c.args.change in
+    let e = c.args.change.now in
     let t = e.table in
     let file = c.args.self.now.file.now in
     let gtid = c.args.self.now.gtid in
@@ -34,7 +34,7 @@ returns-clause-lines g c =
 
 pub returns-clause-first : goal.returns-clause-first
 returns-clause-first g c =
-    let e = c.args.change in
+    let e = c.args.change.now in
     let t = e.table in
     let file = c.args.self.now.file.now in
     let gtid = c.args.self.now.gtid in
@@ -52,4 +52,7 @@ returns-clause-first g c =
     (c.write_json_rows.ensures.first is_origin columns)
 
 pub returns-in_err-table-clause-first : goal.returns-in_err-table-clause-first
-returns-in_err-table-clause-first g c = passed_on _ failure.Memory _ c.from_residual.ensures.1 (no_rows failure.Memory _ c.args.change _ _ tt)
+returns-in_err-table-clause-first g c = passed_on _ failure.Memory _ c.from_residual.ensures.1 (no_rows failure.Memory _ c.args.change.now _ _ tt)
+
+pub returns-in_err-table-clause-cause : goal.returns-in_err-table-clause-cause
+returns-in_err-table-clause-cause g c = passed_on _ failure.Memory _ c.from_residual.ensures.1 tt

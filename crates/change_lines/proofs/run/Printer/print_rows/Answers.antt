@@ -4,17 +4,18 @@ use Rattle.change_lines.proofs.Errors.{on_error, any_error}
 use Rattle.changed_rows.proofs.Counted.{in_any_case}
 use Rattle.change_lines.proofs.First.{first_counted}
 use Rattle.change_lines.proofs.Written.{on_ok, rows_counted}
+use Rattle.change_lines.proofs.Causes.{of_reading}
 use Rattle.change_lines.proofs.run.Printer.print_rows.Goals as goal
 
 pub returns-in-Count-clause-lines : goal.returns-in-Count-clause-lines
 returns-in-Count-clause-lines g c =
     let s = c.args.self.now in
-    on_ok c.count.result _ _ (λ k. rows_counted s.settings.now.form s.file.now s.gtid c.args.change (g.O.Write.contents c.args.out.now) s.lines.bytes.items c.in-Count.is k.0 k.1) c.count.ensures.covers
+    on_ok c.count.result _ _ (λ k. rows_counted s.settings.now.form s.file.now s.gtid c.args.change.now (g.O.Write.contents c.args.out.now) s.lines.bytes.items c.in-Count.is k.0 k.1) c.count.ensures.covers
 
 pub returns-in-Count-clause-first : goal.returns-in-Count-clause-first
 returns-in-Count-clause-first g c =
     let s = c.args.self.now in
-    on_error c.count.result _ _ (first_counted s.settings.now.form s.file.now s.gtid c.args.change (g.O.Write.contents c.args.out.now) s.lines.bytes.items c.in-Count.is) c.count.ensures.first
+    on_error c.count.result _ _ (first_counted s.settings.now.form s.file.now s.gtid c.args.change.now (g.O.Write.contents c.args.out.now) s.lines.bytes.items c.in-Count.is) c.count.ensures.first
 
 pub returns-in-Count-clause-counts : goal.returns-in-Count-clause-counts
 returns-in-Count-clause-counts g c = on_ok c.count.result _ _ (λ counts same. counts) c.count.ensures.counts
@@ -33,3 +34,6 @@ returns-in-Text-clause-counts g c = in_any_case c.print_text.result _ (λ same. 
 
 pub returns-in-Text-clause-first_counts : goal.returns-in-Text-clause-first_counts
 returns-in-Text-clause-first_counts g c = any_error c.print_text.result _ (λ why same. absurd (let bad : form.Text ≡ form.Count = sym c.in-Text.is ∙ same in cc))
+
+pub returns-in-Count-clause-cause : goal.returns-in-Count-clause-cause
+returns-in-Count-clause-cause g c = on_error c.count.result _ _ (of_reading g.O.WriteOnce.writes g.O.WriteOnce.flushes) c.count.ensures.cause

@@ -11,7 +11,7 @@ use Rattle.change_lines.proofs.run.Printer.print_text.Goals as goal
 
 pub returns-clause-lines : goal.returns-clause-lines
 returns-clause-lines g c =
-    let e = c.args.change in
+    let e = c.args.change.now in
     let file = c.args.self.now.file.now in
     let gtid = c.args.self.now.gtid in
     let at : c.position.result ≡ e.origin.position = c.position.ensures in
@@ -23,7 +23,7 @@ returns-clause-lines g c =
 
 pub returns-clause-first : goal.returns-clause-first
 returns-clause-first g c =
-    let e = c.args.change in
+    let e = c.args.change.now in
     let file = c.args.self.now.file.now in
     let gtid = c.args.self.now.gtid in
     let at : c.position.result ≡ e.origin.position = c.position.ensures in
@@ -34,4 +34,7 @@ returns-clause-first g c =
     c.write_text_rows.ensures.first
 
 pub returns-in_err-place-clause-first : goal.returns-in_err-place-clause-first
-returns-in_err-place-clause-first g c = passed_on _ failure.Memory _ c.from_residual.ensures.1 (no_rows failure.Memory _ c.args.change _ _ tt)
+returns-in_err-place-clause-first g c = passed_on _ failure.Memory _ c.from_residual.ensures.1 (no_rows failure.Memory _ c.args.change.now _ _ tt)
+
+pub returns-in_err-place-clause-cause : goal.returns-in_err-place-clause-cause
+returns-in_err-place-clause-cause g c = passed_on _ failure.Memory _ c.from_residual.ensures.1 tt

@@ -232,6 +232,34 @@ fn no_description(rt: HostRuntime) -> Result<(), Fail> {
     Ok(())
 }
 
+/// How many pairs of rows are left of the changes of a source.
+fn pairs_left<S: Source + Drop>(
+    changes: &mut SourceChanges<S, AllRows>,
+) -> Result<usize, FileError> {
+    let mut count: usize = 0;
+    for change in changes.by_ref() {
+        count = count.saturating_add(change?.pairs().len());
+    }
+    Ok(count)
+}
+
+/// How many pairs of rows a stream has.
+fn pairs_of_stream(alloc: Global, stream: &[u8]) -> Result<usize, FileError> {
+    let source = BinlogFile::from_stream(alloc, Counted::new(stream));
+    pairs_left(&mut SourceChanges::new(alloc, source, AllRows))
+}
+
+#[test]
+fn the_name_of_a_file_before_its_description(rt: HostRuntime) -> Result<(), Fail> {
+    let alloc = rt.alloc();
+    let mut file = b"\xfebin".to_vec(alloc)?;
+    push(&mut file, 0x04, 0x20, b"\x04\0\0\0\0\0\0\0bin.000001", true)?;
+    file.extend_from_slice(with_rows(alloc, true, &[1])?.get(4..).unwrap_or(&[]))?;
+    assert!(rt; gives(alloc, &file, &[2])?);
+    assert!(rt; pairs_of_stream(alloc, file.get(4..).unwrap_or(&[]))? == 2);
+    Ok(())
+}
+
 #[test]
 fn tables_of_a_statement(rt: HostRuntime) -> Result<(), Fail> {
     let alloc = rt.alloc();
@@ -368,11 +396,7 @@ fn pairs_in_memory(alloc: Global, file: &[u8], most: usize) -> Result<usize, Fil
 /// How many pairs of rows the same file has over a reader.
 fn pairs_of_source(alloc: Global, file: &[u8], most: usize) -> Result<usize, FileError> {
     let source = BinlogFile::new(alloc, Counted::new(file))?;
-    let mut count: usize = 0;
-    for change in SourceChanges::with_kept_bytes(alloc, source, AllRows, most) {
-        count = count.saturating_add(change?.pairs().len());
-    }
-    Ok(count)
+    pairs_left(&mut SourceChanges::with_kept_bytes(alloc, source, AllRows, most))
 }
 
 #[test]

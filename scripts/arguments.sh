@@ -95,6 +95,7 @@ lines_of 0 7 'db_F.pk_auto' --text --table db_F.pk_auto f
 lines_of 0 34 'db_F.pk1' --text --database db_F f
 lines_of 0 34 'db_F.pk_auto' --text --database db_F --table db_F.pk1 f
 lines_of 0 7 'db_F.pk_auto' --text --database d --table db_F.pk_auto f
+case_of 2 'a name of --table is that of a database, a point' --table pk_auto --table db_F.pk_auto f
 lines_of 0 0 '' --database db_f f
 lines_of 0 3 '"pos":6224' --start-position 5982 --op d,c --op u --table db_F.pk_auto f
 case_of 1 'no event begins at 5983' --start-position 5983 f

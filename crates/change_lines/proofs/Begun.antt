@@ -1,6 +1,8 @@
 -- Whether an event began at the start position.
-use Rattle.std.proofs.Common.{◌≡◌, ◌⊎◌, ℕ, nat_eq, Bool, true, false, List, [], ◌∷◌, ◌++◌, length, Option, Some, None, if◌then◌else◌, inl, inr, refl, sym, ap, subst, ◌∙◌}
+use Rattle.std.proofs.Common.{◌≡◌, ◌≢◌, ◌⊎◌, ◌&&◌, ◌<◌, ◌≤◌, ℕ, nat_eq, Bool, true, false, List, [], ◌∷◌, ◌++◌, length, Option, Some, None, if◌then◌else◌, inl, inr, refl, sym, ap, subst, ◌∙◌, arith}
+use Rattle.std.proofs.lemmas.Bool.{ltb-true, ltb-false}
 use Rattle.std.proofs.lemmas.Bool.Decides.{eqb_tells}
+use Rattle.std.specs.Prelude.{⊤}
 use Rattle.std.specs.Bool.{MatchBool}
 use Rattle.binlog_base.specs.Format.{FormatOf, map_value, map_fault, all_of}
 use Rattle.binlog_table.specs.TableMap.{table_map_of}
@@ -11,8 +13,14 @@ use Rattle.binlog_events.specs.Description.{Description, description, post_heade
 use Rattle.binlog_file.specs.Events.{Event, Parts, event, other_event, is_description, is_rotate, is_supported, with_description, with_table}
 use Rattle.binlog_file.specs.Changes.{Spot}
 use Rattle.binlog_file.specs.LentEvents.{GoesPast}
-use Rattle.changed_rows.specs.Filters.{start_after}
+use Rattle.changed_rows.specs.declared.filter.Positions.{Positions}
+use Rattle.changed_rows.specs.Names.{is_before}
+use Rattle.changed_rows.specs.Filters.{is_among, wanted_position, start_sought, start_after}
+use Rattle.change_lines.specs.declared.error.Failure.{Failure}
+use Rattle.change_lines.specs.declared.error.Failure.TheVariants as failure
 use Rattle.change_lines.specs.Lines.{BeginsAt, IsBegun}
+use Rattle.change_lines.specs.Failures.{IsOutput, IsOfEvent, IsMissing}
+use Rattle.change_lines.proofs.Causes.{Writes, Flushes}
 
 -- ---- where an event begins
 
@@ -91,3 +99,119 @@ sought_after start (Some n) new at (inl same) is = elim (eqb_tells n at) [
   | inr other ↦ inl (is ∙ (ap (λ (b : Bool). if b then None else Some n) other.0 ∙ same))
 ]
 sought_after start (Some n) new at (inr none) is = absurd (let bad = none in cc)
+
+-- ---- where no event begins
+
+-- no event begins at the position, where there is one
+abbrev pub IsUnseen : Option ℕ → List Event → Type 0
+IsUnseen None es = ⊤
+IsUnseen (Some n) es = BeginsAt n es → ⊥
+
+pub nothing_unseen : (o : Option ℕ) → IsUnseen o []
+nothing_unseen None = tt
+nothing_unseen (Some n) = λ none. none
+
+-- one event more begins elsewhere
+unseen_last : (n : ℕ) (es : List Event) (e : Event) → (BeginsAt n es → ⊥) → e.position ≢ n → BeginsAt n (es ++ e ∷ []) → ⊥
+unseen_last n [] e not other (inl is) = other is
+unseen_last n [] e not other (inr none) = none
+unseen_last n (d ∷ es) e not other (inl is) = not (inl is)
+unseen_last n (d ∷ es) e not other (inr later) = unseen_last n es e (λ b. not (inr b)) other later
+
+-- an event begins at the start position, which is looked for no more, or elsewhere
+unseen_one : (n here : ℕ) (es : List Event) (e : Event) → (BeginsAt n es → ⊥) → e.position ≡ here → IsUnseen (start_after (Some n) here) (es ++ e ∷ [])
+unseen_one n here es e not is = elim (eqb_tells n here) [
+  | inl same ↦ subst (λ (b : Bool). IsUnseen (if b then None else Some n) (es ++ e ∷ [])) (sym same.0) tt
+  | inr other ↦ subst (λ (b : Bool). IsUnseen (if b then None else Some n) (es ++ e ∷ [])) (sym other.0) (unseen_last n es e not (λ at. other.1 (sym at ∙ is)))
+]
+
+-- one event more was read; others are passed over only where no position is looked for
+pub unseen_next : (sought : Option ℕ) (here there : ℕ) (es ds : List Event) (e : Event) (is_each : Bool)
+    → IsUnseen sought es → (is_each ≡ false → sought ≡ None) → (is_each ≡ true → there ≡ here) → (is_each ≡ true → ds ≡ es) → e.position ≡ there
+    → IsUnseen (start_after sought here) (ds ++ e ∷ [])
+unseen_next None here there es ds e is_each not free each same is = tt
+unseen_next (Some n) here there es ds e true not free each same is =
+    subst (λ (l : List Event). IsUnseen (start_after (Some n) here) (l ++ e ∷ [])) (sym (same refl)) (unseen_one n here es e not (is ∙ each refl))
+unseen_next (Some n) here there es ds e false not free each same is = absurd (let bad = free refl in cc)
+
+-- it began before the stop position
+pub early_next : (stop : Option ℕ) (here there : ℕ) (es ds : List Event) (e : Event) (is_each : Bool)
+    → IsUnseen stop es → (is_each ≡ false → stop ≡ None) → (is_each ≡ true → there ≡ here) → (is_each ≡ true → ds ≡ es) → e.position ≡ there → is_before stop here ≡ true
+    → IsUnseen stop (ds ++ e ∷ [])
+early_next None here there es ds e is_each not free each same is before = tt
+early_next (Some n) here there es ds e true not free each same is before =
+    let early : here < n = ltb-true here n before in
+    subst (λ (l : List Event). IsUnseen (Some n) (l ++ e ∷ [])) (sym (same refl)) (unseen_last n es e not (λ at. absurd (omega (arith, early, at, is, each refl))))
+early_next (Some n) here there es ds e false not free each same is before = absurd (let bad = free refl in cc)
+
+before_past : (stop : Option ℕ) (n at : ℕ) → is_before stop n ≡ true → is_before stop at ≡ false → n < at
+before_past None n at before past = absurd (let bad = past in cc)
+before_past (Some s) n at before past = omega (arith, ltb-true n s before, ltb-false at s past)
+
+second_true : (a b : Bool) → (a && b) ≡ true → b ≡ true
+second_true true b h = h
+second_true false b h = absurd cc
+
+wanted_before : (p : Positions) (start : Option ℕ) (n : ℕ) → wanted_position p start ≡ Some n → is_before p.stop n ≡ true
+wanted_before p None n is = absurd cc
+wanted_before p (Some at) n is = by (is_among p at) refl
+  where
+    by : (b : Bool) → is_among p at ≡ b → is_before p.stop n ≡ true
+    by true among =
+        let here : Some at ≡ Some n = subst (λ (b : Bool). (if b then Some at else None) ≡ Some n) among is in
+        let same : at ≡ n = cc in
+        subst (λ (m : ℕ). is_before p.stop m ≡ true) same (second_true _ (is_before p.stop at) among)
+    by false among = absurd (let bad : None ≡ Some n = subst (λ (b : Bool). (if b then Some at else None) ≡ Some n) among is in cc)
+
+-- the position at which no event begins, where a reading ends or comes past it
+abbrev pub Missed : Failure → Option ℕ → Option ℕ → ℕ → Type 0
+Missed why sought stop here = (n : ℕ) × (why ≡ failure.NoEvent n) × ((sought ≡ Some n) ⊎ ((stop ≡ Some n) × (n ≢ here)))
+
+unseen_at : (o : Option ℕ) (n : ℕ) (es : List Event) → IsUnseen o es → o ≡ Some n → BeginsAt n es → ⊥
+unseen_at o n es not is = subst (λ (p : Option ℕ). IsUnseen p es) is not
+
+missing_at : (why : Failure) (n : ℕ) (es : List Event) (at : Spot) → why ≡ failure.NoEvent n → (BeginsAt n es → ⊥) → (n < at.place.at) ⊎ (at.place.left ≡ []) → IsMissing why es at
+missing_at why n es at is not past = subst (λ (w : Failure). IsMissing w es at) (sym is) (not, past)
+
+-- an event begins after the start position
+pub missing_passed : (why : Failure) (sought : Option ℕ) (es : List Event) (at : Spot) → IsUnseen sought es → (n : ℕ) × (sought ≡ Some n) × (n < at.place.at) × (why ≡ failure.NoEvent n) → IsMissing why es at
+missing_passed why sought es at not h = missing_at why h.0 es at h.3 (unseen_at sought h.0 es not h.1) (inl h.2)
+
+-- the reading stops
+pub missing_stopped : (why : Failure) (p : Positions) (sought : Option ℕ) (es : List Event) (at : Spot) → IsUnseen sought es → IsUnseen p.stop es → (sought ≡ start_sought p) ⊎ (sought ≡ None)
+    → is_before p.stop at.place.at ≡ false → Missed why sought p.stop at.place.at → IsMissing why es at
+missing_stopped why p sought es at not early known past h = elim h.2 [
+  | inl is ↦ missing_at why h.0 es at h.1 (unseen_at sought h.0 es not is) (inl (elim known [
+    | inl same ↦ before_past p.stop h.0 at.place.at (wanted_before p p.start h.0 (sym same ∙ is)) past
+    | inr none ↦ absurd (let bad = sym none ∙ is in cc)
+  ]))
+  | inr is ↦ missing_at why h.0 es at h.1 (unseen_at p.stop h.0 es early is.0) (inl (
+      let late : h.0 ≤ at.place.at = ltb-false at.place.at h.0 (subst (λ (o : Option ℕ). is_before o at.place.at ≡ false) is.0 past) in
+      omega (arith, late, is.1)))
+]
+
+-- no event is left
+pub missing_ended : (why : Failure) (stop sought : Option ℕ) (here : ℕ) (es ds : List Event) (at : Spot) (is_each : Bool) → IsUnseen sought es → IsUnseen stop es → (is_each ≡ false → sought ≡ None) → (is_each ≡ false → stop ≡ None)
+    → (is_each ≡ true → ds ≡ es) → at.place.left ≡ [] → Missed why sought stop here → IsMissing why ds at
+missing_ended why stop sought here es ds at true not early free whole same left h =
+    subst (λ (l : List Event). IsMissing why l at) (sym (same refl)) (elim h.2 [
+      | inl is ↦ missing_at why h.0 es at h.1 (unseen_at sought h.0 es not is) (inr left)
+      | inr is ↦ missing_at why h.0 es at h.1 (unseen_at stop h.0 es early is.0) (inr left)
+    ])
+missing_ended why stop sought here es ds at false not early free whole same left h = elim h.2 [
+  | inl is ↦ absurd (let bad = sym (free refl) ∙ is in cc)
+  | inr is ↦ absurd (let bad = sym (whole refl) ∙ is.0 in cc)
+]
+
+-- other failures miss no position
+pub missing_of_output : (why : Failure) (es : List Event) (at : Spot) → IsOutput why → IsMissing why es at
+missing_of_output (failure.Output e) es at is = tt
+missing_of_output (failure.File e) es at is = absurd is
+missing_of_output (failure.NoEvent n) es at is = absurd is
+missing_of_output failure.Memory es at is = absurd is
+
+pub missing_of_event : {O : Type 0} (writes : Writes O) (flushes : Flushes O) (why : Failure) → IsOfEvent writes flushes why → (es : List Event) (at : Spot) → IsMissing why es at
+missing_of_event writes flushes (failure.File e) is es at = tt
+missing_of_event writes flushes failure.Memory is es at = tt
+missing_of_event writes flushes (failure.Output e) is es at = tt
+missing_of_event writes flushes (failure.NoEvent n) is es at = absurd is

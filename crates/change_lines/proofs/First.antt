@@ -11,7 +11,7 @@ use Rattle.binlog_events.specs.declared.error.FileError.{FileError}
 use Rattle.binlog_events.specs.declared.origin.Origin.{Origin}
 use Rattle.binlog_file.specs.declared.lent_changes.LentEvent.{LentEvent}
 use Rattle.binlog_file.specs.declared.lent_changes.LentEvent.TheVariants as lent
-use Rattle.binlog_file.specs.Events.{magic}
+use Rattle.binlog_file.specs.Events.{Event, magic}
 use Rattle.binlog_file.specs.Changes.{Wanted, Spot}
 use Rattle.binlog_file.specs.Stream.{Kept, Reading, first_kept}
 use Rattle.binlog_file.specs.LentChanges.{LentChange, PairGives}
@@ -30,11 +30,12 @@ use Rattle.changed_rows.specs.Names.{up_to_most}
 use Rattle.change_lines.specs.Rows.{BeginsWith, AreLinesBy}
 use Rattle.change_lines.specs.Readings.{Passes, SourceNext}
 use Rattle.change_lines.specs.Lines.{IsRowLine, Writes}
-use Rattle.change_lines.specs.Failures.{IsOutput, IsNotOfFile, IsErrorOfRow, EndsAtRow, IsLineFailure, AreFirstOfEvent, AreFirstOfNext, AreFirst, IsLostBy, WritesFirstRows, WritesFirstOfEvent, WritesFirst}
+use Rattle.change_lines.specs.Failures.{IsOutput, IsNotOfFile, IsErrorOfRow, EndsAtRow, IsLineFailure, AreFirstOfEvent, AreFirstOfNext, IsMissing, AreFirst, IsLostBy, WritesFirstRows, WritesFirstOfEvent, WritesFirst}
 use Rattle.change_lines.specs.Runs.{AreFirstLines}
 use Rattle.change_lines.proofs.Pairs.{nothing_read}
 use Rattle.change_lines.proofs.Rows.{lines_weaker, no_lines}
-use Rattle.change_lines.proofs.Passed.{passed_more}
+use Rattle.change_lines.proofs.Passed.{passed_more, passed_same}
+use Rattle.change_lines.proofs.Begun.{Missed, missing_ended, missing_of_output}
 use Rattle.change_lines.proofs.Failures.{up_to_all, up_to_nothing, up_to_here, up_to_more, OutputsBut, output_not_file, not_at_row, not_at_event}
 use Rattle.change_lines.proofs.Whole.{SoFar}
 
@@ -123,42 +124,59 @@ first_counted f file gtid c old held same why h =
 -- ---- the events of a file
 
 -- the lines of some events were written, and then nothing more
-pub events_so_far : (f : Form) (wanted : Wanted) (file : List ℕ) (from : Spot) (gtid : Option (List ℕ)) (out : Option (List ℕ)) (held : List ℕ) (source : Option (List ℕ)) (r : Reading) (p : Option FileError) (here : Option (List ℕ)) (new : Option (List ℕ)) (left : List ℕ) (start sought : Option ℕ)
-    → SoFar f wanted file from gtid out held source r p here new left start sought → (why : Failure) → IsNotOfFile why → WritesFirst why f wanted file from gtid out held new left
-events_so_far f wanted file from gtid out held source r p here new left start sought h why not =
+pub events_so_far : (f : Form) (wanted : Wanted) (file : List ℕ) (from : Spot) (gtid : Option (List ℕ)) (out : Option (List ℕ)) (held : List ℕ) (source : Option (List ℕ)) (r : Reading) (p : Option FileError) (here : Option (List ℕ)) (new : Option (List ℕ)) (left : List ℕ) (positions : Positions) (sought : Option ℕ)
+    (h : SoFar f wanted file from gtid out held source r p here new left positions sought) (why : Failure) → IsNotOfFile why → IsMissing why h.events (spot_at r.kept None h.bytes) → WritesFirst why f wanted file from gtid out held new left
+events_so_far f wanted file from gtid out held source r p here new left positions sought h why not missing =
     let at = spot_at r.kept None h.bytes in (
       h.text,
-      record { events = h.events; front = h.text; at = at; here = here; rows = []; lines = h.lines; next = inl (refl, not_at_event why wanted at not); whole = sym (append-nil h.text) },
+      record { events = h.events; front = h.text; at = at; here = here; rows = []; lines = h.lines; next = inl (refl, not_at_event why wanted at not); missing = missing; whole = sym (append-nil h.text) },
+      up_to_all why out new held h.text left h.outputs,
+    )
+
+-- the lines of all events were written, but no event begins at a position
+pub end_so_far : (f : Form) (wanted : Wanted) (file : List ℕ) (from : Spot) (gtid : Option (List ℕ)) (out : Option (List ℕ)) (held : List ℕ) (old : Option (List ℕ)) (r : Reading) (p : Option FileError) (here : Option (List ℕ)) (new : Option (List ℕ)) (left : List ℕ) (positions : Positions) (sought : Option ℕ)
+    → SoFar f wanted file from gtid out held old r p here new left positions sought
+    → (is_each : Bool) (source : Option (List ℕ)) (s : Reading) (q : Option FileError) → SourceNext wanted is_each old r p None source s q → (is_each ≡ false → sought ≡ None) → (is_each ≡ false → positions.stop ≡ None)
+    → (why : Failure) → IsNotOfFile why → Missed why sought positions.stop r.kept.at → WritesFirst why f wanted file from gtid out held new left
+end_so_far f wanted file from gtid out held old r p here new left positions sought h is_each source s q gives free whole why not missed =
+    let m = gives h.bytes h.finds in
+    let at = m.2 in
+    let passes = subst (λ (o : Option FileError). Passes is_each (spot_at r.kept o h.bytes) at) h.goes_on m.3 in
+    let passed = passed_more f wanted file from gtid h.events h.text (spot_at r.kept None h.bytes) here is_each at h.lines passes in
+    let same = passed_same f wanted file from gtid h.events h.text (spot_at r.kept None h.bytes) here is_each at h.lines passes in
+    let missing = missing_ended why positions.stop sought r.kept.at h.events passed.0 at is_each h.unseen h.early free whole same m.4.1 missed in (
+      h.text,
+      record { events = passed.0; front = h.text; at = at; here = here; rows = []; lines = passed.1; next = inl (refl, not_at_event why wanted at not); missing = missing; whole = sym (append-nil h.text) },
       up_to_all why out new held h.text left h.outputs,
     )
 
 -- the lines of some events were written, and then an event can't be read, perhaps after others that were
 -- passed over
-pub error_so_far : (f : Form) (wanted : Wanted) (file : List ℕ) (from : Spot) (gtid : Option (List ℕ)) (out : Option (List ℕ)) (held : List ℕ) (old : Option (List ℕ)) (r : Reading) (p : Option FileError) (here : Option (List ℕ)) (new : Option (List ℕ)) (left : List ℕ) (start sought : Option ℕ)
-    → SoFar f wanted file from gtid out held old r p here new left start sought
+pub error_so_far : (f : Form) (wanted : Wanted) (file : List ℕ) (from : Spot) (gtid : Option (List ℕ)) (out : Option (List ℕ)) (held : List ℕ) (old : Option (List ℕ)) (r : Reading) (p : Option FileError) (here : Option (List ℕ)) (new : Option (List ℕ)) (left : List ℕ) (positions : Positions) (sought : Option ℕ)
+    → SoFar f wanted file from gtid out held old r p here new left positions sought
     → (is_each : Bool) (e : FileError) (source : Option (List ℕ)) (s : Reading) (q : Option FileError) → SourceNext wanted is_each old r p (Some (Err e)) source s q → WritesFirst (failure.File e) f wanted file from gtid out held new left
-error_so_far f wanted file from gtid out held old r p here new left start sought h is_each e source s q gives =
+error_so_far f wanted file from gtid out held old r p here new left positions sought h is_each e source s q gives =
     let m = gives h.bytes h.finds in
     let at = m.2 in
     let passes = subst (λ (o : Option FileError). Passes is_each (spot_at r.kept o h.bytes) at) h.goes_on m.3 in
     let passed = passed_more f wanted file from gtid h.events h.text (spot_at r.kept None h.bytes) here is_each at h.lines passes in (
       h.text,
-      record { events = passed.0; front = h.text; at = at; here = here; rows = []; lines = passed.1; next = inl (refl, m.4.1); whole = sym (append-nil h.text) },
+      record { events = passed.0; front = h.text; at = at; here = here; rows = []; lines = passed.1; next = inl (refl, m.4.1); missing = tt; whole = sym (append-nil h.text) },
       up_to_all (failure.File e) out new held h.text left h.outputs,
     )
 
 -- the lines of some events were written, and then those of some first rows of the next one
-pub event_so_far : (f : Form) (wanted : Wanted) (file : List ℕ) (from : Spot) (gtid : Option (List ℕ)) (out : Option (List ℕ)) (held : List ℕ) (old : Option (List ℕ)) (r : Reading) (p : Option FileError) (here : Option (List ℕ)) (mid : Option (List ℕ)) (kept : List ℕ) (start sought : Option ℕ)
-    → SoFar f wanted file from gtid out held old r p here mid kept start sought
+pub event_so_far : (f : Form) (wanted : Wanted) (file : List ℕ) (from : Spot) (gtid : Option (List ℕ)) (out : Option (List ℕ)) (held : List ℕ) (old : Option (List ℕ)) (r : Reading) (p : Option FileError) (here : Option (List ℕ)) (mid : Option (List ℕ)) (kept : List ℕ) (positions : Positions) (sought : Option ℕ)
+    → SoFar f wanted file from gtid out held old r p here mid kept positions sought
     → (is_each : Bool) (x : LentEvent) (source : Option (List ℕ)) (s : Reading) (q : Option FileError) (new : Option (List ℕ)) (left : List ℕ)
-    → SourceNext wanted is_each old r p (Some (Ok x)) source s q → (why : Failure) → WritesFirstOfEvent why f file here x mid kept new left → WritesFirst why f wanted file from gtid out held new left
-event_so_far f wanted file from gtid out held old r p here mid kept start sought h is_each x source s q new left gives why writes =
+    → SourceNext wanted is_each old r p (Some (Ok x)) source s q → (why : Failure) → WritesFirstOfEvent why f file here x mid kept new left → ((es : List Event) (at : Spot) → IsMissing why es at) → WritesFirst why f wanted file from gtid out held new left
+event_so_far f wanted file from gtid out held old r p here mid kept positions sought h is_each x source s q new left gives why writes missing =
     let m = gives h.bytes h.finds in
     let at = m.2 in
     let passes = subst (λ (o : Option FileError). Passes is_each (spot_at r.kept o h.bytes) at) h.goes_on m.3 in
     let passed = passed_more f wanted file from gtid h.events h.text (spot_at r.kept None h.bytes) here is_each at h.lines passes in (
       h.text ++ writes.0,
-      record { events = passed.0; front = h.text; at = at; here = here; rows = writes.0; lines = passed.1; next = inr (m.4.0, spot_at s.kept q m.0, m.4.1, x, m.4.2, writes.1); whole = refl },
+      record { events = passed.0; front = h.text; at = at; here = here; rows = writes.0; lines = passed.1; next = inr (m.4.0, spot_at s.kept q m.0, m.4.1, x, m.4.2, writes.1); missing = missing passed.0 at; whole = refl },
       up_to_more why out mid new held kept left h.text writes.0 h.outputs writes.2,
     )
 
@@ -181,6 +199,7 @@ first_but_output why g f wanted file from gtid text is h = record {
   rows = h.rows;
   lines = h.lines;
   next = next_but_output why g f wanted file h.at h.here h.rows is h.next;
+  missing = missing_of_output g h.events h.at is;
   whole = h.whole;
 }
 
@@ -193,7 +212,7 @@ pub written_of : (r : Result (Unit {0}) Failure) (g : Failure) (f : Form) (wante
     → (text : List ℕ) × AreFirst g f wanted file from gtid text × (lost : List ℕ) × OutputsBut old held text new left lost × IsLostBy r lost
 written_of (Ok u) g f wanted file positions from gtid old held new left all first (inl is) = (
   all.text,
-  record { events = all.events; front = all.text; at = all.end; here = all.after; rows = []; lines = all.lines; next = inl (refl, not_at_event g wanted all.end (output_not_file g is)); whole = sym (append-nil all.text) },
+  record { events = all.events; front = all.text; at = all.end; here = all.after; rows = []; lines = all.lines; next = inl (refl, not_at_event g wanted all.end (output_not_file g is)); missing = missing_of_output g all.events all.end is; whole = sym (append-nil all.text) },
   [],
   (all.outputs.0, all.outputs.1, all.outputs.2 ∙ ap (λ (t : List ℕ). all.outputs.0 ++ t) (sym (append-nil left))),
   refl,

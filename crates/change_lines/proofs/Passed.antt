@@ -85,3 +85,10 @@ pub passed_more : (f : Form) (wanted : Wanted) (file : List ℕ) (from : Spot) (
     → AreLines f wanted file from gtid es text mid here → Passes is_each mid new → (ds : List Event) × AreLines f wanted file from gtid ds text new here × Extends es ds
 passed_more f wanted file from gtid es text mid here true new lines same = (es, subst (λ (s : Spot). AreLines f wanted file from gtid es text s here) (sym same) lines, ([], sym (append-nil es)))
 passed_more f wanted file from gtid es text mid here false new lines passes = over_more f wanted file from gtid es text mid here passes.0 new lines passes.1
+
+-- none is added where each is looked at
+pub passed_same : (f : Form) (wanted : Wanted) (file : List ℕ) (from : Spot) (gtid : Option (List ℕ)) (es : List Event) (text : List ℕ) (mid : Spot) (here : Option (List ℕ)) (is_each : Bool) (new : Spot)
+    (lines : AreLines f wanted file from gtid es text mid here) (passes : Passes is_each mid new) → is_each ≡ true → (passed_more f wanted file from gtid es text mid here is_each new lines passes).0 ≡ es
+unfolding passed_more
+passed_same f wanted file from gtid es text mid here true new lines same each = refl
+passed_same f wanted file from gtid es text mid here false new lines passes each = absurd cc

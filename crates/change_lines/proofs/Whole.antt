@@ -20,13 +20,13 @@ use Rattle.change_lines.specs.Readings.{Passes, SourceNext}
 use Rattle.change_lines.specs.Lines.{gtid_past, AreLines, WritesEvent, IsEnd, Writes}
 use Rattle.change_lines.specs.Runs.{AreAllLines}
 use Rattle.change_lines.proofs.Events.{event_more}
-use Rattle.change_lines.proofs.Passed.{passed_more}
-use Rattle.change_lines.proofs.Begun.{IsSought, past_position, sought_next, begun_at_end}
+use Rattle.change_lines.proofs.Passed.{passed_more, passed_same}
+use Rattle.change_lines.proofs.Begun.{IsSought, IsUnseen, past_position, sought_next, unseen_next, early_next, begun_at_end}
 use Rattle.change_lines.proofs.Outputs.{outputs_more}
 
 -- What was written so far: the lines of the events from a spot on up to the place of a reading, which finds
--- these bytes. An event is looked for at the start position, or began there.
-pub record SoFar (f : Form) (wanted : Wanted) (file : List ℕ) (from : Spot) (gtid : Option (List ℕ)) (out : Option (List ℕ)) (held : List ℕ) (source : Option (List ℕ)) (r : Reading) (pending : Option FileError) (here : Option (List ℕ)) (new : Option (List ℕ)) (left : List ℕ) (start sought : Option ℕ) : Type 0 where
+-- these bytes. An event is looked for at the start position, or began there. None began at the stop position.
+pub record SoFar (f : Form) (wanted : Wanted) (file : List ℕ) (from : Spot) (gtid : Option (List ℕ)) (out : Option (List ℕ)) (held : List ℕ) (source : Option (List ℕ)) (r : Reading) (pending : Option FileError) (here : Option (List ℕ)) (new : Option (List ℕ)) (left : List ℕ) (positions : Positions) (sought : Option ℕ) : Type 0 where
   pub goes_on : pending ≡ None
   pub bytes : List ℕ
   pub finds : Finds r source bytes
@@ -34,19 +34,21 @@ pub record SoFar (f : Form) (wanted : Wanted) (file : List ℕ) (from : Spot) (g
   pub text : List ℕ
   pub lines : AreLines f wanted file from gtid events text (spot_at r.kept None bytes) here
   pub outputs : Outputs out held text new left
-  pub is_sought : IsSought start sought events
+  pub is_sought : IsSought (start_sought positions) sought events
+  pub unseen : IsUnseen sought events
+  pub early : IsUnseen positions.stop events
 
 stays_at : (is_each : Bool) (old at : Spot) → Passes is_each old at → is_each ≡ true → at.place.at ≡ old.place.at
 stays_at true old at same each = ap (λ (s : Spot). s.place.at) same
 stays_at false old at same each = absurd (let bad = each in cc)
 
 -- one event more was read and written, perhaps after others that were passed over
-pub step : (f : Form) (wanted : Wanted) (file : List ℕ) (from : Spot) (gtid : Option (List ℕ)) (out : Option (List ℕ)) (held : List ℕ) (old : Option (List ℕ)) (r : Reading) (p : Option FileError) (here : Option (List ℕ)) (mid : Option (List ℕ)) (kept : List ℕ) (start sought : Option ℕ)
-    → SoFar f wanted file from gtid out held old r p here mid kept start sought
+pub step : (f : Form) (wanted : Wanted) (file : List ℕ) (from : Spot) (gtid : Option (List ℕ)) (out : Option (List ℕ)) (held : List ℕ) (old : Option (List ℕ)) (r : Reading) (p : Option FileError) (here : Option (List ℕ)) (mid : Option (List ℕ)) (kept : List ℕ) (positions : Positions) (sought : Option ℕ)
+    → SoFar f wanted file from gtid out held old r p here mid kept positions sought
     → (is_each : Bool) (x : LentEvent) (source : Option (List ℕ)) (s : Reading) (q : Option FileError) (after : Option (List ℕ)) (new : Option (List ℕ)) (left : List ℕ)
-    → SourceNext wanted is_each old r p (Some (Ok x)) source s q → WritesEvent f file here x mid kept new left → after ≡ gtid_past here x → (is_each ≡ false → sought ≡ None)
-    → (next : Option ℕ) → next ≡ start_after sought r.kept.at → SoFar f wanted file from gtid out held source s q after new left start next
-step f wanted file from gtid out held old r p here mid kept start sought h is_each x source s q after new left gives writes is free next goes =
+    → SourceNext wanted is_each old r p (Some (Ok x)) source s q → WritesEvent f file here x mid kept new left → after ≡ gtid_past here x → (is_each ≡ false → sought ≡ None) → (is_each ≡ false → positions.stop ≡ None)
+    → is_before positions.stop r.kept.at ≡ true → (next : Option ℕ) → next ≡ start_after sought r.kept.at → SoFar f wanted file from gtid out held source s q after new left positions next
+step f wanted file from gtid out held old r p here mid kept positions sought h is_each x source s q after new left gives writes is free whole before next goes =
     let m = gives h.bytes h.finds in
     let at = m.2 in
     let passes = subst (λ (o : Option FileError). Passes is_each (spot_at r.kept o h.bytes) at) h.goes_on m.3 in
@@ -54,6 +56,9 @@ step f wanted file from gtid out held old r p here mid kept start sought h is_ea
     let e : Event = m.4.0 in
     let ended : q ≡ None = m.4.1.goes_on in
     let past = subst (λ (o : Option FileError). GoesPast at e (spot_at s.kept o m.0)) ended m.4.1 in
+    let there = stays_at is_each (spot_at r.kept None h.bytes) at passes in
+    let here_at = past_position at (spot_at s.kept None m.0) e past in
+    let same = passed_same f wanted file from gtid h.events h.text (spot_at r.kept None h.bytes) here is_each at h.lines passes in
     let lines = event_more f wanted file from gtid passed.0 h.text at here e (spot_at s.kept None m.0) x writes.0 passed.1 past m.4.2 writes.1 in record {
       goes_on = ended;
       bytes = m.0;
@@ -62,7 +67,9 @@ step f wanted file from gtid out held old r p here mid kept start sought h is_ea
       text = h.text ++ writes.0;
       lines = subst (λ (g : Option (List ℕ)). AreLines f wanted file from gtid (passed.0 ++ e ∷ []) (h.text ++ writes.0) (spot_at s.kept None m.0) g) (sym is) lines;
       outputs = outputs_more out mid new held kept left h.text writes.0 h.outputs writes.2;
-      is_sought = subst (λ (o : Option ℕ). IsSought start o (passed.0 ++ e ∷ [])) (sym goes) (sought_next start sought r.kept.at at.place.at h.events passed.0 e is_each h.is_sought free (stays_at is_each (spot_at r.kept None h.bytes) at passes) (past_position at (spot_at s.kept None m.0) e past) passed.2);
+      is_sought = subst (λ (o : Option ℕ). IsSought (start_sought positions) o (passed.0 ++ e ∷ [])) (sym goes) (sought_next (start_sought positions) sought r.kept.at at.place.at h.events passed.0 e is_each h.is_sought free there here_at passed.2);
+      unseen = subst (λ (o : Option ℕ). IsUnseen o (passed.0 ++ e ∷ [])) (sym goes) (unseen_next sought r.kept.at at.place.at h.events passed.0 e is_each h.unseen free there same here_at);
+      early = early_next positions.stop r.kept.at at.place.at h.events passed.0 e is_each h.early whole there same here_at before;
     }
 
 end_without : (at : Spot) (stop : Option ℕ) → at.place.left ≡ [] → stop ≡ None → IsEnd stop at
@@ -77,7 +84,7 @@ is_end_at false stop old at passes left whole stops = end_without at stop left (
 
 -- no event is left, perhaps after others that were passed over
 pub ended : (f : Form) (wanted : Wanted) (file : List ℕ) (positions : Positions) (from : Spot) (gtid : Option (List ℕ)) (out : Option (List ℕ)) (held : List ℕ) (old : Option (List ℕ)) (r : Reading) (p : Option FileError) (here : Option (List ℕ)) (mid : Option (List ℕ)) (kept : List ℕ) (sought : Option ℕ)
-    → SoFar f wanted file from gtid out held old r p here mid kept (start_sought positions) sought
+    → SoFar f wanted file from gtid out held old r p here mid kept positions sought
     → (is_each : Bool) (source : Option (List ℕ)) (s : Reading) (q : Option FileError) → SourceNext wanted is_each old r p None source s q
     → (is_each ≡ false → positions.stop ≡ None) → (positions.stop ≡ None) ⊎ (positions.stop ≡ Some r.kept.at) → sought ≡ None → Writes f wanted file positions from gtid out held mid kept
 ended f wanted file positions from gtid out held old r p here mid kept sought h is_each source s q gives whole stops found =
@@ -97,7 +104,7 @@ ended f wanted file positions from gtid out held old r p here mid kept sought h 
 
 -- the stop position is reached
 pub stopped : (f : Form) (wanted : Wanted) (file : List ℕ) (positions : Positions) (from : Spot) (gtid : Option (List ℕ)) (out : Option (List ℕ)) (held : List ℕ) (source : Option (List ℕ)) (r : Reading) (p : Option FileError) (here : Option (List ℕ)) (new : Option (List ℕ)) (left : List ℕ) (sought : Option ℕ)
-    → SoFar f wanted file from gtid out held source r p here new left (start_sought positions) sought
+    → SoFar f wanted file from gtid out held source r p here new left positions sought
     → is_before positions.stop r.kept.at ≡ false → (positions.stop ≡ None) ⊎ (positions.stop ≡ Some r.kept.at) → sought ≡ None → Writes f wanted file positions from gtid out held new left
 stopped f wanted file positions from gtid out held source r p here new left sought h past stops found =
     let at = spot_at r.kept None h.bytes in

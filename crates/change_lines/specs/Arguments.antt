@@ -1,6 +1,7 @@
 -- What is printed of which file. It is a module of its own because Arguments is a type of the code.
 use Rattle.std.specs.Prelude.{◌≡◌, ℕ, ◌+◌, ◌==◌, ◌&&◌, not, nat_lt, Bool, true, false, if◌then◌else◌, List, [], length, map, codes, Some, None, unwrap_or, option_map}
 use Rattle.std.specs.Borrow.{Bor}
+use Rattle.std.specs.List.{list_any}
 use Rattle.std.specs.Option.{is_some}
 use Rattle.clap.specs.Matches.{matched_of, one_text, raw_values}
 use Rattle.clap.specs.declared.parser.matches.Found.{Found}
@@ -43,6 +44,15 @@ is_after_stop p = is_some p.start && (is_some p.stop && nat_lt (unwrap_or p.stop
 -- both positions are those of one file, and the start position is after the stop position
 abbrev pub starts_after_stop : Arguments → Bool
 starts_after_stop a = length a.files.now == 1 && is_after_stop a.positions
+
+-- a text has a point
+abbrev pub has_point : List ℕ → Bool
+has_point text = list_any (λ byte. byte == 46) text
+
+-- A name of `--table` has no point. A table's name is that of its database, a point and its own, so this is the
+-- name of none.
+abbrev pub has_table_without_database : Arguments → Bool
+has_table_without_database a = list_any (λ name. not (has_point name.now)) a.tables.tables.now
 
 -- ---- what the words say
 

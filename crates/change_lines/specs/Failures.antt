@@ -1,5 +1,5 @@
 -- What was written where a run ends early. It is a module of its own because Failure is a type of the code.
-use Rattle.std.specs.Prelude.{◌≡◌, ◌≢◌, ◌⊎◌, ◌+◌, ℕ, List, [], ◌++◌, length, Option, Some, Result, Ok, Err, ⊤}
+use Rattle.std.specs.Prelude.{◌≡◌, ◌≢◌, ◌⊎◌, ◌+◌, ◌<◌, ℕ, List, [], ◌++◌, length, Option, Some, Result, Ok, Err, ⊤}
 use Rattle.std.specs.Io.KnownBytes.{Appends}
 use Rattle.binlog_base.specs.declared.fault.Fault.{Fault}
 use Rattle.binlog_base.specs.declared.fault.Fault.TheVariants as fault
@@ -27,7 +27,7 @@ use Rattle.changed_rows.specs.declared.filter.Positions.{Positions}
 use Rattle.changed_rows.specs.Filters.{start_sought}
 use Rattle.change_lines.specs.Outputs.{IsErrorOf}
 use Rattle.change_lines.specs.Rows.{AreLinesBy, BeginsWith}
-use Rattle.change_lines.specs.Lines.{AreRowLines, AreLines}
+use Rattle.change_lines.specs.Lines.{AreRowLines, AreLines, BeginsAt}
 
 -- ---- what a failure is of
 
@@ -105,8 +105,15 @@ AreFirstOfNext why f wanted file at gtid text =
     ((text ≡ []) × EndsAtEvent why wanted at)
     ⊎ ((e : Event) × (new : Spot) × GoesPast at e new × (x : LentEvent) × Shows wanted new.in_force.tables (glance_of e) x × AreFirstOfEvent why f file gtid x text)
 
+-- Where no event begins at a position, none of these events does, and the next one, if there is one, begins
+-- after it.
+abbrev pub IsMissing : Failure → List Event → Spot → Type 0
+IsMissing (failure.NoEvent n) es at = (BeginsAt n es → ⊥) × ((n < at.place.at) ⊎ (at.place.left ≡ []))
+IsMissing _ es at = ⊤
+
 -- Lines of a file from a spot on, up to a failure: those of some events that are read one after the other,
--- and then those of some first rows of the next one.
+-- and then those of some first rows of the next one. A position at which no event begins is missing in the
+-- file.
 pub record AreFirst (why : Failure) (f : Form) (wanted : Wanted) (file : List ℕ) (from : Spot) (gtid : Option (List ℕ)) (text : List ℕ) : Type 0 where
   pub events : List Event
   pub front : List ℕ
@@ -115,6 +122,7 @@ pub record AreFirst (why : Failure) (f : Form) (wanted : Wanted) (file : List �
   pub rows : List ℕ
   pub lines : AreLines f wanted file from gtid events front at here
   pub next : AreFirstOfNext why f wanted file at here rows
+  pub missing : IsMissing why events at
   pub whole : text ≡ front ++ rows
 
 -- ---- what was written

@@ -3,6 +3,7 @@
 ghost use Rattle.std.specs.Prelude.{◌≡◌, ℕ, List, Some, None, codes};
 ghost use Rattle.clap.specs.Matches.{found_of, one_text, ReadsOne};
 ghost use Rattle.change_lines.specs.Arguments.{form_of, settings_of, starts_after_stop, texts, values_of};
+ghost use Rattle.change_lines.specs.Arguments.{has_point, has_table_without_database};
 ghost use Rattle.change_lines.specs.Arguments.{IsFlag, AreArguments};
 
 use crate::run::{Form, Settings};
@@ -146,6 +147,18 @@ fn flag_of(matches: &ArgMatches<'_>, name: &str) -> bool
     matches.get_flag(name)
 }
 
+// Returns whether a text has a point.
+fn has_point(text: &[u8]) -> bool
+    ensures { result ≡ has_point text.now }
+{
+    for byte in text {
+        if *byte == b'.' {
+            return true;
+        }
+    }
+    false
+}
+
 impl<'a> Arguments<'a> {
     /// Returns the arguments that were found.
     pub fn of(matches: &'a ArgMatches<'_>) -> Arguments<'a>
@@ -190,6 +203,18 @@ impl<'a> Arguments<'a> {
             (Some(start), Some(stop)) => self.files.len() == 1 && stop < start,
             _ => false,
         }
+    }
+
+    /// Returns whether a name of `--table` has no point, so that it is the name of no table.
+    pub fn is_table_without_database(&self) -> bool
+        ensures { result ≡ has_table_without_database self.now }
+    {
+        for name in self.tables.tables {
+            if !has_point(name.as_bytes()) {
+                return true;
+            }
+        }
+        false
     }
 
     // Returns the form of what is printed.

@@ -62,6 +62,12 @@ fn over_files(rt: &HostRuntime, matches: &ArgMatches<'_>) -> io::Result<u8> {
     if arguments.is_start_after_stop() {
         return refuse(rt, "the start position is after the stop position");
     }
+    if arguments.is_table_without_database() {
+        return refuse(
+            rt,
+            "a name of --table is that of a database, a point and that of a table",
+        );
+    }
     let mut counts = Counts::new(rt.alloc());
     let mut notes = Notes::new(rt.alloc(), rt.stderr(), arguments.is_quiet);
     let mut ended = Ended::Whole;

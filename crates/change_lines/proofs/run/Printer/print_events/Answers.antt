@@ -1,4 +1,4 @@
-use Rattle.std.proofs.Common.{rules, ◌≡◌, false, ℕ, List, [], Option, Some, None, Result, Ok, Err, refl, sym, ap, subst, ◌∙◌, inl, inr}
+use Rattle.std.proofs.Common.{rules, ◌≡◌, ◌<◌, true, false, ℕ, List, [], Option, Some, None, Result, Ok, Err, refl, sym, ap, subst, ◌∙◌, inl, inr}
 use Rattle.binlog_events.specs.declared.error.FileError.{FileError}
 use Rattle.binlog_file.specs.declared.lent_changes.LentEvent.{LentEvent}
 use Rattle.binlog_file.specs.declared.source_changes.SourceWalk.{SourceWalk}
@@ -13,12 +13,13 @@ use Rattle.changed_rows.specs.Filters.{wanted_by, start_after}
 use Rattle.change_lines.specs.Readings.{SourceNext}
 use Rattle.change_lines.specs.Lines.{WritesEvent}
 use Rattle.change_lines.specs.Failures.{WritesFirstOfEvent}
-use Rattle.change_lines.proofs.Errors.{passed_on, on_error}
-use Rattle.change_lines.proofs.First.{events_so_far, error_so_far, event_so_far}
+use Rattle.binlog_file.specs.SourceChanges.{spot_at}
+use Rattle.change_lines.proofs.Errors.{passed_on, on_error, on_errors}
+use Rattle.change_lines.proofs.First.{events_so_far, end_so_far, error_so_far, event_so_far}
 use Rattle.change_lines.proofs.Outputs.{outputs_nothing}
 use Rattle.change_lines.proofs.Written.{on_ok, both_ok}
 use Rattle.change_lines.proofs.Whole.{step, ended, stopped}
-use Rattle.change_lines.proofs.Begun.{sought_after}
+use Rattle.change_lines.proofs.Begun.{sought_after, nothing_unseen, Missed, missing_passed, missing_stopped, missing_of_event}
 use Rattle.change_lines.proofs.Causes.{of_missing, of_passed, of_event}
 use Rattle.change_lines.proofs.CountedFiles.{counts_nothing, count_step, count_ended, count_stopped, count_failed, count_error, count_first}
 use Rattle.change_lines.proofs.run.Printer.print_events.Goals as goal
@@ -37,6 +38,8 @@ loop-bounds-init g c = (
     lines = (refl, refl, refl);
     outputs = outputs_nothing (g.O.Write.contents c.args.out.now) c.args.self.now.lines.bytes.items;
     is_sought = inl c.of-bounds.ensures.start;
+    unseen = nothing_unseen _;
+    early = nothing_unseen _;
   },
   λ counted none x finds. record { goes_on = none; bytes = x; finds = finds; events = []; rows = []; counted = (refl, refl); more = counts_nothing c.args.counts.now },
   inl c.of-bounds.ensures.start,
@@ -57,18 +60,34 @@ loop-bounds-preserved g c =
     let gives2 = subst (λ (f : Filter). SourceNext (wanted_by f) c.are_given.result (g.S.Source.remaining w.source) (reading_in w.walk) w.walk.pending (Some (Ok x)) (g.S.Source.remaining mid.source) (reading_in mid.walk) mid.walk.pending) h.1 gives1 in
     let gives3 = subst (λ (k : SourceWalk). SourceNext (wanted_by c.args.changes.now.choice) c.are_given.result (g.S.Source.remaining w.source) (reading_in w.walk) w.walk.pending (Some (Ok x)) (g.S.Source.remaining mid.source) (reading_in k) k.pending) (sym stays.walk) gives2 in
     let gives = subst (λ (o : Option (List ℕ)). SourceNext (wanted_by c.args.changes.now.choice) c.are_given.result (g.S.Source.remaining w.source) (reading_in w.walk) w.walk.pending (Some (Ok x)) o (reading_in new.walk) new.walk.pending) (ap g.S.Source.remaining (sym stays.source)) gives3 in
+    let on : c.goes_on.result ≡ true = search rules in
+    let early = subst (λ (n : ℕ). is_before c.loop-bounds.bounds.stop n ≡ true) place (sym c.goes_on.ensures ∙ on) in
+    let before = subst (λ (o : Option ℕ). is_before o (reading_in w.walk).kept.at ≡ true) h.2 early in
     let writes1 = subst (λ (f : Form). WritesEvent f s.file.now s.gtid x (g.O.Write.contents c.loop-bounds.out) s.lines.bytes.items (g.O.Write.contents c.print_event.new.out) c.print_event.new.self.lines.bytes.items) h.0.form c.in_ok-rows.ensures.lines in
     let writes = subst (λ (n : List ℕ). WritesEvent c.args.self.now.settings.now.form n s.gtid x (g.O.Write.contents c.loop-bounds.out) s.lines.bytes.items (g.O.Write.contents c.print_event.new.out) c.print_event.new.self.lines.bytes.items) h.0.file writes1 in (
       record { form = same.form ∙ h.0.form; stop = same.stop ∙ h.0.stop; file = same.file ∙ h.0.file },
       stays.choice ∙ c.next_event.ensures.choice ∙ h.1,
       c.begin.ensures.stop ∙ h.2,
-      λ none y finds. step _ _ _ _ _ _ _ _ _ _ _ _ _ _ _ (h.3 none y finds) _ x _ _ _ _ _ _ gives writes c.in_ok-rows.ensures.gtid (λ free. (c.are_given.ensures.0 free).0) _ (c.in_ok-begin.ensures.start.1 ∙ ap (start_after c.loop-bounds.bounds.start) place),
+      λ none y finds. step _ _ _ _ _ _ _ _ _ _ _ _ _ _ _ (h.3 none y finds) _ x _ _ _ _ _ _ gives writes c.in_ok-rows.ensures.gtid (λ free. (c.are_given.ensures.0 free).0) (λ free. sym h.2 ∙ (c.are_given.ensures.0 free).1) before _ (c.in_ok-begin.ensures.start.1 ∙ ap (start_after c.loop-bounds.bounds.start) place),
       λ counted none y finds. count_step _ _ _ _ _ _ _ (h.4 counted none y finds) _ x _ _ _ _ gives (c.in_ok-rows.ensures.counts (h.0.form ∙ counted)),
       sought_after _ c.loop-bounds.bounds.start _ _ h.5 c.in_ok-begin.ensures.start.1,
     )
 
 pub returns-then-not-goes_on-clause-first : goal.returns-then-not-goes_on-clause-first
-returns-then-not-goes_on-clause-first g c = on_error c.end.result _ _ (λ why not none x finds. events_so_far _ _ _ _ _ _ _ _ _ _ _ _ _ _ _ (c.loop-bounds.invariant.3 none x finds) why not) c.end.ensures.failed
+returns-then-not-goes_on-clause-first g c =
+    let h = c.loop-bounds.invariant in
+    let r = reading_in c.loop-bounds.changes.walk in
+    let positions = c.args.self.now.settings.now.filter.positions in
+    let place = c.position-position.ensures ∙ ap (λ (k : EventStreamReader). (kept_by k.kept).at) c.reader.ensures in
+    let stopped : c.goes_on.result ≡ false = search rules in
+    let past1 = subst (λ (n : ℕ). is_before c.loop-bounds.bounds.stop n ≡ false) place (sym c.goes_on.ensures ∙ stopped) in
+    let past = subst (λ (o : Option ℕ). is_before o r.kept.at ≡ false) h.2 past1 in
+    on_errors c.end.result _ _ _ (λ why not missed none x finds.
+    let s = h.3 none x finds in
+    let missed1 = subst (λ (n : ℕ). Missed why c.loop-bounds.bounds.start c.loop-bounds.bounds.stop n) place missed in
+    let missed2 = subst (λ (o : Option ℕ). Missed why c.loop-bounds.bounds.start o r.kept.at) h.2 missed1 in
+    events_so_far _ _ _ _ _ _ _ _ _ _ _ _ _ _ _ s why not (missing_stopped why positions c.loop-bounds.bounds.start s.events (spot_at r.kept None s.bytes) s.unseen s.early h.5 past missed2))
+    c.end.ensures.failed c.end.ensures.missed
 
 pub returns-then-not-goes_on-clause-all : goal.returns-then-not-goes_on-clause-all
 returns-then-not-goes_on-clause-all g c =
@@ -138,16 +157,34 @@ returns-in-None-clause-all g c =
     c.end-in-None.ensures.start c.end-in-None.ensures.stop
 
 pub returns-in-None-clause-first : goal.returns-in-None-clause-first
-returns-in-None-clause-first g c = on_error c.end-in-None.result _ _ (λ why not none x finds. events_so_far _ _ _ _ _ _ _ _ _ _ _ _ _ _ _ (c.loop-bounds.invariant.3 none x finds) why not) c.end-in-None.ensures.failed
+returns-in-None-clause-first g c =
+    let h = c.loop-bounds.invariant in
+    let w = c.loop-bounds.changes in
+    let mid = c.next_event.new.changes in
+    let is_each = c.are_given.result in
+    let gives = subst (λ (f : Filter). SourceNext (wanted_by f) is_each (g.S.Source.remaining w.source) (reading_in w.walk) w.walk.pending None (g.S.Source.remaining mid.source) (reading_in mid.walk) mid.walk.pending) h.1 c.in-None.ensures.event in
+    let place = c.position-position.ensures ∙ ap (λ (k : EventStreamReader). (kept_by k.kept).at) c.reader.ensures in
+    on_errors c.end-in-None.result _ _ _ (λ why not missed none x finds.
+    let missed1 = subst (λ (n : ℕ). Missed why c.loop-bounds.bounds.start c.loop-bounds.bounds.stop n) place missed in
+    let missed2 = subst (λ (o : Option ℕ). Missed why c.loop-bounds.bounds.start o (reading_in w.walk).kept.at) h.2 missed1 in
+    end_so_far _ _ _ _ _ _ _ _ _ _ _ _ _ c.args.self.now.settings.now.filter.positions _ (h.3 none x finds) is_each (g.S.Source.remaining mid.source) (reading_in mid.walk) mid.walk.pending gives
+    (λ free. (c.are_given.ensures.0 free).0) (λ free. sym h.2 ∙ (c.are_given.ensures.0 free).1) why not missed2)
+    c.end-in-None.ensures.failed c.end-in-None.ensures.missed
 
 pub returns-in_err-begin-clause-first : goal.returns-in_err-begin-clause-first
 returns-in_err-begin-clause-first g c =
     let why = c.in_err-begin.field-0.0 in
-    passed_on _ why _ c.from_residual-in_err-begin.ensures.1 (λ none x finds. events_so_far _ _ _ _ _ _ _ _ _ _ _ _ _ _ _ (c.loop-bounds.invariant.3 none x finds) why c.in_err-begin.ensures.failed)
+    let h = c.loop-bounds.invariant in
+    let r = reading_in c.loop-bounds.changes.walk in
+    let place = c.position-position.ensures ∙ ap (λ (k : EventStreamReader). (kept_by k.kept).at) c.reader.ensures in
+    let later = subst (λ (n : ℕ). (m : ℕ) × (c.loop-bounds.bounds.start ≡ Some m) × (m < n) × (why ≡ failure.NoEvent m)) place c.in_err-begin.ensures.passed in
+    passed_on _ why _ c.from_residual-in_err-begin.ensures.1 (λ none x finds.
+    let s = h.3 none x finds in
+    events_so_far _ _ _ _ _ _ _ _ _ _ _ _ _ _ _ s why c.in_err-begin.ensures.failed (missing_passed why c.loop-bounds.bounds.start s.events (spot_at r.kept None s.bytes) s.unseen later))
 
 pub returns-in_err-see-clause-first : goal.returns-in_err-see-clause-first
 returns-in_err-see-clause-first g c =
-    passed_on _ failure.Memory _ c.from_residual-in_err-see.ensures.1 (λ none x finds. events_so_far _ _ _ _ _ _ _ _ _ _ _ _ _ _ _ (c.loop-bounds.invariant.3 none x finds) failure.Memory tt)
+    passed_on _ failure.Memory _ c.from_residual-in_err-see.ensures.1 (λ none x finds. events_so_far _ _ _ _ _ _ _ _ _ _ _ _ _ _ _ (c.loop-bounds.invariant.3 none x finds) failure.Memory tt tt)
 
 pub returns-in_err-event-in-Some-clause-first : goal.returns-in_err-event-in-Some-clause-first
 returns-in_err-event-in-Some-clause-first g c =
@@ -171,7 +208,7 @@ returns-in_err-rows-clause-first g c =
     let why = c.in_err-rows.field-0.0 in
     let writes1 = subst (λ (f : Form). WritesFirstOfEvent why f s.file.now s.gtid x (g.O.Write.contents c.loop-bounds.out) s.lines.bytes.items (g.O.Write.contents c.print_event.new.out) c.print_event.new.self.lines.bytes.items) h.0.form c.in_err-rows.ensures.first in
     let writes = subst (λ (n : List ℕ). WritesFirstOfEvent why c.args.self.now.settings.now.form n s.gtid x (g.O.Write.contents c.loop-bounds.out) s.lines.bytes.items (g.O.Write.contents c.print_event.new.out) c.print_event.new.self.lines.bytes.items) h.0.file writes1 in
-    passed_on _ why _ c.from_residual-in_err-rows.ensures.1 (λ none y finds. event_so_far _ _ _ _ _ _ _ _ _ _ _ _ _ _ _ (h.3 none y finds) _ x (g.S.Source.remaining mid.source) (reading_in mid.walk) mid.walk.pending _ _ gives why writes)
+    passed_on _ why _ c.from_residual-in_err-rows.ensures.1 (λ none y finds. event_so_far _ _ _ _ _ _ _ _ _ _ _ _ _ _ _ (h.3 none y finds) _ x (g.S.Source.remaining mid.source) (reading_in mid.walk) mid.walk.pending _ _ gives why writes (missing_of_event g.O.WriteOnce.writes g.O.WriteOnce.flushes why c.in_err-rows.ensures.cause))
 
 pub returns-in_err-event-in-Some-clause-first_counts : goal.returns-in_err-event-in-Some-clause-first_counts
 returns-in_err-event-in-Some-clause-first_counts g c =

@@ -16,7 +16,7 @@ invariant-loop-bounds g l =
     × (l.fn.changes.walk.pending ≡ None → (x : List ℕ) → Finds (reading_in l.fn.changes.walk) (g.S.Source.remaining l.fn.changes.source) x
     → SoFar l.fn.self.settings.now.form (wanted_by l.fn.changes.choice) l.fn.self.file.now (spot_at (kept_in l.fn.changes.walk) None x) l.fn.self.gtid (g.O.Write.contents l.fn.out) l.fn.self.lines.bytes.items
     (g.S.Source.remaining l.changes.source) (reading_in l.changes.walk) l.changes.walk.pending l.self.gtid (g.O.Write.contents l.out) l.self.lines.bytes.items
-    (start_sought l.fn.self.settings.now.filter.positions) l.bounds.start)
+    l.fn.self.settings.now.filter.positions l.bounds.start)
     × (l.fn.self.settings.now.form ≡ form.Count → l.fn.changes.walk.pending ≡ None → (x : List ℕ) → Finds (reading_in l.fn.changes.walk) (g.S.Source.remaining l.fn.changes.source) x
     → CountedSoFar (wanted_by l.fn.changes.choice) (spot_at (kept_in l.fn.changes.walk) None x) l.fn.counts (g.S.Source.remaining l.changes.source) (reading_in l.changes.walk) l.changes.walk.pending l.counts)
     × ((l.bounds.start ≡ start_sought l.fn.self.settings.now.filter.positions) ⊎ (l.bounds.start ≡ None))

@@ -42,15 +42,17 @@ named_9 = refl
 abbrev cut : TableMap
 cut = record { server = MySql; table_id = 0; flags = 0; database = []; table = []; columns_count = 3; types = 3 ∷ 3 ∷ 3 ∷ []; metadata = []; null_bits = []; optional_metadata = 8 ∷ 2 ∷ 0 ∷ 2 ∷ 4 ∷ 2 ∷ 5 ∷ 97 ∷ [] }
 
--- two fields and one key; with the column a key and the name's fault; after the fault nothing
+-- two fields and one item of the key
 cut_0 : steps_after cut 0 ≡ 3
 unfolding items fixed lenenc lenenc_after lenenc_string bit_list bit_at low_bits pair_with raw_field default_charset field_of is_known_kind is_numeric_number key_at charset_at chunk column_at steps_after
 cut_0 = refl
 
+-- the column and its name's fault, and no key
 cut_1 : steps_after cut 1 ≡ 5
 unfolding items fixed lenenc lenenc_after lenenc_string bit_list bit_at low_bits pair_with raw_field default_charset field_of is_known_kind is_numeric_number key_at charset_at chunk column_at steps_after
 cut_1 = refl
 
+-- after the fault nothing
 cut_3 : steps_after cut 3 ≡ 5
 unfolding items fixed lenenc lenenc_after lenenc_string bit_list bit_at low_bits pair_with raw_field default_charset field_of is_known_kind is_numeric_number key_at charset_at chunk column_at steps_after
 cut_3 = refl

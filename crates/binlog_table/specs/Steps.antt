@@ -52,14 +52,16 @@ abbrev pub keys_read : Parts → List (Result ℕ Fault) → ℕ → ℕ
 keys_read p keys n = min (length keys) (1 + count_to (takes_key p) n)
 
 -- How many items of a group's pairs and list are read for its first k columns. Of the pairs, the
--- first one is read beforehand, and after each that a column takes the next one. Where the columns
--- took all pairs, each further column takes an item of the list. Both as far as the items go.
+-- first one is read beforehand, and after each that a column takes the next one. If all pairs have a
+-- value, each column after that of the last pair takes an item of the list. Both as far as the items
+-- go.
 abbrev pub charsets_read : List (Result (ℕ × ℕ) Fault) → List (Result ℕ Fault) → ℕ → ℕ
 charsets_read pairs list k =
     let prefix = pairs_from 0 (before_fault pairs) in
     min (length pairs) (1 + count_by (λ p. nat_lt p.0 k) prefix) + (if length prefix == length pairs then min (length list) (k - above_from 0 prefix) else 0)
 
--- what is read for the first n columns, and the columns
+-- how many columns, names, items of the key and items of character sets are read for the first n
+-- columns
 abbrev pub columns_read : TableMap → ℕ → ℕ
 columns_read t n =
     let k = kept_of t in
@@ -69,7 +71,7 @@ columns_read t n =
     + charsets_read (pairs_or k.default) (items (low_bits 16) (list_or k.charsets)) (ordinal_of (character_group t.server) p.type n)
     + charsets_read (pairs_or k.enum_default) (items (low_bits 16) (list_or k.enum_charsets)) (ordinal_of (enum_or_set_group t.server) p.type n)
 
--- none where there is a fault
+-- 0 where there is a fault
 abbrev pub unless_fault : Option Fault → ℕ → ℕ
 unless_fault None n = n
 unless_fault (Some e) n = 0

@@ -55,8 +55,8 @@ column_by p i =
     })
 
 -- A walk over the columns: the fault of the optional metadata, the columns that are left, the steps
--- that were made, those once none, one, two and more of these columns are walked over, and how many
--- steps there can be if no further column is taken.
+-- that were made, how many they will be after 0, 1, 2 and more of these columns, and how many steps
+-- there can be if no further column is taken.
 pub record ToCome : Type 0 where
   pub fault : Option Fault
   pub columns : List (Result Column Fault)

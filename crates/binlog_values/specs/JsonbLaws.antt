@@ -1,5 +1,5 @@
--- What the laws of binary JSON say: where the bytes of a container are, how long its header is, and
--- what the number of a position is.
+-- What the laws of binary JSON say: where the bytes of a container are, how long its header is,
+-- what the number of a position is, and which fault is the first.
 use Rattle.std.specs.Prelude.{◌≡◌, ℕ, zero, suc, ◌+◌, ◌*◌, ◌<◌, ◌≤◌, nat_lt, if◌then◌else◌, Bool, List, [], ◌∷◌, ◌++◌, length, slice_get, Option, Some, None, Result, Ok}
 use Rattle.binlog_base.specs.declared.fault.Fault.{Fault}
 use Rattle.binlog_values.specs.JsonbValues.{Frame, container, nested, json, element_at}
@@ -126,7 +126,7 @@ EntriesArePositions =
     (d : Document) (m i : ℕ) (p q : Position) → IsPosition d m p → IsEntry p i q
     → (n : ℕ) × IsPosition d n q
 
--- a path leads to one position
+-- no two positions have the same path
 abbrev pub PathsAreOne : Type 0
 PathsAreOne =
     (d : Document) (m n : ℕ) (p q : Position)

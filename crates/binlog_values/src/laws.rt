@@ -86,8 +86,8 @@ pub fn entries_are_elements()
     ensures { EntriesAreElements }
 {}
 
-/// States that the first fault of a document is that of the position with its number, and that no
-/// position before it has one.
+/// States that the first fault of a document comes with the number of a position, whose fault it is,
+/// and that no position before it has one.
 pub fn first_faults_have_numbers()
     ensures there { FaultsAreAtNumbers }
     ensures first { FaultsAreFirst }

@@ -7,10 +7,10 @@ use Rattle.binlog_table.specs.TableMap.{TableMap, without_id}
 use Rattle.binlog_table.specs.ColumnTypes.{json_count}
 use Rattle.binlog_table.specs.Extracted.{field_fault}
 use Rattle.binlog_table.specs.TableColumns.{Column, column_at, table_columns}
-use Rattle.mysql_binlog_rows.specs.RowsEvent.{RowsEvent, image_columns, has_options}
+use Rattle.mysql_binlog_rows.specs.RowsEvent.{RowsEvent, image_columns, same_columns, has_options}
 use Rattle.mysql_binlog_rows.specs.RowsEventWritten.{IsRowsEvent}
 use Rattle.mysql_binlog_rows.specs.Workings.Plans as Spec
-use Rattle.mysql_binlog_rows.specs.Workings.Plans.{Plan, Plans, planned_then, first_column, after_first, planned_from, unless_refused, plan_of, plans_by, plans_of, walked_in, walked_apart, same_columns, slot_count, planned_pair, Reads}
+use Rattle.mysql_binlog_rows.specs.Workings.Plans.{Plan, Plans, planned_then, first_column, after_first, planned_from, unless_refused, plan_of, plans_by, plans_of, walked_in, walked_apart, slot_count, planned_pair, Reads}
 use Rattle.mysql_binlog_rows.specs.Rows.{Made, Rows, IsOf, event_steps, most_steps, made_by}
 use Rattle.mysql_binlog_rows.specs.Kept.{Planned, Serves, plans_kept}
 use Rattle.mysql_binlog_rows.proofs.PlanReads.{plans_read, slots_least}

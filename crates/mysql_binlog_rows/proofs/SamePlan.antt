@@ -4,7 +4,8 @@ use Rattle.std.specs.Bool.{beq}
 use Rattle.std.specs.Option.{option_map}
 use Rattle.std.specs.Cmp.Lexicographic.{pointwise}
 use Rattle.binlog_table.specs.TableMap.{TableMap}
-use Rattle.mysql_binlog_rows.specs.Workings.Plans.{plan_of, plans_by, walked_in, walked_apart, same_columns}
+use Rattle.mysql_binlog_rows.specs.RowsEvent.{same_columns}
+use Rattle.mysql_binlog_rows.specs.Workings.Plans.{plan_of, plans_by, walked_in, walked_apart}
 
 same_bits : (a b : List Bool) → pointwise beq a b ≡ true → a ≡ b
 same_bits [] [] h = refl

@@ -8,9 +8,9 @@ use Rattle.binlog_table.specs.TableMap.{TableMap}
 use Rattle.binlog_table.specs.Extracted.{field_fault}
 use Rattle.binlog_table.specs.TableColumns.{Column, column_at}
 use Rattle.binlog_table.specs.Steps.{steps_after}
-use Rattle.mysql_binlog_rows.specs.RowsEvent.{RowsEvent, image_columns}
+use Rattle.mysql_binlog_rows.specs.RowsEvent.{RowsEvent, image_columns, same_columns}
 use Rattle.mysql_binlog_rows.specs.Images.{Pair, pair}
-use Rattle.mysql_binlog_rows.specs.Workings.Plans.{Plans, Reads, plans_of, slot_count, same_columns}
+use Rattle.mysql_binlog_rows.specs.Workings.Plans.{Plans, Reads, plans_of, slot_count}
 use Rattle.mysql_binlog_rows.specs.Cover.{IsPair, NoPair, RestFault}
 
 -- The state of the iterator: how pairs are read, and the bytes that are left; whether the plans are

@@ -1,6 +1,8 @@
 -- The layout of a rows event of MySQL's binary log.
 use Rattle.std.specs.Prelude.{◌≡◌, ◌++◌, ℕ, ◌+◌, ◌-◌, ◌^◌, ◌==◌, min, Bool, true, false, List, [], length, Option, Some, None}
+use Rattle.std.specs.Bool.{beq}
 use Rattle.std.specs.Option.{option_map}
+use Rattle.std.specs.Cmp.Lexicographic.{pointwise}
 use Rattle.binlog_base.specs.declared.bits.BitOrder.TheVariants.{LeastSignificantFirst}
 use Rattle.binlog_base.specs.Format.{Format, take_bytes, no_bytes, sequence, map_value, choice, all_left}
 use Rattle.binlog_base.specs.Numbers.{little_endian, lenenc, lenenc_bytes}
@@ -87,6 +89,12 @@ EndsWith bytes end = (start : List ℕ) × (bytes ≡ start ++ end)
 -- which columns are in an image: a bit for each column of the event
 abbrev pub image_columns : ℕ → Option (List ℕ) → Option (List Bool)
 image_columns count bitmap = option_map (bits_of LeastSignificantFirst count) bitmap
+
+-- whether the event has both images, and they have the same columns
+abbrev pub same_columns : Option (List Bool) → Option (List Bool) → Bool
+same_columns (Some a) (Some b) = pointwise beq a b
+same_columns (Some a) None = false
+same_columns None b = false
 
 -- how many bytes the bitmap of an image has; 0 where the event doesn't have the image
 abbrev pub bitmap_length : Option (List ℕ) → ℕ

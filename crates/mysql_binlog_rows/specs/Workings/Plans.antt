@@ -1,7 +1,5 @@
 -- What an iterator over pairs keeps of a table map event, and how it reads images by that.
 use Rattle.std.specs.Prelude.{◌≡◌, ℕ, suc, Bool, true, false, List, [], ◌∷◌, drop, slice_index_or, unwrap_or, Option, Some, None, Result, Ok, Err, ◌+◌, if◌then◌else◌}
-use Rattle.std.specs.Bool.{beq}
-use Rattle.std.specs.Cmp.Lexicographic.{pointwise}
 use Rattle.std.specs.Option.{option_map}
 use Rattle.binlog_base.specs.declared.bits.BitOrder.TheVariants.{LeastSignificantFirst}
 use Rattle.binlog_base.specs.declared.fault.Fault.{Fault}
@@ -15,7 +13,7 @@ use Rattle.binlog_table.specs.ColumnTypes.{json_count}
 use Rattle.binlog_table.specs.Extracted.{field_fault}
 use Rattle.binlog_table.specs.TableColumns.{Column, table_columns}
 use Rattle.binlog_cells.specs.declared.value.form.Form.{Form}
-use Rattle.mysql_binlog_rows.specs.RowsEvent.{RowsEvent, image_columns, has_options}
+use Rattle.mysql_binlog_rows.specs.RowsEvent.{RowsEvent, image_columns, same_columns, has_options}
 use Rattle.binlog_cells.specs.Cells.{Cell, PlainCell}
 use Rattle.binlog_cells.specs.Forms.{form_of, cell_by}
 use Rattle.mysql_binlog_rows.specs.Images.{BinlogRow, Pair, default_name, row_flags, row_column, is_json, partial_bits, pair}
@@ -128,12 +126,6 @@ pub record Plans : Type 0 where
   pub is_one : Bool
   pub has_options : Bool
   pub walked : ℕ
-
--- whether the event has both images, and they have the same columns
-abbrev pub same_columns : Option (List Bool) → Option (List Bool) → Bool
-same_columns (Some a) (Some b) = pointwise beq a b
-same_columns (Some a) None = false
-same_columns None b = false
 
 -- where both images have the same columns, they share the plan that was made for the first
 abbrev pub walked_apart : Bool → Option Plan → ℕ

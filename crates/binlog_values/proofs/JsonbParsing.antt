@@ -1,19 +1,20 @@
 -- What the result of reading a document says of the document.
 use Rattle.std.proofs.Common.{◌≡◌, ◌≢◌, ℕ, ◌+◌, ◌/◌, ◌≤◌, ◌<◌, length, Some, Result, Ok, Err, refl, sym, ap, subst, ◌∙◌, arith}
-use Rattle.std.specs.Prelude.{IfOk, OnOk, IfErr, IsOk, true, Any}
+use Rattle.std.specs.Prelude.{IfOk, OnOk, IfErr, IsOk, true, Any, ⊤}
 use Rattle.std.specs.Result.{result_err}
 use Rattle.binlog_base.specs.declared.fault.Fault.{Fault}
 use Rattle.binlog_base.specs.declared.fault.Fault.TheVariants as faults
 use Rattle.binlog_values.specs.declared.jsonb.dom.JsonDom.{JsonDom}
-use Rattle.binlog_values.specs.JsonbValues.{Frame, JsonbValue, scalar, nested}
-use Rattle.binlog_values.specs.JsonbTrees.{Tree, Denotes}
+use Rattle.binlog_values.specs.JsonbValues.{Frame, Scalar, JsonbValue, scalar, nested}
+use Rattle.binlog_values.specs.JsonbTrees.{tree_scalar, Tree, Denotes}
 use Rattle.binlog_values.specs.JsonbDocuments.{weight, depth, positions, first_fault, limit_of}
 use Rattle.binlog_values.specs.Workings.JsonbVisits.{visit}
 use Rattle.binlog_values.specs.JsonbHeaders.{headers, AreDisjoint, IsWhole, IsWholeValue}
 use Rattle.binlog_values.specs.JsonbContainers.{IsScalar}
-use Rattle.binlog_values.specs.JsonbDoms.{Meets, IsTree, IsGiven}
-use Rattle.binlog_values.specs.JsonbParsed.{document, IsDenoted, IsWithinLimits, HasFault, is_simple, Parsed}
+use Rattle.binlog_values.specs.JsonbDoms.{Meets, IsTree, IsGiven, IsChecked}
+use Rattle.binlog_values.specs.JsonbParsed.{document, IsDenoted, IsWithinLimits, HasFault, is_simple, is_decimal, Parsed, Checked}
 use Rattle.binlog_values.proofs.JsonbUnfolding.{document_is}
+use Rattle.binlog_values.proofs.JsonbWalk.{checked_scalar}
 use Rattle.binlog_values.proofs.JsonbFirstFault.{same_number, visit-number, walk_first}
 use Rattle.binlog_values.proofs.JsonbDenoting.{tree-given, tree-found}
 use Rattle.binlog_values.proofs.JsonbCounting.{three_bytes_each}
@@ -119,3 +120,37 @@ least (Err f) m = tt
 
 pub parsed_scalar : (v : JsonbValue) (r : Result JsonDom Fault) → IsScalar v → (is_simple v ≡ true → IsOk r) → Meets IsTree r 0 (visit (limit_of v) 100 0 (document v)) → Parsed v r 0
 parsed_scalar v r h simple read = parsed v r 0 (whole_scalar v h) (omega arith) (λ is. refl) (least r (limit_of v)) simple read
+
+-- ---- what `check` promises
+
+-- what reading gives of a value, within its limits, of which nothing is made
+abbrev WasRead : JsonbValue → Result (Unit {0}) Fault → ℕ → ℕ → Type 0
+WasRead v r n limit = Meets (λ u t. ⊤) r n (visit limit 100 0 (document v))
+
+checked : (v : JsonbValue) (r : Result (Unit {0}) Fault) (n : ℕ) → OnOk r (n ≤ limit_of v) → (IsScalar v → r ≡ Err faults.Memory → is_decimal v ≡ true) → WasRead v r n (limit_of v) → Checked v r n
+checked v (Ok u) n kept memory h =
+    let found = tree-found 100 (limit_of v) 0 (Ok v) h.0 n h.2 in
+    let number = visit-number (document v) (limit_of v) 100 0 h.0 n h.2 in
+    record { tree = (h.0, found.0); limits = (found.1, omega (arith, number, kept)); given = λ t denoted within. tt; fault = tt; memory = memory }
+checked v (Err f) n kept memory h = record {
+  tree = tt;
+  limits = tt;
+  given = λ t denoted within.
+      let g = tree-given t (Ok v) (limit_of v) 100 0 denoted within.0 (omega (arith, within.1)) in
+      only_memory f (λ not. err_not_ok f n (0 + weight (document v)) t (visit (limit_of v) 100 0 (document v)) g (h not));
+  fault = λ not. sym (walk_first (limit_of v) (document v)) ∙ ap result_err (h not);
+  memory = memory;
+}
+
+pub checked_container : (v : JsonbValue) (c : Frame) (limit n : ℕ) (r : Result (Unit {0}) Fault) → v ≡ nested c → limit ≡ length c.bytes / 3 → OnOk r (n ≤ limit) → WasRead (nested c) r n limit → Checked v r n
+checked_container v c limit n r is l kept h =
+    let kept' : OnOk r (n ≤ limit_of (nested c)) = subst (λ (k : ℕ). OnOk r (n ≤ k)) l kept in
+    let h' : WasRead (nested c) r n (limit_of (nested c)) = subst (λ (k : ℕ). WasRead (nested c) r n k) l h in
+    subst (λ (u : JsonbValue). Checked u r n) (sym is) (checked (nested c) r n kept' (λ no e. absurd no) h')
+
+none_read : (r : Result (Unit {0}) Fault) (m : ℕ) → OnOk r (0 ≤ m)
+none_read (Ok u) m = omega arith
+none_read (Err f) m = tt
+
+pub checked_single : (v : JsonbValue) (s : Scalar) (r : Result (Unit {0}) Fault) → scalar s ≡ v → IsChecked r (tree_scalar s) → (r ≡ Err faults.Memory → is_decimal (scalar s) ≡ true) → Checked v r 0
+checked_single v s r is ok memory = subst (λ (u : JsonbValue). Checked u r 0) is (checked (scalar s) r 0 (none_read r (limit_of (scalar s))) (λ h. memory) (checked_scalar (limit_of (scalar s)) 100 0 s r ok))

@@ -1,10 +1,10 @@
 -- The steps of the loop over a stack.
-use Rattle.std.proofs.Common.{◌≡◌, ℕ, suc, ◌+◌, ◌-◌, ◌<◌, ◌≤◌, List, [], ◌∷◌, ◌++◌, length, Ok, Err, Vec, BTreeMap, Global, String, string_bytes, string_cmp, refl, sym, ap, ◌∙◌, arith}
+use Rattle.std.proofs.Common.{◌≡◌, ◌≢◌, ℕ, suc, ◌+◌, ◌-◌, ◌<◌, ◌≤◌, List, [], ◌∷◌, ◌++◌, length, Ok, Err, Vec, BTreeMap, Global, String, string_bytes, string_cmp, refl, sym, ap, ◌∙◌, arith}
 use Rattle.std.specs.BTreeMap.{insert_entry}
 use Rattle.std.specs.Str.Lossy.{utf8_lossy}
 use Rattle.std.proofs.lemmas.List.{length-append}
 use Rattle.binlog_base.specs.declared.fault.Fault.{Fault}
-use Rattle.binlog_base.specs.declared.fault.Fault.TheVariants.{NestingTooDeep}
+use Rattle.binlog_base.specs.declared.fault.Fault.TheVariants.{Memory, NestingTooDeep}
 use Rattle.binlog_values.specs.declared.jsonb.dom.JsonDom.{JsonDom}
 use Rattle.binlog_values.specs.declared.jsonb.stack.Open.{Open}
 use Rattle.binlog_values.specs.declared.jsonb.stack.Waiting.{Waiting}
@@ -14,7 +14,7 @@ use Rattle.binlog_values.specs.JsonbTrees.{entry_key, Tree, node, Branches, no_b
 use Rattle.binlog_values.specs.JsonbDocuments.{found, entries_from, document_of}
 use Rattle.binlog_values.specs.Workings.JsonbVisits.{Numbered, visit, visits, append, with_front}
 use Rattle.binlog_values.specs.JsonbContainers.{frame}
-use Rattle.binlog_values.specs.JsonbDoms.{Meets, IsTree, items_view, members_view}
+use Rattle.binlog_values.specs.JsonbDoms.{IsTree, items_view, members_view}
 use Rattle.binlog_values.specs.Workings.JsonbStack.{Wait, finish, open_rest, accept, resume, IsCollected, IsOpen, IsWait, AreWaits}
 use Rattle.binlog_values.proofs.JsonbWalk.{items_view-push, members_view-insert, merged_into-append, starts, goes_on, refused, refused_inside, is_done, visit-deep, visit-container}
 
@@ -61,23 +61,23 @@ collected-member m new name d c front k t h is text_is e =
 
 -- ---- the stack in the code
 
-pub AreWaits-push : (xs : List Waiting) (ws : List Wait) (x : Waiting) (w : Wait) → AreWaits xs ws → IsWait x w → AreWaits (xs ++ x ∷ []) (ws ++ w ∷ [])
+pub AreWaits-push : {C : Type 0} {IsOf : C → Frame → Branches → Type 0} (xs : List (Waiting C)) (ws : List Wait) (x : Waiting C) (w : Wait) → AreWaits IsOf xs ws → IsWait IsOf x w → AreWaits IsOf (xs ++ x ∷ []) (ws ++ w ∷ [])
 AreWaits-push [] [] x w h k = (k, tt)
 AreWaits-push [] (v ∷ ws) x w h k = absurd h
 AreWaits-push (y ∷ xs) [] x w h k = absurd h
 AreWaits-push (y ∷ xs) (v ∷ ws) x w h k = (h.0, AreWaits-push xs ws x w h.1 k)
 
-pub AreWaits-length : (xs : List Waiting) (ws : List Wait) → AreWaits xs ws → length xs ≡ length ws
-AreWaits-length [] [] h = refl
-AreWaits-length [] (v ∷ ws) h = absurd h
-AreWaits-length (y ∷ xs) [] h = absurd h
-AreWaits-length (y ∷ xs) (v ∷ ws) h = ap suc (AreWaits-length xs ws h.1)
+pub AreWaits-length : {C : Type 0} (IsOf : C → Frame → Branches → Type 0) (xs : List (Waiting C)) (ws : List Wait) → AreWaits IsOf xs ws → length xs ≡ length ws
+AreWaits-length IsOf [] [] h = refl
+AreWaits-length IsOf [] (v ∷ ws) h = absurd h
+AreWaits-length IsOf (y ∷ xs) [] h = absurd h
+AreWaits-length IsOf (y ∷ xs) (v ∷ ws) h = ap suc (AreWaits-length IsOf xs ws h.1)
 
-pub AreWaits-none : (ws : List Wait) → AreWaits [] ws → ws ≡ []
-AreWaits-none [] h = refl
-AreWaits-none (w ∷ ws) h = absurd h
+pub AreWaits-none : {C : Type 0} (IsOf : C → Frame → Branches → Type 0) (ws : List Wait) → AreWaits IsOf [] ws → ws ≡ []
+AreWaits-none IsOf [] h = refl
+AreWaits-none IsOf (w ∷ ws) h = absurd h
 
-pub AreWaits-pop : (xs : List Waiting) (x : Waiting) (ws : List Wait) → AreWaits (xs ++ x ∷ []) ws → (us : List Wait) × (w : Wait) × (ws ≡ us ++ w ∷ []) × AreWaits xs us × IsWait x w
+pub AreWaits-pop : {C : Type 0} {IsOf : C → Frame → Branches → Type 0} (xs : List (Waiting C)) (x : Waiting C) (ws : List Wait) → AreWaits IsOf (xs ++ x ∷ []) ws → (us : List Wait) × (w : Wait) × (ws ≡ us ++ w ∷ []) × AreWaits IsOf xs us × IsWait IsOf x w
 AreWaits-pop [] x [] h = absurd h
 AreWaits-pop [] x (w ∷ []) h = ([], w, refl, tt, h.0)
 AreWaits-pop [] x (w ∷ (v ∷ ws)) h = absurd h.1
@@ -89,31 +89,31 @@ AreWaits-pop (y ∷ xs) x (v ∷ ws) h =
 -- ---- the turns of the loop
 
 -- what has been read, and what is still to be read
-pub record Turn (limit n : ℕ) (xs : List Waiting) (ws : List Wait) (c : Frame) (i : ℕ) (front : Branches) (total : Numbered Tree) : Type 0 where
-  pub waits : AreWaits xs ws
+pub record Turn {C : Type 0} (IsOf : C → Frame → Branches → Type 0) (limit n : ℕ) (xs : List (Waiting C)) (ws : List Wait) (c : Frame) (i : ℕ) (front : Branches) (total : Numbered Tree) : Type 0 where
+  pub waits : AreWaits IsOf xs ws
   pub rest : total ≡ resume limit 99 ws (open_rest limit (99 - length ws) n c i front)
 
-pub turn-start : (limit n : ℕ) (c : Frame) → Turn limit n [] [] c 0 no_branches (visit limit 100 n (document_of (Ok (nested c))))
+pub turn-start : {C : Type 0} {IsOf : C → Frame → Branches → Type 0} (limit n : ℕ) (c : Frame) → Turn IsOf limit n [] [] c 0 no_branches (visit limit 100 n (document_of (Ok (nested c))))
 turn-start limit n c = record { waits = tt; rest = opens limit 100 n c (omega arith) }
 
-pub turn-fault : (limit n after : ℕ) (xs : List Waiting) (ws : List Wait) (c : Frame) (i : ℕ) (front : Branches) (total : Numbered Tree) (f : Fault) → Turn limit n xs ws c i front total → i < c.count → after ≡ n + 1
+pub turn-fault : {C : Type 0} {IsOf : C → Frame → Branches → Type 0} (limit n after : ℕ) (xs : List (Waiting C)) (ws : List Wait) (c : Frame) (i : ℕ) (front : Branches) (total : Numbered Tree) (f : Fault) → Turn IsOf limit n xs ws c i front total → i < c.count → after ≡ n + 1
     → Err f ≡ found limit after (entry_key c i) (document_of (element_at c i)) → total ≡ Err (f, after)
 turn-fault limit n after xs ws c i front total f h lt next e =
     h.rest ∙ ap (λ (r : Numbered Branches). resume limit 99 ws (finish c r)) (refused limit (99 - length ws) n after c i front f lt next (sym e)) ∙ resume-err limit 99 ws f after
 
-pub turn-fault-inside : (limit n after : ℕ) (xs : List Waiting) (ws : List Wait) (c : Frame) (i : ℕ) (front : Branches) (total : Numbered Tree) (k : List ℕ) (f : Fault) → Turn limit n xs ws c i front total → i < c.count → after ≡ n + 1
+pub turn-fault-inside : {C : Type 0} {IsOf : C → Frame → Branches → Type 0} (limit n after : ℕ) (xs : List (Waiting C)) (ws : List Wait) (c : Frame) (i : ℕ) (front : Branches) (total : Numbered Tree) (k : List ℕ) (f : Fault) → Turn IsOf limit n xs ws c i front total → i < c.count → after ≡ n + 1
     → Ok k ≡ found limit after (entry_key c i) (document_of (element_at c i)) → visit limit (99 - length ws) after (document_of (element_at c i)) ≡ Err (f, after) → total ≡ Err (f, after)
 turn-fault-inside limit n after xs ws c i front total k f h lt next e v =
     h.rest ∙ ap (λ (r : Numbered Branches). resume limit 99 ws (finish c r)) (refused_inside limit (99 - length ws) n after c i front k f after lt next (sym e) v) ∙ resume-err limit 99 ws f after
 
-pub turn-scalar : (limit n after : ℕ) (xs : List Waiting) (ws : List Wait) (c : Frame) (i : ℕ) (front : Branches) (total : Numbered Tree) (k : List ℕ) (t : Tree) → Turn limit n xs ws c i front total → i < c.count → after ≡ n + 1
-    → Ok k ≡ found limit after (entry_key c i) (document_of (element_at c i)) → visit limit (99 - length ws) after (document_of (element_at c i)) ≡ Ok (t, after) → Turn limit after xs ws c (i + 1) (append front (branch k t no_branches)) total
+pub turn-scalar : {C : Type 0} {IsOf : C → Frame → Branches → Type 0} (limit n after : ℕ) (xs : List (Waiting C)) (ws : List Wait) (c : Frame) (i : ℕ) (front : Branches) (total : Numbered Tree) (k : List ℕ) (t : Tree) → Turn IsOf limit n xs ws c i front total → i < c.count → after ≡ n + 1
+    → Ok k ≡ found limit after (entry_key c i) (document_of (element_at c i)) → visit limit (99 - length ws) after (document_of (element_at c i)) ≡ Ok (t, after) → Turn IsOf limit after xs ws c (i + 1) (append front (branch k t no_branches)) total
 turn-scalar limit n after xs ws c i front total k t h lt next e v =
     record { waits = h.waits; rest = h.rest ∙ ap (λ (r : Numbered Branches). resume limit 99 ws (finish c r)) (goes_on limit (99 - length ws) n after c i front k t after lt next (sym e) v) }
 
-pub turn-push : (limit n after : ℕ) (xs : List Waiting) (ws : List Wait) (c : Frame) (i : ℕ) (front : Branches) (total : Numbered Tree) (k : List ℕ) (child : Frame) (x : Waiting) → Turn limit n xs ws c i front total → i < c.count → after ≡ n + 1
-    → Ok k ≡ found limit after (entry_key c i) (document_of (element_at c i)) → element_at c i ≡ Ok (nested child) → length ws < 99 → IsWait x (record { of = c; pos = i; key = k; front = front })
-    → Turn limit after (xs ++ x ∷ []) (ws ++ (record { of = c; pos = i; key = k; front = front }) ∷ []) child 0 no_branches total
+pub turn-push : {C : Type 0} {IsOf : C → Frame → Branches → Type 0} (limit n after : ℕ) (xs : List (Waiting C)) (ws : List Wait) (c : Frame) (i : ℕ) (front : Branches) (total : Numbered Tree) (k : List ℕ) (child : Frame) (x : Waiting C) → Turn IsOf limit n xs ws c i front total → i < c.count → after ≡ n + 1
+    → Ok k ≡ found limit after (entry_key c i) (document_of (element_at c i)) → element_at c i ≡ Ok (nested child) → length ws < 99 → IsWait IsOf x (record { of = c; pos = i; key = k; front = front })
+    → Turn IsOf limit after (xs ++ x ∷ []) (ws ++ (record { of = c; pos = i; key = k; front = front }) ∷ []) child 0 no_branches total
 turn-push limit n after xs ws c i front total k child x h lt next e is room wait =
     let w : Wait = record { of = c; pos = i; key = k; front = front } in
     let inner : visit limit (99 - length ws) after (document_of (element_at c i)) ≡ open_rest limit (99 - length ws - 1) after child 0 no_branches = rw is (opens limit (99 - length ws) after child (omega arith)) in
@@ -124,8 +124,8 @@ turn-push limit n after xs ws c i front total k child x h lt next e is room wait
           ∙ sym (resume-push limit 99 ws w (open_rest limit (99 - length (ws ++ w ∷ [])) after child 0 no_branches));
     }
 
-pub turn-pop : (limit n : ℕ) (xs : List Waiting) (x : Waiting) (ws : List Wait) (c : Frame) (i : ℕ) (front : Branches) (total : Numbered Tree) → Turn limit n (xs ++ x ∷ []) ws c i front total → c.count ≤ i
-    → (us : List Wait) × (w : Wait) × IsWait x w × Turn limit n xs us w.of (w.pos + 1) (append w.front (branch w.key (node c.is_array front) no_branches)) total
+pub turn-pop : {C : Type 0} {IsOf : C → Frame → Branches → Type 0} (limit n : ℕ) (xs : List (Waiting C)) (x : Waiting C) (ws : List Wait) (c : Frame) (i : ℕ) (front : Branches) (total : Numbered Tree) → Turn IsOf limit n (xs ++ x ∷ []) ws c i front total → c.count ≤ i
+    → (us : List Wait) × (w : Wait) × IsWait IsOf x w × Turn IsOf limit n xs us w.of (w.pos + 1) (append w.front (branch w.key (node c.is_array front) no_branches)) total
 turn-pop limit n xs x ws c i front total h le =
     let p = AreWaits-pop xs x ws h.waits in
     let t = node c.is_array front in (
@@ -138,40 +138,40 @@ turn-pop limit n xs x ws c i front total h le =
       },
     )
 
-pub turn-end : (limit n : ℕ) (ws : List Wait) (c : Frame) (i : ℕ) (front : Branches) (total : Numbered Tree) → Turn limit n [] ws c i front total → c.count ≤ i → total ≡ Ok (node c.is_array front, n)
-turn-end limit n ws c i front total h le =
-    h.rest ∙ ap (resume limit 99 ws) (closes limit (99 - length ws) n c i front le) ∙ ap (λ (us : List Wait). resume limit 99 us (Ok (node c.is_array front, n))) (AreWaits-none ws h.waits)
+pub turn-end : {C : Type 0} {IsOf : C → Frame → Branches → Type 0} (limit n : ℕ) (ws : List Wait) (c : Frame) (i : ℕ) (front : Branches) (total : Numbered Tree) → Turn IsOf limit n [] ws c i front total → c.count ≤ i → total ≡ Ok (node c.is_array front, n)
+turn-end {C} {IsOf} limit n ws c i front total h le =
+    h.rest ∙ ap (resume limit 99 ws) (closes limit (99 - length ws) n c i front le) ∙ ap (λ (us : List Wait). resume limit 99 us (Ok (node c.is_array front, n))) (AreWaits-none IsOf ws h.waits)
 
 -- ---- the same, of the code's values
 
-pub settle : (limit n : ℕ) (xs : List Waiting) (ws : List Wait) (c : Frame) (i : ℕ) (front : Branches) (total : Numbered Tree) (o : Open) → Turn limit n xs ws c i front total → IsOpen o c i front
-    → Turn limit n xs ws (frame o.container) o.pos front total × IsCollected o.collected (frame o.container) front
+pub settle : {C : Type 0} {IsOf : C → Frame → Branches → Type 0} (limit n : ℕ) (xs : List (Waiting C)) (ws : List Wait) (c : Frame) (i : ℕ) (front : Branches) (total : Numbered Tree) (o : Open C) → Turn IsOf limit n xs ws c i front total → IsOpen IsOf o c i front
+    → Turn IsOf limit n xs ws (frame o.container) o.pos front total × IsOf o.collected (frame o.container) front
 settle limit n xs ws c i front total o t h = rw (h.container, h.place) (t, h.collected)
 
-pub here : (o : Open) (front : Branches) → IsCollected o.collected (frame o.container) front → IsOpen o (frame o.container) o.pos front
+pub here : {C : Type 0} {IsOf : C → Frame → Branches → Type 0} (o : Open C) (front : Branches) → IsOf o.collected (frame o.container) front → IsOpen IsOf o (frame o.container) o.pos front
 here o front h = record { container = refl; place = refl; collected = h }
 
-pub turn-start-at : (limit n : ℕ) (xs : List Waiting) (c : Frame) → xs ≡ [] → Turn limit n xs [] c 0 no_branches (visit limit 100 n (document_of (Ok (nested c))))
+pub turn-start-at : {C : Type 0} {IsOf : C → Frame → Branches → Type 0} (limit n : ℕ) (xs : List (Waiting C)) (c : Frame) → xs ≡ [] → Turn IsOf limit n xs [] c 0 no_branches (visit limit 100 n (document_of (Ok (nested c))))
 turn-start-at limit n xs c e = rw e (turn-start limit n c)
 
-pub turn-end-at : (limit n : ℕ) (xs : List Waiting) (ws : List Wait) (c : Frame) (i : ℕ) (front : Branches) (total : Numbered Tree) → xs ≡ [] → Turn limit n xs ws c i front total → c.count ≤ i → total ≡ Ok (node c.is_array front, n)
+pub turn-end-at : {C : Type 0} {IsOf : C → Frame → Branches → Type 0} (limit n : ℕ) (xs : List (Waiting C)) (ws : List Wait) (c : Frame) (i : ℕ) (front : Branches) (total : Numbered Tree) → xs ≡ [] → Turn IsOf limit n xs ws c i front total → c.count ≤ i → total ≡ Ok (node c.is_array front, n)
 turn-end-at limit n xs ws c i front total e h le = turn-end limit n ws c i front total (rw e at h) le
 
-pub wait-room : (x : Waiting) (w : Wait) → IsWait x w → x.outer.pos < (frame x.outer.container).count
+pub wait-room : {C : Type 0} {IsOf : C → Frame → Branches → Type 0} (x : Waiting C) (w : Wait) → IsWait IsOf x w → x.outer.pos < (frame x.outer.container).count
 wait-room x w h = rw (h.open_at.container, h.open_at.place) h.room
 
-pub turn-deep : (limit n after : ℕ) (xs : List Waiting) (ws : List Wait) (c : Frame) (i : ℕ) (front : Branches) (total : Numbered Tree) (k : List ℕ) (child : Frame) → Turn limit n xs ws c i front total → i < c.count → after ≡ n + 1
+pub turn-deep : {C : Type 0} {IsOf : C → Frame → Branches → Type 0} (limit n after : ℕ) (xs : List (Waiting C)) (ws : List Wait) (c : Frame) (i : ℕ) (front : Branches) (total : Numbered Tree) (k : List ℕ) (child : Frame) → Turn IsOf limit n xs ws c i front total → i < c.count → after ≡ n + 1
     → Ok k ≡ found limit after (entry_key c i) (document_of (element_at c i)) → element_at c i ≡ Ok (nested child) → 99 ≤ length xs → total ≡ Err (NestingTooDeep, after)
 turn-deep limit n after xs ws c i front total k child h lt next e is full =
-    let none : 99 - length ws ≡ 0 = omega (arith, AreWaits-length xs ws h.waits) in
+    let none : 99 - length ws ≡ 0 = omega (arith, AreWaits-length _ xs ws h.waits) in
     let deep : visit limit (99 - length ws) after (document_of (element_at c i)) ≡ Err (NestingTooDeep, after) = rw (is, none) (visit-deep limit after child) in
     turn-fault-inside limit n after xs ws c i front total k NestingTooDeep h lt next e deep
 
-pub turn-fault-meets : (limit n after : ℕ) (xs : List Waiting) (ws : List Wait) (c : Frame) (i : ℕ) (front : Branches) (total : Numbered Tree) (f : Fault) → Turn limit n xs ws c i front total → i < c.count → after ≡ n + 1
-    → Err f ≡ found limit after (entry_key c i) (document_of (element_at c i)) → Meets IsTree (Err f) after total
+pub turn-fault-meets : {C : Type 0} {IsOf : C → Frame → Branches → Type 0} (limit n after : ℕ) (xs : List (Waiting C)) (ws : List Wait) (c : Frame) (i : ℕ) (front : Branches) (total : Numbered Tree) (f : Fault) → Turn IsOf limit n xs ws c i front total → i < c.count → after ≡ n + 1
+    → Err f ≡ found limit after (entry_key c i) (document_of (element_at c i)) → f ≢ Memory → total ≡ Err (f, after)
 turn-fault-meets limit n after xs ws c i front total f h lt next e = λ not. turn-fault limit n after xs ws c i front total f h lt next e
 
-pub turn-scalar-meets : (limit n after : ℕ) (xs : List Waiting) (ws : List Wait) (c : Frame) (i : ℕ) (front : Branches) (total : Numbered Tree) (k : List ℕ) (r : JsonbValue) (f : Fault) → Turn limit n xs ws c i front total → i < c.count → after ≡ n + 1
-    → Ok k ≡ found limit after (entry_key c i) (document_of (element_at c i)) → element_at c i ≡ Ok r → Meets IsTree (Err f) after (visit limit (99 - length ws) after (document_of (Ok r))) → Meets IsTree (Err f) after total
+pub turn-scalar-meets : {C : Type 0} {IsOf : C → Frame → Branches → Type 0} (limit n after : ℕ) (xs : List (Waiting C)) (ws : List Wait) (c : Frame) (i : ℕ) (front : Branches) (total : Numbered Tree) (k : List ℕ) (r : JsonbValue) (f : Fault) → Turn IsOf limit n xs ws c i front total → i < c.count → after ≡ n + 1
+    → Ok k ≡ found limit after (entry_key c i) (document_of (element_at c i)) → element_at c i ≡ Ok r → (f ≢ Memory → visit limit (99 - length ws) after (document_of (Ok r)) ≡ Err (f, after)) → f ≢ Memory → total ≡ Err (f, after)
 turn-scalar-meets limit n after xs ws c i front total k r f h lt next e is m =
     λ not. turn-fault-inside limit n after xs ws c i front total k f h lt next e (rw is (m not))

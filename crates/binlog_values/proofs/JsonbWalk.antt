@@ -1,5 +1,6 @@
 -- The steps of reading a document, as the code takes them.
-use Rattle.std.proofs.Common.{◌≡◌, ℕ, suc, ◌+◌, ◌-◌, ◌<◌, ◌≤◌, add-one, Bool, true, false, List, [], ◌∷◌, ◌++◌, Result, Ok, Err, Vec, BTreeMap, Global, String, string_bytes, string_cmp, Ordering, Less, Equal, Greater, refl, sym, ap, ◌∙◌, arith, rules}
+use Rattle.std.proofs.Common.{◌≡◌, ℕ, suc, ◌+◌, ◌-◌, ◌<◌, ◌≤◌, add-one, Bool, true, false, List, [], ◌∷◌, ◌++◌, Result, Ok, Err, Global, String, string_bytes, string_cmp, Ordering, Less, Equal, Greater, refl, sym, ap, ◌∙◌, arith, rules}
+use Rattle.std.specs.Prelude.{IsOk, ⊤}
 use Rattle.std.specs.BTreeMap.{insert_entry}
 use Rattle.std.specs.Ordering.{match_ordering}
 use Rattle.std.specs.Str.{IsUtf8, is_utf8}
@@ -10,13 +11,12 @@ use Rattle.binlog_base.specs.declared.fault.Fault.{Fault}
 use Rattle.binlog_base.specs.declared.fault.Fault.TheVariants.{InvalidUtf8, NestingTooDeep, TooManyValues}
 use Rattle.binlog_values.specs.declared.jsonb.dom.JsonDom.{JsonDom, the_lemmas}
 use Rattle.binlog_values.specs.declared.jsonb.dom.JsonDom.TheVariants as doms
-use Rattle.binlog_values.specs.declared.jsonb.dom.JsonContainer.TheVariants as containers
 use Rattle.binlog_values.specs.declared.jsonb.dom.JsonScalar.{JsonScalar}
-use Rattle.binlog_values.specs.JsonbValues.{Scalar, JsonbValue, scalar, nested, Frame, element_at}
-use Rattle.binlog_values.specs.JsonbTrees.{tree_scalar, text, text_scalar, entry_key, Tree, leaf, node, Branches, no_branches, branch, Data, plain, array, object, Items, no_items, item, Members, put, merged, merged_items, merged_into}
+use Rattle.binlog_values.specs.JsonbValues.{Scalar, Text, JsonbValue, scalar, nested, Frame, element_at}
+use Rattle.binlog_values.specs.JsonbTrees.{TreeScalar, tree_scalar, text, text_scalar, entry_key, Tree, leaf, node, Branches, no_branches, branch, Data, plain, Items, no_items, item, Members, put, merged, merged_items, merged_into}
 use Rattle.binlog_values.specs.JsonbDocuments.{entries_from, entries_of, document_of, in_limit, found}
 use Rattle.binlog_values.specs.Workings.JsonbVisits.{Numbered, numbered, ◌>>-◌, visit, visits, append, with_front, IsEntryFault}
-use Rattle.binlog_values.specs.JsonbDoms.{Meets, IsTree, IsScalarOf, scalar_view, dom_view, items_view, members_view}
+use Rattle.binlog_values.specs.JsonbDoms.{Meets, IsTree, IsScalarOf, IsChecked, scalar_view, dom_view, items_view, members_view}
 use Rattle.binlog_values.specs.JsonbContainers.{IsScalar}
 use Rattle.binlog_values.proofs.JsonbUnfolding.{document_is}
 
@@ -31,6 +31,14 @@ text_cases bytes false e h = refl
 
 pub text_refused : (bytes : List ℕ) → (IsUtf8 bytes → ⊥) → text_scalar bytes ≡ Err InvalidUtf8
 text_refused bytes h = rw (text_cases bytes (is_utf8 bytes) refl h) refl
+
+pub checked_text : (bytes : List ℕ) → IsUtf8 bytes → IsOk (tree_scalar (Text bytes))
+unfolding tree_scalar
+checked_text bytes h = rw (text_is bytes h) refl
+
+pub unchecked_text : (bytes : List ℕ) → (IsUtf8 bytes → ⊥) → tree_scalar (Text bytes) ≡ Err InvalidUtf8
+unfolding tree_scalar
+unchecked_text bytes h = text_refused bytes h
 
 -- ---- one position
 
@@ -64,12 +72,6 @@ visit-container limit levels n c lt =
 
 pub dom-Scalar : (p : JsonScalar) → dom_view (doms.Scalar p) ≡ plain (scalar_view p)
 dom-Scalar p = search (rules, the_lemmas)
-
-pub dom-Array : (v : Vec JsonDom Global) → dom_view (doms.Container (containers.Array v)) ≡ array (items_view v.items)
-dom-Array v = search (rules, the_lemmas)
-
-pub dom-Object : (m : BTreeMap (String Global) JsonDom) → dom_view (doms.Container (containers.Object m)) ≡ object (members_view m.entries)
-dom-Object m = search (rules, the_lemmas)
 
 -- ---- one entry after another
 
@@ -130,6 +132,15 @@ pub ok_scalar : (limit levels n : ℕ) (r v : JsonbValue) (p : JsonScalar) → v
 ok_scalar limit levels n r (scalar s) p e h is =
     (leaf (scalar_view p), dom-Scalar p, rw (← e, visit-scalar limit levels n s, is) refl)
 ok_scalar limit levels n r (nested c) p e h is = absurd h
+
+-- a scalar that was checked is one of a tree, or its fault is met
+pub checked_scalar : (limit levels n : ℕ) (s : Scalar) (r : Result (Unit {0}) Fault) → IsChecked r (tree_scalar s) → Meets (λ u t. ⊤) r n (visit limit levels n (document_of (Ok (scalar s))))
+checked_scalar limit levels n s (Ok u) is = by (tree_scalar s) refl is
+  where
+    by : (x : Result TreeScalar Fault) → tree_scalar s ≡ x → IsOk x → (t : Tree) × ⊤ × (visit limit levels n (document_of (Ok (scalar s))) ≡ Ok (t, n))
+    by (Ok p) e ok = (leaf p, tt, rw (visit-scalar limit levels n s, e) refl)
+    by (Err f) e ok = absurd (let bad : false ≡ true = ok in cc)
+checked_scalar limit levels n s (Err f) is = λ not. rw (visit-scalar limit levels n s, is not) refl
 
 -- ---- the entries
 

@@ -1,5 +1,5 @@
 -- What contracts see of a `JsonDom` and of its parts.
-use Rattle.std.specs.Prelude.{◌≡◌, ◌≢◌, ℕ, List, [], ◌∷◌, map, String, string_bytes, Result, Ok, Err}
+use Rattle.std.specs.Prelude.{◌≡◌, ◌≢◌, ℕ, List, [], ◌∷◌, map, String, string_bytes, Result, Ok, Err, IsOk}
 use Rattle.std.specs.declared.alloc.Global.{Global}
 use Rattle.binlog_base.specs.declared.fault.Fault.{Fault}
 use Rattle.binlog_base.specs.declared.fault.Fault.TheVariants.{Memory}
@@ -33,6 +33,11 @@ scalar_view (scalar.Opaque o) = opaque o.field_type o.value.items
 abbrev pub GivesScalar : Result JsonScalar Fault → Result TreeScalar Fault → Type 0
 GivesScalar (Ok s) r = r ≡ Ok (scalar_view s)
 GivesScalar (Err f) r = f ≢ Memory → r ≡ Err f
+
+-- the scalar is one of a tree, or this is its fault; or memory was refused
+abbrev pub IsChecked : Result (Unit {0}) Fault → Result TreeScalar Fault → Type 0
+IsChecked (Ok u) r = IsOk r
+IsChecked (Err f) r = f ≢ Memory → r ≡ Err f
 
 -- the answer is what the value is in a tree; the value is a scalar
 abbrev pub IsScalarOf : Result JsonScalar Fault → JsonbValue → Type 0

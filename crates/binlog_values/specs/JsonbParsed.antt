@@ -1,7 +1,8 @@
--- What `parse` promises.
-use Rattle.std.specs.Prelude.{◌≡◌, ◌≢◌, ℕ, ◌+◌, ◌<◌, ◌≤◌, Any, Bool, true, false, List, [], ◌∷◌, Some, IfErr, IfOk, IsOk, OnOk, Result, Ok, Err, ◌⊎◌}
+-- What `parse` and `check` promise.
+use Rattle.std.specs.Prelude.{◌≡◌, ◌≢◌, ℕ, ◌+◌, ◌<◌, ◌≤◌, Any, Bool, true, false, Some, IfErr, IfOk, IsOk, OnOk, Result, Ok, Err, ◌⊎◌}
 use Rattle.binlog_base.specs.declared.fault.Fault.{Fault}
 use Rattle.binlog_base.specs.declared.fault.Fault.TheVariants.{Memory, NestingTooDeep, TooManyValues}
+use Rattle.binlog_base.specs.declared.below.columns.column_type.ColumnType.TheVariants as column
 use Rattle.binlog_values.specs.declared.jsonb.dom.JsonDom.{JsonDom}
 use Rattle.binlog_values.specs.JsonbValues.{JsonbValue, scalar, nested, Text, Opaque}
 use Rattle.binlog_values.specs.JsonbTrees.{Tree, Denotes}
@@ -62,3 +63,20 @@ pub record Parsed (value : JsonbValue) (result : Result JsonDom Fault) (read : �
   pub bound : read ≤ limit_of value + 1
   pub unread : IsScalar value → read ≡ 0
   pub simple : is_simple value ≡ true → IsOk result
+
+-- an opaque value that is a decimal
+abbrev pub is_decimal : JsonbValue → Bool
+is_decimal (scalar (Opaque column.MYSQL_TYPE_NEWDECIMAL bytes)) = true
+is_decimal _ = false
+
+-- tree, limits: where it succeeds, the value denotes a tree, within both limits.
+-- given: it succeeds where the value denotes a tree within both limits, if memory isn't refused.
+-- fault: a fault is that of the first position in document order that has one.
+-- memory: of the scalars only a decimal takes memory.
+pub record Checked (value : JsonbValue) (result : Result (Unit {0}) Fault) (read : ℕ) : Type 0 where
+  pub tree : OnOk result ((t : Tree) × Denotes t (Ok value))
+  pub limits : OnOk result (IsWithinLimits value)
+  pub given : (t : Tree) → Denotes t (Ok value) → IsWithinLimits value → IfErr result (λ f. f ≡ Memory)
+  pub fault : IfErr result (λ f. f ≢ Memory →
+      first_fault (limit_of value) 0 (positions (document value)) ≡ Some (f, read))
+  pub memory : IsScalar value → result ≡ Err Memory → is_decimal value ≡ true

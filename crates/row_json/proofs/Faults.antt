@@ -3,10 +3,10 @@ use Rattle.std.proofs.Common.{◌≡◌, ◌<◌, ℕ, zero, suc, Bool, true, fa
 use Rattle.std.specs.Prelude.{Option, Some, None, Ok, slice_get}
 use Rattle.std.specs.Result.{result_err}
 use Rattle.binlog_base.specs.declared.fault.Fault.{Fault}
-use Rattle.binlog_values.specs.declared.jsonb.dom.JsonDom.{JsonDom}
 use Rattle.binlog_values.specs.JsonbValues.{JsonbValue}
 use Rattle.binlog_values.specs.JsonbDocuments.{document_of, limit_of, positions, first_fault}
-use Rattle.binlog_values.specs.JsonbParsed.{IsDenoted, IsWithinLimits}
+use Rattle.binlog_values.specs.JsonbTrees.{Tree, Denotes}
+use Rattle.binlog_values.specs.JsonbParsed.{IsWithinLimits}
 use Rattle.binlog_values.specs.JsonDiffs.{Diff}
 use Rattle.binlog_values.proofs.JsonbFirstFault.{walk_first}
 use Rattle.binlog_values.proofs.JsonbDenoting.{tree-given}
@@ -21,10 +21,10 @@ use Rattle.row_json.specs.Rows.{is_diffs}
 use Rattle.row_json.specs.Faults.{HasNone, IsFaultOfFirst, IsFaultOfBoth, IsFaultOf, IsFaultOfCell, IsFaultOfImage}
 use Rattle.row_json.proofs.Diffs.{any_at}
 
--- a document whose tree was given has no fault
-pub no_fault : (value : JsonbValue) (dom : JsonDom) → IsDenoted value dom → IsWithinLimits value → HasNone (IsFaultOf value)
-no_fault value dom t within = λ e w.
-    let given = tree-given t.0 (Ok value) (limit_of value) 100 0 t.1 within.0 (omega (arith, within.1)) in
+-- a document that denotes a tree has no fault
+pub no_fault : (value : JsonbValue) (t : Tree) → Denotes t (Ok value) → IsWithinLimits value → HasNone (IsFaultOf value)
+no_fault value t denoted within = λ e w.
+    let given = tree-given t (Ok value) (limit_of value) 100 0 denoted within.0 (omega (arith, within.1)) in
     let first : first_fault (limit_of value) 0 (positions (document_of (Ok value))) ≡ None = sym (walk_first (limit_of value) (document_of (Ok value))) ∙ ap result_err given in
     let is = w.1 in
     absurd (cc)

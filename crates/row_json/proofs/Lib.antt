@@ -3,6 +3,7 @@ pub mod Steps
 pub mod Floats
 pub mod Bytes
 pub mod Trees
+pub mod Walked
 pub mod Tables
 pub mod Flat
 pub mod Columns

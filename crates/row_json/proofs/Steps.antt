@@ -5,10 +5,10 @@ use Rattle.std.specs.List.{flat_map}
 use Rattle.std.proofs.lemmas.Grind.{flat_map-append}
 use Rattle.json.specs.Token.{Token}
 use Rattle.json.specs.Token as token
-use Rattle.json.specs.Json.{Json, array, object}
+use Rattle.json.specs.Json.{Json, object}
 use Rattle.json.specs.Tree.{json_tokens, items_tokens, members_tokens}
 use Rattle.json.specs.Written.{Written, Writes}
-use Rattle.row_json.specs.Wrote.{Adds, AddsSome, Wrote, Named, named_tokens, items_of, members_of, array_end, object_end}
+use Rattle.row_json.specs.Wrote.{Adds, AddsSome, Wrote, Named, named_tokens, items_of, members_of, object_end}
 
 -- two writes, one after the other
 pub adds_both : {a b c : Written} (ts us : List Token) → Adds a b ts → Adds b c us → Adds a c (ts ++ us)
@@ -40,6 +40,10 @@ pub adds_equal : {E : Type 0} (r : Result (Unit {0}) E) (a b : Written) (j k : J
 adds_equal (Ok _) a b j k e adds = adds_same (json_tokens j) (json_tokens k) (ap json_tokens e) adds
 adds_equal (Err _) a b j k e adds = tt
 
+-- the tokens of the items of an array, and its closing bracket
+abbrev pub array_end : List Json → List Token
+array_end js = flat_map json_tokens js ++ token.end_array ∷ []
+
 pub items_end : (js : List Json) → items_tokens (items_of js) ≡ array_end js
 items_end [] = refl
 items_end (j ∷ js) = ap (λ l. json_tokens j ++ l) (items_end js) ∙ sym (append_assoc (json_tokens j) _ _)
@@ -64,25 +68,6 @@ token_wrote (Err _) a b t j Is e w is = tt
 
 pub wrote_weaker : {a b : Written} (Is Be : Json → Type 0) → ((j : Json) → Is j → Be j) → Wrote Is a b → Wrote Be a b
 wrote_weaker Is Be f w = record { value = w.value; is = f w.value w.is; adds = w.adds }
-
--- an array or an object, once what follows its opening bracket was written
-pub wrote_array : {E : Type 0} (r : Result (Unit {0}) E) (a b d : Written) (Is : Json → Type 0) (P : List Json → Type 0) → Adds a b (token.begin_array ∷ []) →
-    ((js : List Json) → P js → Is (array (items_of js))) → OnOk r ((js : List Json) × P js × Adds b d (array_end js)) → OnOk r (Wrote Is a d)
-wrote_array (Ok _) a b d Is P begun is w = record {
-  value = array (items_of w.0);
-  is = is w.0 w.1;
-  adds = adds_same _ _ (ap (λ l. token.begin_array ∷ l) (sym (items_end w.0))) (adds_both _ _ begun w.2);
-}
-wrote_array (Err _) a b d Is P begun is w = tt
-
-pub wrote_object : {E : Type 0} (r : Result (Unit {0}) E) (a b d : Written) (Is : Json → Type 0) (P : List Named → Type 0) → Adds a b (token.begin_object ∷ []) →
-    ((ms : List Named) → P ms → Is (object (members_of ms))) → OnOk r ((ms : List Named) × P ms × Adds b d (object_end ms)) → OnOk r (Wrote Is a d)
-wrote_object (Ok _) a b d Is P begun is w = record {
-  value = object (members_of w.0);
-  is = is w.0 w.1;
-  adds = adds_same _ _ (ap (λ l. token.begin_object ∷ l) (sym (members_end w.0))) (adds_both _ _ begun w.2);
-}
-wrote_object (Err _) a b d Is P begun is w = tt
 
 -- ---- what stays
 

@@ -7,6 +7,7 @@ pub mod Floats
 pub mod Values
 pub mod Wrote
 pub mod Documents
+pub mod Workings
 pub mod Faults
 pub mod Rows
 pub mod Shown

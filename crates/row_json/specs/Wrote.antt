@@ -42,10 +42,7 @@ members_of (m ∷ ms) = member m.0 m.1 (members_of ms)
 abbrev pub Fits : List Named → Type 0
 Fits ms = depth (object (members_of ms)) ≤ max_depth
 
--- what comes after the opening bracket
-abbrev pub array_end : List Json → List Token
-array_end js = flat_map json_tokens js ++ token.end_array ∷ []
-
+-- the members of an object, and its closing bracket
 abbrev pub object_end : List Named → List Token
 object_end ms = flat_map named_tokens ms ++ token.end_object ∷ []
 

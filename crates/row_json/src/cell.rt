@@ -356,7 +356,7 @@ pub(crate) fn write_cell(
             Ok(write_lent_timestamp(text, out, column, *timestamp)?)
         }
         LentCell::Decimal(decimal) => Ok(write_decimal(text, out, column, decimal)?),
-        LentCell::Json(document) => write_document(alloc, text, out, document.value()),
+        LentCell::Json(document) => write_document(alloc, text, out, &document.value()),
         LentCell::Diffs(_) => Ok(out.null()?),
     }
 }

@@ -1,26 +1,32 @@
 //! Documents of binary JSON, and their diffs, as JSON.
 #![tactic(auto, using(crate::proofs::Steps::stays))]
 
-ghost use Rattle.std.specs.Prelude.{◌≡◌, ◌≢◌, List, OnOk, IfErr, ◌++◌};
+ghost use Rattle.std.specs.Prelude.{◌≡◌, ◌≢◌, true, false, List, OnOk, IfOk, IfErr, ◌++◌};
 ghost use Rattle.std.specs.String.{string_bytes};
 ghost use Rattle.std.specs.List.{flat_map};
-ghost use Rattle.json.specs.Json.{Json};
-ghost use Rattle.json.specs.Token.{end_array, end_object};
+ghost use Rattle.std.specs.Option.{option_map};
+ghost use Rattle.binlog_base.specs.Items.{result_map};
+ghost use Rattle.binlog_values.specs.JsonbElements.{elem_in};
+ghost use Rattle.std.specs.Str.Lossy.{utf8_lossy};
+ghost use Rattle.json.specs.Json.{string as json_string};
 ghost use Rattle.binlog_base.specs.declared.fault.Fault.TheVariants as Fault;
-ghost use Rattle.binlog_values.specs.JsonbDoms.{number_view, scalar_view, dom_view, items_view, members_view};
+ghost use Rattle.binlog_values.specs.JsonbContainers.{IsScalar};
+ghost use Rattle.binlog_values.specs.JsonbDoms.{number_view, scalar_view, dom_view};
+ghost use Rattle.binlog_values.specs.JsonbTrees.{TreeScalar, plain, node, no_members, merged_into};
 ghost use Rattle.binlog_values.specs.JsonbViews.{view_of};
 ghost use Rattle.row_json.specs.Faults.{HasNone, IsFaultOf, IsFaultOfValue, IsFaultOfDiffs};
-ghost use Rattle.row_json.specs.Wrote.{Wrote, Adds, Named, named_tokens, array_end, object_end, AddsSome};
-ghost use Rattle.row_json.specs.Documents.{time_text, IsScalarJson, IsDataJson, AreItems, AreMembers, IsDocumentJson, operation_name, place_tokens, IsDiffValue, IsDiffJson, IsDiffsJson};
+ghost use Rattle.row_json.specs.Wrote.{Wrote, Adds, Named, named_tokens, AddsSome};
+ghost use Rattle.row_json.specs.Workings.Walked.{OfValue, OfElement, OfEntries, OfKey, OfIndexed, Indexes, AreIndexed, WroteTree, WroteItems, WroteIndexed, IsMemory};
+ghost use Rattle.row_json.specs.Documents.{time_text, IsScalarJson, IsDocumentJson, operation_name, place_tokens, IsDiffValue, IsDiffJson, IsDiffsJson};
 
 use crate::float::write_double;
 use crate::text::write_number_or_string;
 use binlog_base::fault::Fault;
-use binlog_values::jsonb::{JsonContainer, JsonDom, JsonNumber, JsonScalar, Value};
+use binlog_values::jsonb::{JsonDom, JsonNumber, JsonScalar, JsonbString, ObjectKey, Value};
 use binlog_values::jsondiff::{JsonDiff, JsonDiffOperation};
 use binlog_values::time::MysqlTime;
 use json::Writer;
-use mysql_binlog_rows::value::LentDiffs;
+use mysql_binlog_rows::value::{LentDiffs, LentJson};
 use std::alloc::{AllocError, Global};
 use std::collections::BTreeMap;
 use std::fmt::Write;
@@ -76,86 +82,230 @@ fn write_scalar(text: &mut String, out: &mut Writer, scalar: &JsonScalar) -> Res
     }
 }
 
-#[cycle(write_tree)]
-fn write_tree(text: &mut String, out: &mut Writer, tree: &JsonDom) -> Result<(), AllocError>
-    ensures written { OnOk result (Wrote (IsDataJson (dom_view tree.now)) out.old out.new) }
+// Writes a string, with `U+FFFD` in place of what isn't UTF-8.
+fn write_string(alloc: Global, out: &mut Writer, string: &JsonbString<'_>) -> Result<(), AllocError>
+    ensures written { OnOk result (Wrote (λ j. j ≡ json_string (utf8_lossy string.now))
+        out.old out.new) }
+    ensures stays { AddsSome out.old out.new }
+{
+    let string = string.str(alloc)?;
+    out.string(string.as_str())
+}
+
+// Writes the tree of a scalar.
+fn write_leaf(text: &mut String, out: &mut Writer, tree: &JsonDom) -> Result<(), AllocError>
+    ensures written { OnOk result ((s : TreeScalar) → dom_view tree.now ≡ plain s
+        → Wrote (IsScalarJson s) out.old out.new) }
     ensures stays { AddsSome out.old out.new }
 {
     match tree {
         JsonDom::Scalar(scalar) => write_scalar(text, out, scalar),
-        JsonDom::Container(container) => write_container(text, out, container),
+        JsonDom::Container(_) => Ok(()),
     }
 }
 
-#[cycle(write_tree)]
-fn write_container(
-    text: &mut String,
-    out: &mut Writer,
-    container: &JsonContainer,
-) -> Result<(), AllocError>
-    ensures written { OnOk result (Wrote
-        (IsDataJson (dom_view (JsonDom.Container container.now))) out.old out.new) }
-    ensures stays { AddsSome out.old out.new }
-{
-    match container {
-        JsonContainer::Array(items) => {
-            out.begin_array()?;
-            write_items(text, out, items)
-        }
-        JsonContainer::Object(members) => {
-            out.begin_object()?;
-            write_members(text, out, members)
-        }
-    }
-}
-
-#[cycle(write_tree)]
-fn write_items(text: &mut String, out: &mut Writer, items: &Vec<JsonDom>) -> Result<(), AllocError>
-    ensures written { OnOk result ((js : List Json) × AreItems (items_view items.now.items) js
-        × Adds out.old out.new (array_end js)) }
-    ensures stays { AddsSome out.old out.new }
-{
-    for item in items {
-        write_tree(text, out, item)?;
-    }
-    out.end_array()
-}
-
-#[cycle(write_tree)]
-fn write_members(
-    text: &mut String,
-    out: &mut Writer,
-    members: &BTreeMap<String, JsonDom>,
-) -> Result<(), AllocError>
-    ensures written { OnOk result ((js : List Named) × AreMembers (members_view members.now.entries) js
-        × Adds out.old out.new (object_end js)) }
-    ensures stays { AddsSome out.old out.new }
-{
-    for (key, member) in members.iter() {
-        out.key(key.as_str())?;
-        write_tree(text, out, member)?;
-    }
-    out.end_object()
-}
-
-/// Writes a document by its tree.
-pub(crate) fn write_document(
+// Writes a value that is no container.
+fn write_single(
     alloc: Global,
     text: &mut String,
     out: &mut Writer,
-    document: Value<'_>,
+    value: &Value<'_>,
 ) -> Result<(), Fault>
-    ensures written { OnOk result (Wrote (IsDocumentJson (view_of document.entry)) out.old out.new) }
-    ensures err { IfErr result (λ e. e ≢ Fault.Memory → IsFaultOf (view_of document.entry) e) }
-    ensures sound { OnOk result (HasNone (IsFaultOf (view_of document.entry))) }
+    requires { IsScalar (view_of value.now) }
+    ensures written { OnOk result (OfValue (view_of value.now) (WroteTree out.old out.new)) }
+    ensures memory { IfErr result (λ f. OfValue (view_of value.now) (λ t. IsMemory f)) }
     ensures stays { AddsSome out.old out.new }
 {
-    let tree = document.parse(alloc)?;
-    Ok(write_tree(text, out, &tree)?)
+    if let Value::String(string) = value {
+        return Ok(write_string(alloc, out, string)?);
+    }
+    let tree = value.lent().parse(alloc)?;
+    Ok(write_leaf(text, out, &tree)?)
 }
 
-// Writes a document that is kept.
-fn write_kept_document(
+// Writes a value. Where it denotes no tree, nothing is promised.
+#[cycle(write_value)]
+fn write_value(
+    alloc: Global,
+    text: &mut String,
+    out: &mut Writer,
+    value: &Value<'_>,
+) -> Result<(), Fault>
+    ensures written { OnOk result (OfValue (view_of value.now) (WroteTree out.old out.new)) }
+    ensures memory { IfErr result (λ f. OfValue (view_of value.now) (λ t. IsMemory f)) }
+    ensures stays { AddsSome out.old out.new }
+{
+    match value.element_count() {
+        None => write_single(alloc, text, out, value),
+        Some(count) => {
+            if value.is_array() {
+                write_array(alloc, text, out, value, count)
+            } else {
+                write_object(alloc, text, out, value, count)
+            }
+        }
+    }
+}
+
+#[cycle(write_value)]
+fn write_array(
+    alloc: Global,
+    text: &mut String,
+    out: &mut Writer,
+    array: &Value<'_>,
+    count: u32,
+) -> Result<(), Fault>
+    ensures written { OnOk result (OfEntries (view_of array.now) count
+        (λ c bs. c.is_array ≡ true → WroteTree out.old out.new (node true bs))) }
+    ensures memory { IfErr result (λ f. OfEntries (view_of array.now) count (λ c bs. IsMemory f)) }
+    ensures stays { AddsSome out.old out.new }
+{
+    out.begin_array()?;
+    write_items(alloc, text, out, array, count)?;
+    Ok(out.end_array()?)
+}
+
+#[cycle(write_value)]
+fn write_items(
+    alloc: Global,
+    text: &mut String,
+    out: &mut Writer,
+    array: &Value<'_>,
+    count: u32,
+) -> Result<(), Fault>
+    ensures written { OnOk result (OfEntries (view_of array.now) count
+        (λ c bs. WroteItems out.old out.new bs)) }
+    ensures memory { IfErr result (λ f. OfEntries (view_of array.now) count (λ c bs. IsMemory f)) }
+    ensures stays { AddsSome out.old out.new }
+{
+    let mut pos = 0;
+    while pos < count {
+        write_element(alloc, text, out, array, pos)?;
+        pos += 1;
+    }
+    Ok(())
+}
+
+// Keeps an index under a key.
+fn keep(
+    alloc: Global,
+    members: &mut BTreeMap<String, u32>,
+    key: &ObjectKey<'_>,
+    pos: u32,
+) -> Result<(), Fault>
+    ensures kept { OnOk result (Indexes members.old.entries members.new.entries pos key.now) }
+    ensures memory { IfErr result IsMemory }
+{
+    let text = key.value(alloc)?;
+    let name = text.into_owned(alloc)?;
+    drop(members.insert(name, pos)?);
+    Ok(())
+}
+
+// Keeps the index of an entry under its key.
+fn keep_entry(
+    alloc: Global,
+    members: &mut BTreeMap<String, u32>,
+    object: &Value<'_>,
+    pos: u32,
+) -> Result<(), Fault>
+    ensures kept { OnOk result (OfKey (view_of object.now) pos
+        (Indexes members.old.entries members.new.entries pos)) }
+    ensures memory { IfErr result (λ f. OfKey (view_of object.now) pos (λ key. IsMemory f)) }
+{
+    match LentJson::of(object).key_at(pos)? {
+        Some(key) => keep(alloc, members, &key, pos),
+        None => Ok(()),
+    }
+}
+
+// Returns the members of an object: for each key the index of its value, of equal keys the last one.
+fn members_of(alloc: Global, object: &Value<'_>, count: u32) -> Result<BTreeMap<String, u32>, Fault>
+    ensures kept { IfOk result (λ members. OfEntries (view_of object.now) count
+        (λ c bs. c.is_array ≡ false → AreIndexed c members.entries (merged_into no_members bs))) }
+    ensures memory { IfErr result (λ f. OfEntries (view_of object.now) count
+        (λ c bs. c.is_array ≡ false → IsMemory f)) }
+{
+    let mut members = BTreeMap::new(alloc);
+    let mut pos = 0;
+    while pos < count {
+        keep_entry(alloc, &mut members, object, pos)?;
+        pos += 1;
+    }
+    Ok(members)
+}
+
+#[cycle(write_value)]
+fn write_object(
+    alloc: Global,
+    text: &mut String,
+    out: &mut Writer,
+    object: &Value<'_>,
+    count: u32,
+) -> Result<(), Fault>
+    ensures written { OnOk result (OfEntries (view_of object.now) count
+        (λ c bs. c.is_array ≡ false → WroteTree out.old out.new (node false bs))) }
+    ensures memory { IfErr result (λ f. OfEntries (view_of object.now) count
+        (λ c bs. c.is_array ≡ false → IsMemory f)) }
+    ensures stays { AddsSome out.old out.new }
+{
+    let members = members_of(alloc, object, count)?;
+    out.begin_object()?;
+    write_members(alloc, text, out, object, &members)?;
+    Ok(out.end_object()?)
+}
+
+#[cycle(write_value)]
+fn write_members(
+    alloc: Global,
+    text: &mut String,
+    out: &mut Writer,
+    object: &Value<'_>,
+    members: &BTreeMap<String, u32>,
+) -> Result<(), Fault>
+    ensures written { OnOk result (OfIndexed (view_of object.now) members.now.entries
+        (WroteIndexed out.old out.new)) }
+    ensures memory { IfErr result (λ f. OfIndexed (view_of object.now) members.now.entries
+        (λ ms. IsMemory f)) }
+    ensures stays { AddsSome out.old out.new }
+{
+    for (name, pos) in members.iter() {
+        out.key(name.as_str())?;
+        write_element(alloc, text, out, object, *pos)?;
+    }
+    Ok(())
+}
+
+// Returns an element of a container; `None` where there is none.
+fn element_of<'a>(container: &'a Value<'_>, pos: u32) -> Result<Option<Value<'a>>, Fault>
+    ensures { result_map (option_map view_of) result ≡ elem_in (view_of container.now) pos }
+{
+    LentJson::of(container).elem_at(pos)
+}
+
+// Writes an element of a container; nothing, if there is none.
+#[cycle(write_value)]
+fn write_element(
+    alloc: Global,
+    text: &mut String,
+    out: &mut Writer,
+    container: &Value<'_>,
+    pos: u32,
+) -> Result<(), Fault>
+    ensures written { OnOk result (OfElement (view_of container.now) pos
+        (WroteTree out.old out.new)) }
+    ensures memory { IfErr result (λ f. OfElement (view_of container.now) pos (λ t. IsMemory f)) }
+    ensures stays { AddsSome out.old out.new }
+{
+    match element_of(container, pos)? {
+        Some(element) => write_value(alloc, text, out, &element),
+        None => Ok(()),
+    }
+}
+
+/// Checks a document, and then writes it from its bytes. In memory are the keys of the objects around
+/// the place that is written, each with an index, and one scalar.
+pub(crate) fn write_document(
     alloc: Global,
     text: &mut String,
     out: &mut Writer,
@@ -166,7 +316,8 @@ fn write_kept_document(
     ensures sound { OnOk result (HasNone (IsFaultOf (view_of document.now))) }
     ensures stays { AddsSome out.old out.new }
 {
-    write_document(alloc, text, out, document.clone(alloc)?)
+    document.check(alloc)?;
+    write_value(alloc, text, out, document)
 }
 
 fn operation_name(operation: JsonDiffOperation) -> &'static str
@@ -209,7 +360,7 @@ fn write_diff_value(
         None => Ok(()),
         Some(value) => {
             out.key("value")?;
-            write_kept_document(alloc, text, out, value)?;
+            write_document(alloc, text, out, value)?;
             Ok(())
         }
     }

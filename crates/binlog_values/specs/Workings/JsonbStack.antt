@@ -41,21 +41,22 @@ abbrev pub IsCollected : Collected → Frame → Branches → Type 0
 IsCollected (Items v) c front = (c.is_array ≡ true) × (items_view v.items ≡ merged_items front)
 IsCollected (Members m) c front = (c.is_array ≡ false) × (members_view m.entries ≡ merged_into no_members front)
 
--- an open container, with the entries before pos
-pub record IsOpen (o : Open) (c : Frame) (pos : ℕ) (front : Branches) : Type 0 where
+-- the open container of the code is c, read up to pos, and what it collected is of the entries before
+-- pos
+pub record IsOpen {C : Type 0} (IsOf : C → Frame → Branches → Type 0) (o : Open C) (c : Frame) (pos : ℕ) (front : Branches) : Type 0 where
   pub container : frame o.container ≡ c
   pub place : o.pos ≡ pos
-  pub collected : IsCollected o.collected c front
+  pub collected : IsOf o.collected c front
 
 -- the waiting container of the code is this one
-pub record IsWait (x : Waiting) (w : Wait) : Type 0 where
-  pub open_at : IsOpen x.outer w.of w.pos w.front
+pub record IsWait {C : Type 0} (IsOf : C → Frame → Branches → Type 0) (x : Waiting C) (w : Wait) : Type 0 where
+  pub open_at : IsOpen IsOf x.outer w.of w.pos w.front
   pub key : x.key.now ≡ w.key
   pub room : w.pos < w.of.count
 
 -- the waiting containers of the code are these
-abbrev pub AreWaits : List Waiting → List Wait → Type 0
-AreWaits [] [] = ⊤
-AreWaits [] (w ∷ ws) = ⊥
-AreWaits (x ∷ xs) [] = ⊥
-AreWaits (x ∷ xs) (w ∷ ws) = IsWait x w × AreWaits xs ws
+abbrev pub AreWaits : {C : Type 0} → (C → Frame → Branches → Type 0) → List (Waiting C) → List Wait → Type 0
+AreWaits IsOf [] [] = ⊤
+AreWaits IsOf [] (w ∷ ws) = ⊥
+AreWaits IsOf (x ∷ xs) [] = ⊥
+AreWaits IsOf (x ∷ xs) (w ∷ ws) = IsWait IsOf x w × AreWaits IsOf xs ws

@@ -1,19 +1,20 @@
 //! Reads a value whole, with a limit on nested containers and one on values.
 
-ghost use Rattle.std.specs.Prelude.{◌≡◌, ◌≤◌, ◌<◌, ◌+◌, ◌^◌, ℕ, Ok, IfOk, OnOk, IfErr};
+ghost use Rattle.std.specs.Prelude.{◌≡◌, ◌≤◌, ◌<◌, ◌+◌, ◌/◌, ◌^◌, ℕ, length, Ok, IfOk, OnOk, IfErr};
 ghost use Rattle.binlog_base.specs.Items.{result_map};
 ghost use Rattle.binlog_values.specs.JsonbValues.{element_at};
 ghost use Rattle.binlog_values.specs.JsonbViews.{view_of};
 ghost use Rattle.binlog_values.specs.JsonbTrees.{entry_key};
 ghost use Rattle.binlog_values.specs.JsonbDocuments.{document_of, found};
+ghost use Rattle.binlog_values.specs.JsonbHeaders.{IsWhole};
 ghost use Rattle.binlog_values.specs.JsonbContainers.{frame, node_view};
 ghost use Rattle.binlog_values.specs.Workings.JsonbVisits.{IsEntryFault};
-ghost use Rattle.binlog_values.specs.JsonbParsed.{Parsed};
+ghost use Rattle.binlog_values.specs.JsonbParsed.{Parsed, Checked};
 
 use super::container::{Container, Node};
 use super::dom::JsonDom;
-use super::scalar::scalar_of;
-use super::stack::read_container;
+use super::scalar::{check_scalar, scalar_of};
+use super::stack::{Collected, Nothing, read_container};
 use super::value::Value;
 use binlog_base::fault::Fault;
 use std::alloc::Global;
@@ -60,6 +61,14 @@ pub(super) fn position_in_limit<'a>(
     Ok(entry)
 }
 
+// Returns how many values may be inside a root container: one for three of its bytes.
+fn limit_of(root: &Container<'_>) -> u64
+    ensures limit { result ≡ length (frame root.now).bytes / 3 }
+    ensures whole { IsWhole (frame root.now) }
+{
+    root.len() as u64 / 3
+}
+
 // Reads a value whole, and counts the positions that are read, the root not counted.
 fn read_value(alloc: Global, value: &Value<'_>, counter: &mut u64) -> Result<JsonDom, Fault>
     requires { counter.old ≡ 0 }
@@ -67,10 +76,24 @@ fn read_value(alloc: Global, value: &Value<'_>, counter: &mut u64) -> Result<Jso
 {
     match Node::of(value) {
         Node::Container(root) => {
-            let limit = root.len() as u64 / 3;
-            read_container(alloc, root, limit, counter)
+            let limit = limit_of(&root);
+            read_container::<Collected>(alloc, root, limit, counter)
         }
         Node::Scalar(scalar) => Ok(JsonDom::Scalar(scalar_of(alloc, scalar)?)),
+    }
+}
+
+// Reads a value whole, and makes nothing of it.
+fn check_value(alloc: Global, value: &Value<'_>, counter: &mut u64) -> Result<(), Fault>
+    requires { counter.old ≡ 0 }
+    ensures { Checked (view_of value.now) result counter.new }
+{
+    match Node::of(value) {
+        Node::Container(root) => {
+            let limit = limit_of(&root);
+            read_container::<Nothing>(alloc, root, limit, counter)
+        }
+        Node::Scalar(scalar) => check_scalar(alloc, scalar),
     }
 }
 
@@ -115,5 +138,16 @@ impl<'a> Value<'a> {
         ensures { Parsed (view_of self.entry) result.0 result.1 }
     {
         read_counted(alloc, &self)
+    }
+
+    /// Reads the value with all that is inside it, as `parse` does, and fails as `parse` fails, but
+    /// makes no tree. It takes memory only for the list of the containers around a position, of which
+    /// there are at most 100, and for a decimal while that is read. A string is looked at again for
+    /// each entry that refers to it.
+    pub fn check(&self, alloc: Global) -> Result<(), Fault>
+        ensures { (read : ℕ) × Checked (view_of self.now) result read }
+    {
+        let mut counter = 0;
+        check_value(alloc, self, &mut counter)
     }
 }

@@ -1,11 +1,12 @@
 //! Scalars of a tree.
 
-ghost use Rattle.std.specs.Prelude.{◌≡◌, true, IsOk};
-ghost use Rattle.binlog_values.specs.JsonbValues.{scalar};
-ghost use Rattle.binlog_values.specs.JsonbTrees.{packed_number, opaque_scalar, text_scalar};
+ghost use Rattle.std.specs.Prelude.{◌≡◌, true, IsOk, Err};
+ghost use Rattle.binlog_base.specs.declared.fault.Fault.TheVariants.{Memory};
+ghost use Rattle.binlog_values.specs.JsonbValues.{scalar, Opaque};
+ghost use Rattle.binlog_values.specs.JsonbTrees.{packed_number, opaque_scalar, text_scalar, tree_scalar};
 ghost use Rattle.binlog_values.specs.JsonbContainers.{lent_scalar};
-ghost use Rattle.binlog_values.specs.JsonbDoms.{GivesScalar, IsScalarOf};
-ghost use Rattle.binlog_values.specs.JsonbParsed.{is_simple};
+ghost use Rattle.binlog_values.specs.JsonbDoms.{GivesScalar, IsScalarOf, IsChecked};
+ghost use Rattle.binlog_values.specs.JsonbParsed.{is_simple, is_decimal};
 
 use super::container::LentScalar;
 use super::dom::{JsonNumber, JsonScalar};
@@ -64,6 +65,45 @@ fn string_scalar(alloc: Global, bytes: &[u8]) -> Result<JsonScalar, Fault>
     match text_of(bytes) {
         Some(text) => Ok(JsonScalar::String(String::from_str(alloc, text)?)),
         None => Err(Fault::InvalidUtf8),
+    }
+}
+
+// Fails with the fault of an opaque value.
+#[tactic(auto, unfolding(crate::specs::JsonbTrees::opaque_scalar))]
+fn check_opaque(alloc: Global, field_type: ColumnType, bytes: &[u8]) -> Result<(), Fault>
+    ensures checked { IsChecked result (opaque_scalar field_type bytes.now) }
+    ensures memory { result ≡ Err Memory → is_decimal (scalar (Opaque field_type bytes.now)) ≡ true }
+{
+    match field_type {
+        ColumnType::MYSQL_TYPE_NEWDECIMAL => {
+            drop(Decimal::read_packed(alloc, &mut ParseBuf(bytes), false)?);
+            Ok(())
+        }
+        ColumnType::MYSQL_TYPE_DATE
+        | ColumnType::MYSQL_TYPE_TIME
+        | ColumnType::MYSQL_TYPE_DATETIME
+        | ColumnType::MYSQL_TYPE_TIMESTAMP => {
+            let _ = packed_number(bytes)?;
+            Ok(())
+        }
+        _ => Ok(()),
+    }
+}
+
+// Fails where a scalar has a fault in a tree. It makes no copy of a string or an opaque value.
+#[tactic(auto, unfolding(crate::specs::JsonbTrees::tree_scalar))]
+#[inline(always)]
+pub(super) fn check_scalar(alloc: Global, value: LentScalar<'_>) -> Result<(), Fault>
+    ensures checked { IsChecked result (tree_scalar (lent_scalar value.entry)) }
+    ensures memory { result ≡ Err Memory → is_decimal (scalar (lent_scalar value.entry)) ≡ true }
+{
+    match value {
+        LentScalar::Text(text) => match text_of(text) {
+            Some(_) => Ok(()),
+            None => Err(Fault::InvalidUtf8),
+        },
+        LentScalar::Opaque(field_type, bytes) => check_opaque(alloc, field_type, bytes),
+        _ => Ok(()),
     }
 }
 

@@ -4,9 +4,9 @@ ghost use Rattle.std.specs.Prelude.{◌≡◌, ◌<◌, ◌+◌, ◌^◌, ◌≤
 ghost use Rattle.std.specs.Str.Lossy.{utf8_lossy};
 ghost use Rattle.binlog_base.specs.declared.fault.Fault.TheVariants.{Memory};
 ghost use Rattle.binlog_values.specs.JsonbValues.{Frame, scalar, nested};
-ghost use Rattle.binlog_values.specs.JsonbTrees.{Tree, node, Branches, no_branches, branch};
+ghost use Rattle.binlog_values.specs.JsonbTrees.{Tree, Branches, no_branches, branch};
 ghost use Rattle.binlog_values.specs.JsonbDocuments.{document_of};
-ghost use Rattle.binlog_values.specs.JsonbContainers.{frame, lent_scalar};
+ghost use Rattle.binlog_values.specs.JsonbContainers.{frame};
 ghost use Rattle.binlog_values.specs.Workings.JsonbVisits.{visit, append};
 ghost use Rattle.binlog_values.specs.JsonbDoms.{IsTree, Meets};
 ghost use Rattle.binlog_values.specs.Workings.JsonbStack.{IsOpen, IsCollected};
@@ -15,7 +15,7 @@ ghost use Rattle.binlog_values.specs.declared.jsonb.stack.Collected.TheVariants 
 use super::container::{Container, LentScalar, Node};
 use super::dom::{JsonContainer, JsonDom};
 use super::parse::position_in_limit;
-use super::scalar::scalar_of;
+use super::scalar::{check_scalar, scalar_of};
 use super::text::text_of;
 use binlog_base::fault::Fault;
 use std::alloc::Global;
@@ -37,7 +37,49 @@ fn key_text(alloc: Global, key: &[u8]) -> Result<String, Fault>
     }
 }
 
-// What was read of a container.
+// What is made of the entries of a container, one after the other.
+pub(super) trait Collect: Sized {
+    ghost use Rattle.std.specs.Prelude.{◌≡◌, ℕ, Ok, OnOk, IfErr};
+    ghost use Rattle.binlog_base.specs.declared.fault.Fault.TheVariants.{Memory};
+    ghost use Rattle.binlog_values.specs.JsonbValues.{Frame, scalar};
+    ghost use Rattle.binlog_values.specs.JsonbTrees.{Tree, node, Branches, no_branches, branch};
+    ghost use Rattle.binlog_values.specs.JsonbDocuments.{document_of};
+    ghost use Rattle.binlog_values.specs.JsonbContainers.{lent_scalar};
+    ghost use Rattle.binlog_values.specs.JsonbDoms.{Meets};
+    ghost use Rattle.binlog_values.specs.Workings.JsonbVisits.{visit, append};
+
+    // What is made of a value.
+    type Value;
+
+    // It was made of a value that denotes this tree.
+    ghost Is: { Self.Value → Tree → Type 0 };
+
+    // It was made of these first entries of a container.
+    ghost IsOf: { Self → Frame → Branches → Type 0 };
+
+    // Begins a container.
+    fn begin(alloc: Global, is_array: bool) -> Self
+        ensures { (c : Frame) → c.is_array ≡ is_array → IsOf result c no_branches };
+
+    // Makes a value of a scalar.
+    fn of_scalar(alloc: Global, value: LentScalar<'_>) -> Result<Self::Value, Fault>
+        ensures { (limit levels n : ℕ) → Meets Is result n
+            (visit limit levels n (document_of (Ok (scalar (lent_scalar value.entry))))) };
+
+    // Adds an entry.
+    fn add(&mut self, alloc: Global, key: &[u8], value: Self::Value) -> Result<(), Fault>
+        ensures entry { OnOk result ((c : Frame) (front : Branches) (t : Tree)
+            → IsOf self.old c front
+            → Is value t → IsOf self.new c (append front (branch key.now t no_branches))) }
+        ensures memory { IfErr result (λ f. f ≡ Memory) };
+
+    // Makes a value of the container.
+    fn finish(self) -> Self::Value
+        ensures { (c : Frame) (front : Branches) → IsOf self c front
+            → Is result (node c.is_array front) };
+}
+
+// The entries of a container, as trees.
 #[derive(Drop)]
 pub(super) enum Collected {
     Items(Vec<JsonDom>),
@@ -63,50 +105,85 @@ fn add_member(
     Ok(())
 }
 
-impl Collected {
-    // Returns the tree of the container.
-    fn into_dom(self) -> JsonDom
-        ensures { (c : Frame) (front : Branches) → IsCollected self c front
-            → IsTree result (node c.is_array front) }
-    {
-        match self {
-            Collected::Items(items) => JsonDom::Container(JsonContainer::Array(items)),
-            Collected::Members(members) => JsonDom::Container(JsonContainer::Object(members)),
+impl Collect for Collected {
+    type Value = JsonDom;
+
+    ghost Is = { IsTree };
+
+    ghost IsOf = { IsCollected };
+
+    fn begin(alloc: Global, is_array: bool) -> Collected {
+        if is_array {
+            Collected::Items(Vec::new(alloc))
+        } else {
+            Collected::Members(BTreeMap::new(alloc))
         }
     }
 
-    // Adds an entry.
     #[inline(always)]
-    fn add(&mut self, alloc: Global, key: &[u8], value: JsonDom) -> Result<(), Fault>
-        ensures entry { OnOk result ((c : Frame) (front : Branches) (t : Tree)
-            → IsCollected self.old c front
-            → IsTree value t → IsCollected self.new c (append front (branch key.now t no_branches))) }
-        ensures memory { IfErr result (λ f. f ≡ Memory) }
-    {
+    fn of_scalar(alloc: Global, value: LentScalar<'_>) -> Result<JsonDom, Fault> {
+        Ok(JsonDom::Scalar(scalar_of(alloc, value)?))
+    }
+
+    #[inline(always)]
+    fn add(&mut self, alloc: Global, key: &[u8], value: JsonDom) -> Result<(), Fault> {
         match self {
             Collected::Items(items) => Ok(items.push(value)?),
             Collected::Members(members) => add_member(alloc, members, key, value),
         }
     }
+
+    fn finish(self) -> JsonDom {
+        match self {
+            Collected::Items(items) => JsonDom::Container(JsonContainer::Array(items)),
+            Collected::Members(members) => JsonDom::Container(JsonContainer::Object(members)),
+        }
+    }
+}
+
+// Nothing is made of the entries: they are read, that is all.
+#[derive(Drop)]
+pub(super) struct Nothing;
+
+impl Collect for Nothing {
+    ghost use Rattle.std.specs.Prelude.{⊤};
+
+    type Value = ();
+
+    ghost Is = { λ u t. ⊤ };
+
+    ghost IsOf = { λ n c front. ⊤ };
+
+    fn begin(_alloc: Global, _is_array: bool) -> Nothing {
+        Nothing
+    }
+
+    #[inline(always)]
+    fn of_scalar(alloc: Global, value: LentScalar<'_>) -> Result<(), Fault> {
+        check_scalar(alloc, value)
+    }
+
+    #[inline(always)]
+    fn add(&mut self, _alloc: Global, _key: &[u8], _value: ()) -> Result<(), Fault> {
+        Ok(())
+    }
+
+    fn finish(self) {}
 }
 
 // A container whose entries before `pos` are read.
 #[derive(Drop)]
-pub(super) struct Open<'a> {
+pub(super) struct Open<'a, C> {
     container: Container<'a>,
     pos: u32,
-    collected: Collected,
+    collected: C,
 }
 
-impl<'a> Open<'a> {
-    fn new(alloc: Global, container: Container<'a>) -> Open<'a>
-        ensures { IsOpen result (frame container.entry) 0 no_branches }
+impl<'a, C: Collect + Drop> Open<'a, C> {
+    fn new(alloc: Global, container: Container<'a>) -> Open<'a, C>
+        ensures { IsOpen C.IsOf result (frame container.entry) 0 no_branches }
     {
-        let collected = if container.is_array() {
-            Collected::Items(Vec::new(alloc))
-        } else {
-            Collected::Members(BTreeMap::new(alloc))
-        };
+        let collected = C::begin(alloc, container.is_array());
         Open {
             container,
             pos: 0,
@@ -116,12 +193,12 @@ impl<'a> Open<'a> {
 
     // Adds the entry at `pos`.
     #[inline(always)]
-    fn add(&mut self, alloc: Global, key: &[u8], value: JsonDom) -> Result<(), Fault>
+    fn add(&mut self, alloc: Global, key: &[u8], value: C::Value) -> Result<(), Fault>
         requires { self.old.pos < (frame self.old.container).count }
         ensures open { OnOk result ((c : Frame) (pos : ℕ) (front : Branches) (t : Tree)
-            → IsOpen self.old c pos front
-            → IsTree value t
-            → IsOpen self.new c (pos + 1) (append front (branch key.now t no_branches))) }
+            → IsOpen C.IsOf self.old c pos front
+            → C.Is value t
+            → IsOpen C.IsOf self.new c (pos + 1) (append front (branch key.now t no_branches))) }
         ensures memory { IfErr result (λ f. f ≡ Memory) }
     {
         self.collected.add(alloc, key, value)?;
@@ -134,37 +211,28 @@ impl<'a> Open<'a> {
 
 // A container that waits for the value of the entry at `pos`, and that entry's key.
 #[derive(Drop)]
-pub(super) struct Waiting<'a> {
-    outer: Open<'a>,
+pub(super) struct Waiting<'a, C> {
+    outer: Open<'a, C>,
     key: &'a [u8],
-}
-
-// Returns a scalar as a tree.
-#[inline(always)]
-fn scalar_dom(alloc: Global, value: LentScalar<'_>) -> Result<JsonDom, Fault>
-    ensures { (limit levels n : ℕ) → Meets IsTree result n
-        (visit limit levels n (document_of (Ok (scalar (lent_scalar value.entry))))) }
-{
-    Ok(JsonDom::Scalar(scalar_of(alloc, value)?))
 }
 
 // Reads a container whole, with at most `limit` values; `counter` counts the positions that were
 // read.
-pub(super) fn read_container(
+pub(super) fn read_container<C: Collect + Drop>(
     alloc: Global,
     root: Container<'_>,
     limit: u64,
     counter: &mut u64,
-) -> Result<JsonDom, Fault>
+) -> Result<C::Value, Fault>
     requires room { counter.old ≤ limit }
     requires limit { limit < 2 ^ 62 }
-    ensures tree { Meets IsTree result counter.new
+    ensures tree { Meets C.Is result counter.new
         (visit limit 100 counter.old (document_of (Ok (nested (frame root.entry))))) }
     ensures kept { OnOk result (counter.new ≤ limit) }
     ensures bound { counter.new ≤ limit + 1 }
 {
-    let mut waiting: Vec<Waiting<'_>> = Vec::new(alloc);
-    let mut current = Open::new(alloc, root);
+    let mut waiting: Vec<Waiting<'_, C>> = Vec::new(alloc);
+    let mut current: Open<'_, C> = Open::new(alloc, root);
     loop {
         if current.pos >= current.container.element_count() {
             let Open {
@@ -172,20 +240,20 @@ pub(super) fn read_container(
                 pos: _,
                 collected,
             } = current;
-            let dom = collected.into_dom();
+            let value = collected.finish();
             match waiting.pop() {
-                None => return Ok(dom),
+                None => return Ok(value),
                 Some(Waiting { outer, key }) => {
                     current = outer;
-                    current.add(alloc, key, dom)?;
+                    current.add(alloc, key, value)?;
                 }
             }
         } else {
             let (key, value) = position_in_limit(&current.container, current.pos, limit, counter)?;
             match value {
                 Node::Scalar(scalar) => {
-                    let dom = scalar_dom(alloc, scalar)?;
-                    current.add(alloc, key, dom)?;
+                    let made = C::of_scalar(alloc, scalar)?;
+                    current.add(alloc, key, made)?;
                 }
                 Node::Container(inner) => {
                     if waiting.len() >= MAX_WAITING {

@@ -14,11 +14,13 @@ fn json(bytes: &[u8]) -> Result<Value<'_>, Fault> {
     ParseBuf(bytes).parse(())
 }
 
-/// Returns whether `parse_counted` gives this tree, or this fault, and reads `count` positions.
+/// Returns whether `parse_counted` gives this tree, or this fault, and reads `count` positions, and
+/// `check` gives the same fault or none.
 fn is_parsed(alloc: Global, bytes: &[u8], text: &str, count: u64) -> Result<bool, Fault> {
     let (dom, read) = json(bytes)?.parse_counted(alloc);
     let shown = format!(in alloc; "{dom:?}")?;
-    Ok(shown.as_str() == text && read == count)
+    let checked = json(bytes)?.check(alloc);
+    Ok(shown.as_str() == text && read == count && checked.err() == dom.err())
 }
 
 /// `[[[], []], [[], []]]`, where two entries share each inner array.
@@ -280,7 +282,7 @@ pub(super) fn nested(alloc: Global, depth: u16, entries: u8) -> Result<Vec<u8>, 
 }
 
 /// Returns whether `parse_counted` of nested arrays gives this fault, or a tree if `fault` is
-/// `None`, and reads `count` positions.
+/// `None`, and reads `count` positions, and `check` the same.
 fn nest(
     alloc: Global,
     depth: u16,
@@ -294,7 +296,7 @@ fn nest(
 {
     let bytes = nested(alloc, depth, entries)?;
     let (dom, read) = json(&bytes)?.parse_counted(alloc);
-    Ok(dom.err() == fault && read == count)
+    Ok(dom.err() == fault && json(&bytes)?.check(alloc).err() == fault && read == count)
 }
 
 #[test]

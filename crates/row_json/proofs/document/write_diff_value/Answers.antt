@@ -7,9 +7,9 @@ use Rattle.row_json.proofs.Steps.{adds_both, adds_same}
 use Rattle.binlog_values.specs.JsonbViews.{view_of}
 use Rattle.row_json.proofs.document.write_diff_value.Goals as goal
 
-pub returns-in_ok-write_kept_document-in-Some-clause-written : goal.returns-in_ok-write_kept_document-in-Some-clause-written
-returns-in_ok-write_kept_document-in-Some-clause-written c =
-    let w = c.in_ok-write_kept_document-in-Some.ensures.written in
+pub returns-in_ok-write_document-in-Some-clause-written : goal.returns-in_ok-write_document-in-Some-clause-written
+returns-in_ok-write_document-in-Some-clause-written c =
+    let w = c.in_ok-write_document-in-Some.ensures.written in
     let e : c.args.diff.now.value ≡ Some (view_of c.in-Some.value.now) = search rules in
     rw e (
       (codes "value", w.value) ∷ [],
@@ -18,7 +18,7 @@ returns-in_ok-write_kept_document-in-Some-clause-written c =
           (adds_both (token.key (codes "value") ∷ []) (json_tokens w.value) (record { before = c.key.ensures.room.0; tokens = c.in_ok-key-in-Some.ensures.ok }) w.adds),
     )
 
-pub returns-in_ok-write_kept_document-in-Some-clause-sound : goal.returns-in_ok-write_kept_document-in-Some-clause-sound
-returns-in_ok-write_kept_document-in-Some-clause-sound c =
+pub returns-in_ok-write_document-in-Some-clause-sound : goal.returns-in_ok-write_document-in-Some-clause-sound
+returns-in_ok-write_document-in-Some-clause-sound c =
     let e : c.args.diff.now.value ≡ Some (view_of c.in-Some.value.now) = search rules in
-    rw e c.in_ok-write_kept_document-in-Some.ensures.sound
+    rw e c.in_ok-write_document-in-Some.ensures.sound

@@ -1,4 +1,4 @@
-use Rattle.std.proofs.Common.{◌≡◌, ◌/◌, sym, ap, refl, ℕ}
+use Rattle.std.proofs.Common.{◌≡◌, sym, refl}
 use Rattle.std.proofs.lemmas.Result.{err_from_is_err_and}
 use Rattle.binlog_values.specs.JsonbValues.{JsonbValue, scalar}
 use Rattle.binlog_values.specs.JsonbViews.{view_of}
@@ -19,8 +19,8 @@ returns-in_err-scalar_of-in-Scalar c =
 pub returns-in-Container : goal.returns-in-Container
 returns-in-Container c =
     let root = frame c.in-Container.root in
-    let limit = c.len.result / 3 in
-    parsed_container (view_of c.args.value.now) root limit c.read_container.new.counter c.read_container.result (sym c.in-Container.ensures) (ap (λ (n : ℕ). n / 3) c.len.ensures.len) c.len.ensures.whole c.read_container.ensures.bound c.read_container.ensures.kept (rw c.requires at c.read_container.ensures.tree)
+    let limit = c.limit_of-limit.result in
+    parsed_container (view_of c.args.value.now) root limit c.read_container.new.counter c.read_container.result (sym c.in-Container.ensures) c.limit_of-limit.ensures.limit c.limit_of-limit.ensures.whole c.read_container.ensures.bound c.read_container.ensures.kept (rw c.requires at c.read_container.ensures.tree)
 
 pub returns-in_ok-scalar_of-in-Scalar : goal.returns-in_ok-scalar_of-in-Scalar
 returns-in_ok-scalar_of-in-Scalar c =

@@ -2,7 +2,7 @@ use Rattle.std.proofs.Common.{◌+◌, ℕ, ap}
 use Rattle.binlog_values.proofs.jsonb.stack.Open.add.Goals as goal
 
 pub returns-clause-open : goal.returns-clause-open
-returns-clause-open c = λ of pos front t h is.
+returns-clause-open g c = λ of pos front t h is.
     record {
       container = h.container;
       place = ap (λ (n : ℕ). n + 1) h.place;

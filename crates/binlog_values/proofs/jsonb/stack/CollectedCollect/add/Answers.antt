@@ -1,5 +1,5 @@
 use Rattle.binlog_values.proofs.JsonbStacked.{collected-item}
-use Rattle.binlog_values.proofs.jsonb.stack.Collected.add.Goals as goal
+use Rattle.binlog_values.proofs.jsonb.stack.CollectedCollect.add.Goals as goal
 
 pub returns-in_ok-push-in-Items-clause-entry : goal.returns-in_ok-push-in-Items-clause-entry
 returns-in_ok-push-in-Items-clause-entry c = λ of front t h is.

@@ -3,7 +3,7 @@ use Rattle.std.proofs.lemmas.Result.{err_from_is_err_and}
 use Rattle.binlog_values.specs.JsonbValues.{JsonbValue, scalar}
 use Rattle.binlog_values.specs.JsonbContainers.{lent_scalar}
 use Rattle.binlog_values.proofs.JsonbWalk.{err_scalar, ok_scalar}
-use Rattle.binlog_values.proofs.jsonb.stack.scalar_dom.Goals as goal
+use Rattle.binlog_values.proofs.jsonb.stack.CollectedCollect.of_scalar.Goals as goal
 
 pub returns-in_err-scalar_of : goal.returns-in_err-scalar_of
 returns-in_err-scalar_of c = λ limit levels n.

@@ -1,0 +1,2 @@
+-- What the code keeps, and what is written by that. No text is defined by it.
+pub mod Walked

@@ -4,6 +4,8 @@ pub mod Filters
 pub mod Letters
 pub mod Counted
 pub mod Gtids
+pub mod Gaps
+pub mod Lacks
 pub mod Origins
 pub mod Sources
 pub mod Fits

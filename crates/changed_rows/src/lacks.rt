@@ -1,5 +1,8 @@
 //! What a table map event doesn't say of the columns.
 
+ghost use Rattle.std.specs.Prelude.{◌≡◌};
+ghost use Rattle.changed_rows.specs.Lacks.{is_whole, has_numbers, has_signs, has_names, lack_of};
+
 use binlog_base::below::ColumnType;
 use binlog_table::table_map::{OptionalMetadataField, TableColumns, TableMapEvent};
 
@@ -12,15 +15,10 @@ pub enum Lack {
     Names,
 }
 
-// Which fields a table map event has.
-#[derive(Clone, Copy)]
-struct Fields {
-    signs: bool,
-    names: bool,
-}
-
 // Returns whether a type is one of whole numbers.
-fn is_whole(column_type: ColumnType) -> bool {
+fn is_whole(column_type: ColumnType) -> bool
+    ensures { result ≡ is_whole column_type }
+{
     matches!(
         column_type,
         ColumnType::MYSQL_TYPE_TINY
@@ -32,7 +30,9 @@ fn is_whole(column_type: ColumnType) -> bool {
 }
 
 // Returns whether a table has a column of whole numbers.
-fn has_whole_numbers(table: &TableMapEvent<'_>) -> bool {
+fn has_numbers(table: &TableMapEvent<'_>) -> bool
+    ensures { result ≡ has_numbers table.now }
+{
     for column in TableColumns::new(table) {
         match column {
             Ok(column) if is_whole(column.column_type) => return true,
@@ -42,28 +42,37 @@ fn has_whole_numbers(table: &TableMapEvent<'_>) -> bool {
     false
 }
 
-// Returns which fields a table map event has.
-fn fields_of(table: &TableMapEvent<'_>) -> Fields {
-    let mut fields = Fields {
-        signs: false,
-        names: false,
-    };
+// Returns whether a table map event says which columns are unsigned.
+fn has_signs(table: &TableMapEvent<'_>) -> bool
+    ensures { result ≡ has_signs table.now }
+{
     for field in table.iter_optional_meta() {
-        match field {
-            Ok(OptionalMetadataField::Signedness(_)) => fields.signs = true,
-            Ok(OptionalMetadataField::ColumnName(_)) => fields.names = true,
-            _ => {}
+        if let Ok(OptionalMetadataField::Signedness(_)) = field {
+            return true;
         }
     }
-    fields
+    false
+}
+
+// Returns whether a table map event names the columns.
+fn has_names(table: &TableMapEvent<'_>) -> bool
+    ensures { result ≡ has_names table.now }
+{
+    for field in table.iter_optional_meta() {
+        if let Ok(OptionalMetadataField::ColumnName(_)) = field {
+            return true;
+        }
+    }
+    false
 }
 
 /// Returns what a table map event lacks.
-pub fn lack_of(table: &TableMapEvent<'_>) -> Option<Lack> {
-    let fields = fields_of(table);
-    if !fields.signs && has_whole_numbers(table) {
+pub fn lack_of(table: &TableMapEvent<'_>) -> Option<Lack>
+    ensures { result ≡ lack_of table.now }
+{
+    if !has_signs(table) && has_numbers(table) {
         Some(Lack::Signs)
-    } else if !fields.names {
+    } else if !has_names(table) {
         Some(Lack::Names)
     } else {
         None

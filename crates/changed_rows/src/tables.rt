@@ -8,6 +8,7 @@ use crate::table::Table;
 use binlog_kept::generations::{Found, Generations, Weighed};
 use binlog_table::table_map::TableMapEvent;
 use std::alloc::{AllocError, Global};
+use std::marker::Model;
 
 /// How many bytes what is kept of tables takes at most, beside what is kept of the last one.
 const MOST_BYTES: usize = 24 * 1024 * 1024;
@@ -26,6 +27,18 @@ impl Weighed for Table {
 pub struct KeptTables {
     stored: Generations<Table>,
     last: Option<Table>,
+}
+
+impl Model for KeptTables {
+    ghost use Rattle.std.specs.Prelude.{◌≡◌, ◌*◌};
+    ghost use Rattle.changed_rows.specs.Tables.{TablesKept};
+
+    ghost Value = { TablesKept };
+
+    ghost view = { λ k. record { stored = k.stored; last = k.last } };
+
+    // What is stored takes no more than its bound (`Generations`), which stays the same.
+    ghost invariant = { λ k. k.stored.most ≡ 24 * 1024 * 1024 };
 }
 
 impl KeptTables {

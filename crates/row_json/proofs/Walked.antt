@@ -1,13 +1,13 @@
 -- Documents that are written from their bytes.
-use Rattle.std.proofs.Common.{◌≡◌, ℕ, zero, suc, ◌+◌, ◌<◌, ◌≤◌, List, [], ◌∷◌, ◌++◌, Result, Ok, Err, Ordering, Less, Equal, Greater, refl, sym, ap, subst, ◌∙◌, arith, add-zero}
+use Rattle.std.proofs.Common.{◌≡◌, ℕ, zero, suc, ◌+◌, ◌<◌, ◌≤◌, ℤ, List, [], ◌∷◌, ◌++◌, Result, Ok, Err, Ordering, Less, Equal, Greater, refl, sym, ap, subst, ◌∙◌, arith, add-zero}
 use Rattle.std.specs.Prelude.{String, string_bytes, string_cmp, length, Bool, true, false, if◌then◌else◌}
 use Rattle.std.specs.BTreeMap.{insert_entry}
 use Rattle.std.specs.Ordering.{match_ordering}
 use Rattle.std.specs.Str.Lossy.{utf8_lossy}
 use Rattle.std.specs.declared.alloc.Global.{Global}
 use Rattle.binlog_base.specs.declared.fault.Fault.{Fault}
-use Rattle.binlog_values.specs.JsonbValues.{Frame, Scalar, Text, JsonbValue, scalar, nested, element_at, key_at, count_in, is_array}
-use Rattle.binlog_values.specs.JsonbTrees.{TreeScalar, text, tree_scalar, entry_key, Tree, leaf, node, Branches, no_branches, branch, Data, plain, Members, no_members, member, put, merged, merged_items, merged_into, Denotes, DenoteFrom}
+use Rattle.binlog_values.specs.JsonbValues.{Frame, Scalar, Null, Boolean, I16, U16, I32, U32, I64, U64, F64, Text, JsonbValue, scalar, nested, element_at, key_at, count_in, is_array}
+use Rattle.binlog_values.specs.JsonbTrees.{TreeScalar, null, boolean, int, uint, double, text, tree_scalar, entry_key, Tree, leaf, node, Branches, no_branches, branch, Data, plain, Members, no_members, member, put, merged, merged_items, merged_into, Denotes, DenoteFrom}
 use Rattle.binlog_values.specs.JsonbDocuments.{size_of, depth, weight}
 use Rattle.binlog_values.specs.JsonbContainers.{IsScalar}
 use Rattle.binlog_values.specs.JsonbDoms.{dom_view, IsTree}
@@ -25,8 +25,11 @@ use Rattle.binlog_values.proofs.JsonbUnfolding.{element_shorter, document_is}
 use Rattle.binlog_values.proofs.JsonbWalk.{merged_into-append}
 use Rattle.json.specs.Json as json
 use Rattle.json.specs.Json.{Json}
-use Rattle.json.specs.Written.{Written}
+use Rattle.json.specs.Token.{Token}
+use Rattle.json.specs.Tree.{json_tokens}
+use Rattle.json.specs.Written.{Written, Writes}
 use Rattle.row_json.specs.Wrote.{Wrote, Named}
+use Rattle.row_json.proofs.Steps.{token_wrote}
 use Rattle.row_json.specs.Documents.{IsScalarJson, IsDataJson, AreItems, AreMembers}
 use Rattle.row_json.specs.Workings.Walked.{OfValue, OfElement, OfEntries, OfKey, AreIndexed, WroteTree, IsMemory}
 
@@ -177,6 +180,54 @@ wrote_string bytes v old new is w = λ t denoted.
     let s = text_cases bytes l.0 (is_utf8 bytes) refl l.2 in
     subst (λ (x : Tree). Wrote (IsDataJson (merged x)) old new) (sym (l.1 ∙ ap leaf s.0))
     (record { value = w.value; is = w.is ∙ ap json.string s.1; adds = w.adds })
+
+-- a scalar that has this in its tree was written
+pub wrote_plain : (s : Scalar) (p : TreeScalar) (v : JsonbValue) (old new : Written) → v ≡ scalar s → tree_scalar s ≡ Ok p → Wrote (IsScalarJson p) old new → OfValue v (WroteTree old new)
+wrote_plain s p v old new is plainly wrote = λ t denoted.
+    let l = leaf_of s t (subst (λ (x : JsonbValue). Denotes t (Ok x)) is denoted) in
+    let same : p ≡ l.0 = cc in
+    subst (λ (x : Tree). Wrote (IsDataJson (merged x)) old new) (sym (l.1 ∙ ap leaf (sym same))) wrote
+
+-- the same for one that is a single token
+pub wrote_token : {E : Type 0} {r : Unit {0}} (s : Scalar) (p : TreeScalar) (v : JsonbValue) (old new : Written) (token : Token) (j : Json) → v ≡ scalar s → tree_scalar s ≡ Ok p → json_tokens j ≡ token ∷ [] → Writes {E = E} (Ok r) old new token → IsScalarJson p j → OfValue v (WroteTree old new)
+wrote_token {r = r} s p v old new token j is plainly one wrote shown = wrote_plain s p v old new is plainly (token_wrote (Ok r) old new token j (IsScalarJson p) one wrote shown)
+
+-- what the plain scalars are in a tree
+pub of_null : tree_scalar Null ≡ Ok null
+unfolding tree_scalar
+of_null = refl
+
+pub of_boolean : (b : Bool) → tree_scalar (Boolean b) ≡ Ok (boolean b)
+unfolding tree_scalar
+of_boolean b = refl
+
+pub of_i16 : (n : ℤ) → tree_scalar (I16 n) ≡ Ok (int n)
+unfolding tree_scalar
+of_i16 n = refl
+
+pub of_u16 : (n : ℕ) → tree_scalar (U16 n) ≡ Ok (uint n)
+unfolding tree_scalar
+of_u16 n = refl
+
+pub of_i32 : (n : ℤ) → tree_scalar (I32 n) ≡ Ok (int n)
+unfolding tree_scalar
+of_i32 n = refl
+
+pub of_u32 : (n : ℕ) → tree_scalar (U32 n) ≡ Ok (uint n)
+unfolding tree_scalar
+of_u32 n = refl
+
+pub of_i64 : (n : ℤ) → tree_scalar (I64 n) ≡ Ok (int n)
+unfolding tree_scalar
+of_i64 n = refl
+
+pub of_u64 : (n : ℕ) → tree_scalar (U64 n) ≡ Ok (uint n)
+unfolding tree_scalar
+of_u64 n = refl
+
+pub of_f64 : (bits : ℕ) → tree_scalar (F64 bits) ≡ Ok (double bits)
+unfolding tree_scalar
+of_f64 bits = refl
 
 -- a scalar's tree was written
 pub wrote_leaf : (v : JsonbValue) (dom : JsonDom) (old new : Written) → IsScalar v → ((t : Tree) → Denotes t (Ok v) → IsWithinLimits v → IsTree dom t) → ((s : TreeScalar) → dom_view dom ≡ plain s → Wrote (IsScalarJson s) old new) → OfValue v (WroteTree old new)

@@ -104,7 +104,23 @@ fn write_leaf(text: &mut String, out: &mut Writer, tree: &JsonDom) -> Result<(),
     }
 }
 
-// Writes a value that is no container.
+// Writes an opaque value by its tree.
+fn write_opaque(
+    alloc: Global,
+    text: &mut String,
+    out: &mut Writer,
+    value: &Value<'_>,
+) -> Result<(), Fault>
+    requires { IsScalar (view_of value.now) }
+    ensures written { OnOk result (OfValue (view_of value.now) (WroteTree out.old out.new)) }
+    ensures memory { IfErr result (λ f. OfValue (view_of value.now) (λ t. IsMemory f)) }
+    ensures stays { AddsSome out.old out.new }
+{
+    let tree = value.lent().parse(alloc)?;
+    Ok(write_leaf(text, out, &tree)?)
+}
+
+// Writes a value that is no container. Most are literals, numbers and strings, which need no tree.
 fn write_single(
     alloc: Global,
     text: &mut String,
@@ -116,11 +132,19 @@ fn write_single(
     ensures memory { IfErr result (λ f. OfValue (view_of value.now) (λ t. IsMemory f)) }
     ensures stays { AddsSome out.old out.new }
 {
-    if let Value::String(string) = value {
-        return Ok(write_string(alloc, out, string)?);
+    match value {
+        Value::Null => Ok(out.null()?),
+        Value::Bool(value) => Ok(out.boolean(*value)?),
+        Value::I16(number) => Ok(out.i64(i64::from(*number))?),
+        Value::U16(number) => Ok(out.u64(u64::from(*number))?),
+        Value::I32(number) => Ok(out.i64(i64::from(*number))?),
+        Value::U32(number) => Ok(out.u64(u64::from(*number))?),
+        Value::I64(number) => Ok(out.i64(*number)?),
+        Value::U64(number) => Ok(out.u64(*number)?),
+        Value::F64(bits) => Ok(write_double(out, *bits)?),
+        Value::String(string) => Ok(write_string(alloc, out, string)?),
+        _ => write_opaque(alloc, text, out, value),
     }
-    let tree = value.lent().parse(alloc)?;
-    Ok(write_leaf(text, out, &tree)?)
 }
 
 // Writes a value. Where it denotes no tree, nothing is promised.
@@ -280,7 +304,13 @@ fn write_members(
 fn element_of<'a>(container: &'a Value<'_>, pos: u32) -> Result<Option<Value<'a>>, Fault>
     ensures { result_map (option_map view_of) result ≡ elem_in (view_of container.now) pos }
 {
-    LentJson::of(container).elem_at(pos)
+    match container {
+        Value::SmallArray(array) => array.elem_at(pos),
+        Value::LargeArray(array) => array.elem_at(pos),
+        Value::SmallObject(object) => object.elem_at(pos),
+        Value::LargeObject(object) => object.elem_at(pos),
+        _ => Ok(None),
+    }
 }
 
 // Writes an element of a container; nothing, if there is none.

@@ -10,6 +10,7 @@ pub mod AskedFollowed
 pub mod ChangesCollected
 pub mod Filled
 pub mod RawRead
+pub mod EventErrors
 pub mod EventRead
 pub mod Sized
 pub mod SourceFollowed

@@ -1,8 +1,8 @@
 -- Reading the changes of a file from a source, one at a time.
-use Rattle.std.specs.Prelude.{◌≡◌, ℕ, ◌+◌, ◌-◌, ◌*◌, ◌^◌, ◌<◌, Bool, true, false, if◌then◌else◌, List, [], length, Result, Option, Some}
+use Rattle.std.specs.Prelude.{◌≡◌, ℕ, IfSome, ◌+◌, ◌-◌, ◌*◌, ◌^◌, ◌<◌, Bool, true, false, if◌then◌else◌, List, [], length, Result, Option, Some, None}
 use Rattle.binlog_events.specs.declared.error.FileError.{FileError}
 use Rattle.binlog_file.specs.Events.{Place}
-use Rattle.binlog_file.specs.Stream.{Kept, Reading, IsOutside}
+use Rattle.binlog_file.specs.Stream.{Kept, Reading, IsOutside, IsNotReader, count_after, CountsItem}
 use Rattle.binlog_file.specs.declared.lent_changes.LentEvent.{LentEvent}
 use Rattle.binlog_file.specs.LentEvents.{NextEvent, PassesOver, NextAsked}
 use Rattle.binlog_file.specs.Changes.{Wanted, Change, Spot, spot, TakeGives, ChangeGives, count, LessensTo}
@@ -42,6 +42,22 @@ items_left r pending = 2 * turns r + count pending
 pub record SourceSteps (wanted : Wanted) (old : Option (List ℕ)) (r : Reading) (p : Option FileError) (item : Option (Result Change FileError)) (new : Option (List ℕ)) (s : Reading) (q : Option FileError) : Type 0 where
   pub gives : SourceGives wanted old r p item new s q
   pub lessens : LessensTo (items_left r p) item (items_left s q)
+
+-- ---- counting the failures of the source
+
+-- no failure of the source waits to be told: an error that is pending is another
+abbrev pub AreTold : Option FileError → Type 0
+AreTold pending = IfSome pending (λ e. IsNotReader e.error)
+
+-- An item that is Reader adds one to the source's count of failures, and any other item, or none, leaves
+-- the count as it is. So each failure is told by the call that it comes in.
+abbrev pub CountsNext : {X : Type 0} → Option FileError → Option (Result X FileError) → Option FileError → ℕ → ℕ → Type 0
+CountsNext p item q old new = AreTold p → CountsItem item old new × AreTold q
+
+-- the same where the error is kept as pending
+abbrev pub CountsPending : Option FileError → ℕ → ℕ → Type 0
+CountsPending None old new = new ≡ old
+CountsPending (Some e) old new = new ≡ count_after e.error old
 
 -- ---- events whose pairs of rows are lent
 

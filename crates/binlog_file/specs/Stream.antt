@@ -3,6 +3,7 @@
 use Rattle.std.specs.Prelude.{◌≡◌, ◌≢◌, ◌↔◌, ℕ, ◌+◌, ◌-◌, ◌^◌, ◌<◌, ◌≤◌, min, Bool, true, false, IsTrue, List, [], length, Result, Ok, Err, IsErr, Option, Some, None, ◌⊎◌}
 use Rattle.std.specs.Io.KnownBytes.{Consumes, IsAtEnd}
 use Rattle.binlog_base.specs.Sources.{IsLeft}
+use Rattle.binlog_base.specs.Failures.{one_more_failure}
 use Rattle.binlog_events.specs.declared.error.EventError.{EventError}
 use Rattle.binlog_events.specs.declared.error.EventError.TheVariants as error
 use Rattle.binlog_events.specs.declared.error.FileError.{FileError}
@@ -20,6 +21,35 @@ pub record Fills (n : ℕ) (old new : Option (List ℕ)) (bytes : List ℕ) : Ty
 -- the source failed, or memory was refused
 abbrev pub IsOutside : EventError → Type 0
 IsOutside e = (e ≡ error.Reader) ⊎ (e ≡ error.Memory)
+
+-- ---- counting the failures of a source
+
+-- the error isn't that of a source that failed
+abbrev pub IsNotReader : EventError → Type 0
+IsNotReader e = e ≢ error.Reader
+
+-- the count of failures after an error: only Reader adds one
+abbrev pub count_after : EventError → ℕ → ℕ
+count_after error.Reader old = one_more_failure old
+count_after _ old = old
+
+-- A call that answers Reader adds one to its source's count of failures. Any other answer leaves the count
+-- as it is.
+abbrev pub CountsError : {X : Type 0} → Result X EventError → ℕ → ℕ → Type 0
+CountsError (Ok _) old new = new ≡ old
+CountsError (Err e) old new = new ≡ count_after e old
+
+-- the same of an error with its position
+abbrev pub CountsAt : {X : Type 0} → Result X FileError → ℕ → ℕ → Type 0
+CountsAt (Ok _) old new = new ≡ old
+CountsAt (Err e) old new = new ≡ count_after e.error old
+
+-- the same of an item, or of none
+abbrev pub CountsItem : {X : Type 0} → Option (Result X FileError) → ℕ → ℕ → Type 0
+CountsItem None old new = new ≡ old
+CountsItem (Some item) old new = CountsAt item old new
+
+-- ---- reading the bytes of an event
 
 -- the bytes of the event at the start, which are taken; nothing if no bytes were left; or the error with
 -- which those that were left are refused

@@ -56,10 +56,12 @@ impl BinlogFileHeader {
     /// Takes the header of a file from a source.
     ///
     /// Fails with `Encrypted` if the first four bytes are `FD 62 69 6E`, `NotABinlogFile` if they are
-    /// others or fewer, `Reader` if the source failed, and `Memory` if memory is refused.
+    /// others or fewer, `Reader` if the source failed, which its count of failures shows, and `Memory`
+    /// if memory is refused.
     pub fn read<S: Source>(alloc: Global, source: &mut S) -> Result<BinlogFileHeader, FileError>
         ensures ok { IfOk result (λ _. Consumes (S.remaining source.old) (S.remaining source.new) magic) }
         ensures err { IfErr result (Spec.NoHeader (S.remaining source.old)) }
+        ensures counts { Spec.CountsAt result (S.failures source.old) (S.failures source.new) }
     {
         let mut buffer = EventBuffer::new(alloc);
         match buffer.fill(source, BinlogFileHeader::LEN) {
@@ -81,6 +83,7 @@ impl<S: Source + Drop> BinlogFile<S> {
     pub fn new(alloc: Global, source: S) -> Result<BinlogFile<S>, FileError>
         ensures ok { IfOk result (λ f. Consumes (S.remaining source) (S.remaining f.source) magic) }
         ensures err { IfErr result (Spec.NoHeader (S.remaining source)) }
+        ensures counts { IfOk result (λ f. S.failures f.source ≡ S.failures source) }
         ensures kept { IfOk result (λ f. kept_by f.reader.kept ≡ Spec.first_kept) }
         ensures goes_on { IfOk result (λ f. f.reader.is_over ≡ false) }
         ensures most { IfOk result (λ f. most_kept f.reader.kept.tables ≤ 8 * 1024 * 1024) }
@@ -116,6 +119,8 @@ impl<S: Source + Drop> BinlogFile<S> {
         ensures gives { Spec.ReaderGives (S.remaining self.old.source) (reading_of self.old.reader) result
             (S.remaining self.new.source) (reading_of self.new.reader) }
         ensures most { most_kept self.new.reader.kept.tables ≡ most_kept self.old.reader.kept.tables }
+        ensures counts { Spec.CountsAt result (S.failures self.old.source)
+            (S.failures self.new.source) }
     {
         self.reader.read(&mut self.source, buffer)
     }

@@ -7,6 +7,7 @@ ghost use Rattle.binlog_file.specs.Events.{after, is_plain};
 ghost use Rattle.binlog_file.specs.Workings.Taken.{TakesRaw};
 ghost use Rattle.binlog_file.specs.Workings.TableBodies.{event_with};
 ghost use Rattle.std.specs.Arc.{arc_value};
+ghost use Rattle.binlog_base.specs.Failures.{Counts};
 ghost use Rattle.binlog_file.specs.Stream as Spec;
 ghost use Rattle.binlog_file.specs.Workings.Readers.{kept_by, reading_of, found, raw_in, glance_in};
 ghost use Rattle.binlog_file.specs.Tables.{no_tables};
@@ -68,6 +69,7 @@ impl EventBuffer {
     pub(crate) fn fill<S: Source>(&mut self, source: &mut S, n: usize) -> Result<&[u8], EventError>
         ensures ok { IfOk result (λ x. Spec.Fills n (S.remaining source.old) (S.remaining source.new) x.now) }
         ensures err { IfErr result (λ e. Spec.IsOutside e) }
+        ensures counts { Spec.CountsError result (S.failures source.old) (S.failures source.new) }
     {
         fill(source, &mut self.head, n)
     }
@@ -88,6 +90,7 @@ fn read_between<S: Source>(
     ensures taken { IfOk result (λ n. Consumes (S.remaining source.old) (S.remaining source.new)
         (slice_range bytes.new from (from + n))) }
     ensures ends { IfOk result (λ n. n ≡ 0 → from < to → IsAtEnd (S.remaining source.new)) }
+    ensures counts { Counts result (S.failures source.old) (S.failures source.new) }
 {
     source.read_some(&mut bytes[from..to])
 }
@@ -116,6 +119,7 @@ fn fill_front<S: Source>(
         (take len buffer.new.items)) }
     ensures within { IfOk result (λ len. len ≤ length buffer.new.items) }
     ensures err { IfErr result (λ e. Spec.IsOutside e) }
+    ensures counts { Spec.CountsError result (S.failures source.old) (S.failures source.new) }
 {
     let mut len = 0;
     while len < n {
@@ -139,6 +143,7 @@ fn fill<'b, S: Source>(
 ) -> Result<&'b [u8], EventError>
     ensures ok { IfOk result (λ x. Spec.Fills n (S.remaining source.old) (S.remaining source.new) x.now) }
     ensures err { IfErr result (λ e. Spec.IsOutside e) }
+    ensures counts { Spec.CountsError result (S.failures source.old) (S.failures source.new) }
 {
     let len = fill_front(source, buffer, n)?;
     Ok(&buffer[..len])
@@ -159,6 +164,7 @@ fn fill_event<S: Source>(
     ensures gives { Spec.RawGives (S.remaining source.old) (found (raw_in buffer.new) result)
         (S.remaining source.new) }
     ensures head { IfOk result (λ o. IsSome o → 19 ≤ length buffer.new.head.items) }
+    ensures counts { Spec.CountsError result (S.failures source.old) (S.failures source.new) }
 {
     let len = fill_front(source, &mut buffer.head, 19)?;
     if len == 0 {
@@ -181,7 +187,8 @@ fn take_raw<'b, S: Source>(
     source: &mut S,
     buffer: &'b mut EventBuffer,
 ) -> Result<Option<Raw<'b>>, EventError>
-    ensures { Spec.RawGives (S.remaining source.old) result (S.remaining source.new) }
+    ensures gives { Spec.RawGives (S.remaining source.old) result (S.remaining source.new) }
+    ensures counts { Spec.CountsError result (S.failures source.old) (S.failures source.new) }
 {
     let Some(filled) = fill_event(source, buffer)? else {
         return Ok(None);
@@ -287,6 +294,7 @@ fn read_event<'b, S: Source>(
     ensures gives { Spec.ReadGives (S.remaining source.old) (kept_by kept.old) result
         (S.remaining source.new) (kept_by kept.new) }
     ensures most { most_kept kept.new.tables ≡ most_kept kept.old.tables }
+    ensures counts { Spec.CountsError result (S.failures source.old) (S.failures source.new) }
 {
     let Some(raw) = take_raw(source, buffer)? else {
         return Ok(None);
@@ -301,6 +309,7 @@ fn read_event<'b, S: Source>(
 fn take_plain<'b>(kept: &mut Kept, raw: &Raw<'b>) -> Result<Glance<'b>, EventError>
     requires { is_plain raw.now ≡ true }
     ensures takes { TakesRaw (kept_by kept.old) raw.now result (kept_by kept.new) }
+    ensures error { IfErr result Spec.IsNotReader }
     ensures most { most_kept kept.new.tables ≡ most_kept kept.old.tables }
 {
     let in_force = lend(&kept.description);
@@ -313,6 +322,7 @@ fn take_plain<'b>(kept: &mut Kept, raw: &Raw<'b>) -> Result<Glance<'b>, EventErr
 fn take_table<'b>(alloc: Global, kept: &mut Kept, raw: &Raw<'b>) -> Result<Glance<'b>, EventError>
     requires { raw.now.header.event_type ≡ 0x13 }
     ensures takes { TakesRaw (kept_by kept.old) raw.now result (kept_by kept.new) }
+    ensures error { IfErr result Spec.IsNotReader }
     ensures most { most_kept kept.new.tables ≡ most_kept kept.old.tables }
 {
     let in_force = lend(&kept.description);
@@ -325,6 +335,7 @@ fn take_table<'b>(alloc: Global, kept: &mut Kept, raw: &Raw<'b>) -> Result<Glanc
 // Takes an event of these bytes, and returns a glance at it.
 fn take_other<'b>(alloc: Global, kept: &mut Kept, raw: &Raw<'b>) -> Result<Glance<'b>, EventError>
     ensures takes { TakesRaw (kept_by kept.old) raw.now result (kept_by kept.new) }
+    ensures error { IfErr result Spec.IsNotReader }
     ensures most { most_kept kept.new.tables ≡ most_kept kept.old.tables }
 {
     let in_force = lend(&kept.description);
@@ -336,6 +347,7 @@ fn take_other<'b>(alloc: Global, kept: &mut Kept, raw: &Raw<'b>) -> Result<Glanc
 // Takes the event of these bytes, and returns a glance at it.
 fn take_glance<'b>(alloc: Global, kept: &mut Kept, raw: &Raw<'b>) -> Result<Glance<'b>, EventError>
     ensures takes { TakesRaw (kept_by kept.old) raw.now result (kept_by kept.new) }
+    ensures error { IfErr result Spec.IsNotReader }
     ensures most { most_kept kept.new.tables ≡ most_kept kept.old.tables }
 {
     if raw.is_plain() {
@@ -357,6 +369,7 @@ fn sight<S: Source>(
     ensures gives { Spec.GlanceGives (S.remaining source.old) (kept_by kept.old)
         (found (glance_in buffer.new) result) (S.remaining source.new) (kept_by kept.new) }
     ensures most { most_kept kept.new.tables ≡ most_kept kept.old.tables }
+    ensures counts { Spec.CountsError result (S.failures source.old) (S.failures source.new) }
 {
     let Some(filled) = fill_event(source, buffer)? else {
         return Ok(None);
@@ -409,6 +422,7 @@ impl EventStreamReader {
         ensures gives { Spec.ReaderGlances (S.remaining source.old) (reading_of self.old)
             (found (glance_in buffer.new) result) (S.remaining source.new) (reading_of self.new) }
         ensures most { most_kept self.new.kept.tables ≡ most_kept self.old.kept.tables }
+        ensures counts { Spec.CountsAt result (S.failures source.old) (S.failures source.new) }
     {
         let position = self.kept.position;
         match sight(self.alloc, source, buffer, &mut self.kept) {
@@ -430,6 +444,7 @@ impl EventStreamReader {
         ensures gives { Spec.ReaderGlances (S.remaining source.old) (reading_of self.old) result
             (S.remaining source.new) (reading_of self.new) }
         ensures most { most_kept self.new.kept.tables ≡ most_kept self.old.kept.tables }
+        ensures counts { Spec.CountsAt result (S.failures source.old) (S.failures source.new) }
     {
         match self.sight(source, buffer) {
             Ok(Some(sighting)) => Ok(Some(buffer.glance(sighting))),
@@ -519,8 +534,9 @@ impl EventStreamReader {
     /// Reads the next event of the source into the buffer; nothing if no bytes are left, or after
     /// an error.
     ///
-    /// Fails as `Event::read` does; with `Reader` if the source failed; and with `Memory` if memory
-    /// is refused. The error has the position where the event begins.
+    /// Fails as `Event::read` does; with `Reader` if the source failed, which its count of failures
+    /// shows; and with `Memory` if memory is refused. The error has the position where the event
+    /// begins.
     pub fn read<'b, S: Source>(
         &mut self,
         source: &mut S,
@@ -529,6 +545,7 @@ impl EventStreamReader {
         ensures gives { Spec.ReaderGives (S.remaining source.old) (reading_of self.old) result
             (S.remaining source.new) (reading_of self.new) }
         ensures most { most_kept self.new.kept.tables ≡ most_kept self.old.kept.tables }
+        ensures counts { Spec.CountsAt result (S.failures source.old) (S.failures source.new) }
     {
         if self.is_over {
             return Ok(None);

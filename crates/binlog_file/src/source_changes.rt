@@ -5,7 +5,7 @@ ghost use Rattle.binlog_file.specs.Events.{Event, Place, NextGives, glance_of};
 ghost use Rattle.binlog_file.specs.Tables.{InForce, in_force_after};
 ghost use Rattle.binlog_file.specs.TableMaps.{most_kept};
 ghost use Rattle.binlog_file.specs.Changes.{Gives, TakeGives, spot, LessensTo};
-ghost use Rattle.binlog_file.specs.Stream.{IsOutside, MayGoOn};
+ghost use Rattle.binlog_file.specs.Stream.{IsOutside, IsNotReader, MayGoOn};
 ghost use Rattle.binlog_file.specs.SourceChanges as Spec;
 ghost use Rattle.binlog_file.specs.LentChanges.{PairGives};
 ghost use Rattle.binlog_file.specs.LentEvents.{Shows, GivesError, GoesOnUnless};
@@ -83,6 +83,7 @@ fn show_event<'b, C: Choice>(
     ensures ok { IfOk result (Shows (C.wanted choice.now) (kept_in walk.old).in_force.tables glance.entry) }
     ensures err { IfErr result (GivesError (C.wanted choice.now) (kept_in walk.old).in_force.tables
         glance.entry) }
+    ensures error { IfErr result (λ e. IsNotReader e.error) }
     ensures over { IsTrue walk.new.reader.is_over
         ↔ (IsErr result ⊎ (walk.old.reader.is_over ≡ true)) }
     ensures kept { kept_in walk.new ≡ kept_in walk.old }
@@ -110,6 +111,8 @@ fn next_event<'b, S: Source, C: Choice>(
     ensures fewer { IsSome result → Spec.items_left (reading_in walk.new) walk.new.pending
         < Spec.items_left (reading_in walk.old) walk.old.pending }
     ensures most { most_kept_by walk.new ≡ most_kept_by walk.old }
+    ensures counts { Spec.CountsNext walk.old.pending result walk.new.pending (S.failures source.old)
+        (S.failures source.new) }
 {
     if !walk.goes_on() {
         let error = walk.end()?;
@@ -139,6 +142,8 @@ fn pass_over<S: Source>(
     ensures fewer { IsSome result → Spec.items_left (reading_in walk.new) walk.new.pending
         < Spec.items_left (reading_in walk.old) walk.old.pending }
     ensures most { most_kept_by walk.new ≡ most_kept_by walk.old }
+    ensures counts { Spec.CountsNext walk.old.pending result walk.new.pending (S.failures source.old)
+        (S.failures source.new) }
 {
     while walk.goes_on() {
         match walk.reader.sight(source, buffer) {
@@ -173,6 +178,8 @@ fn next_event_of<'b, S: Source, C: Choice>(
     ensures fewer { IsSome result → Spec.items_left (reading_in walk.new) walk.new.pending
         < Spec.items_left (reading_in walk.old) walk.old.pending }
     ensures most { most_kept_by walk.new ≡ most_kept_by walk.old }
+    ensures counts { Spec.CountsNext walk.old.pending result walk.new.pending (S.failures source.old)
+        (S.failures source.new) }
 {
     match pass_over(source, buffer, walk, types)? {
         Ok(sighting) => Some(show_event(alloc, choice, walk, buffer.glance(sighting))),
@@ -214,6 +221,7 @@ fn take<C: Choice>(
     ensures kept { kept_in walk.new ≡ kept_in walk.old }
     ensures on { walk.new.pending ≡ None → walk.new.reader.is_over ≡ walk.old.reader.is_over }
     ensures most { most_kept_by walk.new ≡ most_kept_by walk.old }
+    ensures told { Spec.AreTold walk.new.pending }
 {
     // Most events hold no rows, and give nothing.
     if glance.rows.is_none() {
@@ -249,6 +257,8 @@ fn read_one<S: Source, C: Choice>(
         None result (S.remaining source.new) (reading_in walk.new) walk.new.pending }
     ensures fewer { Spec.turns (reading_in walk.new) < Spec.turns (reading_in walk.old) }
     ensures most { most_kept_by walk.new ≡ most_kept_by walk.old }
+    ensures counts { Spec.CountsPending walk.new.pending (S.failures source.old) (S.failures source.new) }
+    ensures told { IsSome result → Spec.AreTold walk.new.pending }
 {
     match walk.reader.glance(source, buffer) {
         Ok(Some(glance)) => take(alloc, choice, walk, glance),
@@ -274,6 +284,8 @@ fn next_change<S: Source, C: Choice>(
     ensures steps { Spec.SourceSteps (C.wanted choice.now) (S.remaining source.old) (reading_in walk.old)
         walk.old.pending result (S.remaining source.new) (reading_in walk.new) walk.new.pending }
     ensures most { most_kept_by walk.new ≡ most_kept_by walk.old }
+    ensures counts { Spec.CountsNext walk.old.pending result walk.new.pending (S.failures source.old)
+        (S.failures source.new) }
 {
     while walk.goes_on() {
         if let Some(change) = read_one(alloc, choice, source, buffer, walk) {
@@ -285,7 +297,8 @@ fn next_change<S: Source, C: Choice>(
 }
 
 /// An iterator over the changes of a file that are wanted, up to and including its first error. It
-/// reads the file from a source, one event at a time into a buffer that is used again.
+/// reads the file from a source, one event at a time into a buffer that is used again. Where the source
+/// fails, which its count of failures shows, the same call gives the error `Reader`.
 ///
 /// Its changes own their rows. `next_event` and `next_pair` lend them, one pair at a time.
 #[derive(Drop)]
@@ -386,6 +399,8 @@ impl<S: Source + Drop, C: Choice + Drop> SourceChanges<S, C> {
             < Spec.items_left (reading_in self.old.walk) self.old.walk.pending }
         ensures choice { self.new.choice ≡ self.old.choice }
         ensures most { most_kept_by self.new.walk ≡ most_kept_by self.old.walk }
+        ensures counts { Spec.CountsNext self.old.walk.pending result self.new.walk.pending
+            (S.failures self.old.source) (S.failures self.new.source) }
     {
         next_event(
             self.alloc,
@@ -418,6 +433,8 @@ impl<S: Source + Drop, C: Choice + Drop> SourceChanges<S, C> {
             < Spec.items_left (reading_in self.old.walk) self.old.walk.pending }
         ensures choice { self.new.choice ≡ self.old.choice }
         ensures most { most_kept_by self.new.walk ≡ most_kept_by self.old.walk }
+        ensures counts { Spec.CountsNext self.old.walk.pending result self.new.walk.pending
+            (S.failures self.old.source) (S.failures self.new.source) }
     {
         next_event_of(
             self.alloc,
@@ -465,13 +482,14 @@ impl<S: Source + Drop, C: Choice + Drop> Iterator for SourceChanges<S, C> {
 
     ghost use Rattle.std.specs.Prelude.{◌≡◌};
     ghost use Rattle.std.specs.Iterator.{at_most};
-    ghost use Rattle.binlog_file.specs.SourceChanges.{SourceSteps, items_left};
+    ghost use Rattle.binlog_file.specs.SourceChanges.{SourceSteps, CountsNext, items_left};
     ghost use Rattle.binlog_file.specs.Workings.SourceWalks.{reading_in, most_kept_by};
 
     ghost next_gives = { λ s r t. (t.choice ≡ s.choice)
         × SourceSteps (C.wanted s.choice) (S.remaining s.source) (reading_in s.walk) s.walk.pending r
         (S.remaining t.source) (reading_in t.walk) t.walk.pending
-        × (most_kept_by t.walk ≡ most_kept_by s.walk) };
+        × (most_kept_by t.walk ≡ most_kept_by s.walk)
+        × CountsNext s.walk.pending r t.walk.pending (S.failures s.source) (S.failures t.source) };
 
     ghost remaining = { λ s. at_most (items_left (reading_in s.walk) s.walk.pending) };
 

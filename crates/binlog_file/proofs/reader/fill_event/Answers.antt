@@ -5,6 +5,7 @@ use Rattle.binlog_events.specs.declared.error.EventError.TheVariants as error
 use Rattle.binlog_file.specs.Stream.{Fills}
 use Rattle.binlog_file.specs.Workings.Readers.{raw_in}
 use Rattle.binlog_file.proofs.RawRead.{Refused, in_head, full, found_error, head_cut, header_refused, size_refused, rest_cut, whole}
+use Rattle.binlog_file.proofs.EventErrors.{header_error, error_uncounted}
 use Rattle.binlog_file.proofs.reader.fill_event.Goals as goal
 
 pub returns-then-len-lt19-clause-gives : goal.returns-then-len-lt19-clause-gives
@@ -72,3 +73,9 @@ returns-clause-gives g c =
     let read = subst (λ (h : List ℕ). (x : List ℕ) → Parses (in_head h) (Ok c.in_ok-header.header) x x) front c.in_ok-header.ensures in
     let r = full n c.in_ok-len-2.len rest mid new c.in_ok-len-2.ensures.ok c.in_ok-len-2.ensures.within (omega (arith, c.if-len-rest_len.false)) in
     whole old mid new (take 19 items) (take n rest) c.in_ok-header.header n f.0 f.1 read (sym c.in_ok-rest_len.ensures) r.0 (omega (arith, r.1))
+
+pub returns-in_err-header-clause-counts : goal.returns-in_err-header-clause-counts
+returns-in_err-header-clause-counts g c =
+    let e = c.in_err-header.field-0.0 in
+    error_uncounted c.from_residual-in_err-header.result e (g.S.Source.failures c.args.source.now) (g.S.Source.failures c.fill_front.new.source) c.from_residual-in_err-header.ensures.1
+    (header_error c.front.result.now e c.in_err-header.ensures) c.in_ok-len.ensures.counts

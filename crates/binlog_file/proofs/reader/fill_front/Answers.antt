@@ -14,4 +14,5 @@ loop-len-preserved g c =
       most = search rules;
       within = rw all (search rules);
       taken = rw all taken;
+      counts = c.in_ok-count.ensures.counts ∙ c.loop-len.invariant.counts;
     }

@@ -1,8 +1,9 @@
-use Rattle.std.proofs.Common.{ℕ, List, Ok, Option, subst}
+use Rattle.std.proofs.Common.{ℕ, List, Ok, Err, Option, subst}
 use Rattle.binlog_base.specs.Format.{Parses}
 use Rattle.binlog_file.specs.Description.{Description}
 use Rattle.binlog_file.specs.Events.{event_of_raw}
 use Rattle.binlog_file.specs.Workings.Readers.{kept_by}
+use Rattle.binlog_file.proofs.EventErrors.{event_error, error_other}
 use Rattle.binlog_file.proofs.reader.take_other.Goals as goal
 
 pub returns-clause-takes : goal.returns-clause-takes
@@ -11,3 +12,10 @@ returns-clause-takes c =
     let e = c.in_ok-event.event in
     let read = subst (λ (d : Option Description). (x : List ℕ) → Parses (event_of_raw k.at d c.args.raw.now) (Ok e) x x) c.lend-in_force.ensures c.in_ok-event.ensures in
     (e, c.glance.ensures, read, c.in_ok-take.ensures.kept)
+
+pub returns-in_err-event-clause-error : goal.returns-in_err-event-clause-error
+returns-in_err-event-clause-error c =
+    let k = kept_by c.args.kept.now in
+    let e = c.in_err-event.field-0.0 in
+    let read = subst (λ (d : Option Description). (x : List ℕ) → Parses (event_of_raw k.at d c.args.raw.now) (Err e) x x) c.lend-in_force.ensures c.in_err-event.ensures in
+    error_other c.from_residual.result e c.from_residual.ensures.1 (event_error k.at k.description c.args.raw.now e read)

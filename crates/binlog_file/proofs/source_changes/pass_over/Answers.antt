@@ -18,6 +18,8 @@ loop-walk-init g c = record {
   passes = none_passed c.args.types.now (g.S.Source.remaining c.args.source.now) (reading_in c.args.walk.now) c.args.walk.now.pending;
   most = omega arith;
   bound = refl;
+  pending = refl;
+  counts = refl;
 }
 
 pub returns-then-is_asked-clause-sights : goal.returns-then-is_asked-clause-sights
@@ -85,6 +87,8 @@ loop-walk-preserved g c =
       passes = subst (λ (k : Option FileError). SourcePasses types old r p new s k) (sym on.0) (one_passed types old mid new r m s p glance passes on.1 gives not);
       most = omega (arith, fewer_left mid new m s s pending pending glance on.1 on.0 gives refl refl, c.loop-walk.invariant.most);
       bound = search rules;
+      pending = c.loop-walk.invariant.pending;
+      counts = c.in-Ok-Some.ensures.counts ∙ c.loop-walk.invariant.counts;
     }
 
 pub returns-in-Ok-None-clause-sights : goal.returns-in-Ok-None-clause-sights

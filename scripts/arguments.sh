@@ -98,9 +98,14 @@ lines_of 0 7 'db_F.pk_auto' --text --database d --table db_F.pk_auto f
 case_of 2 'a name of --table is that of a database, a point' --table pk_auto --table db_F.pk_auto f
 lines_of 0 0 '' --database db_f f
 lines_of 0 3 '"pos":6224' --start-position 5982 --op d,c --op u --table db_F.pk_auto f
-case_of 1 'no event begins at 5983' --start-position 5983 f
+lines_of 1 0 'no event begins at 5983' --start-position 5983 f
 case_of 1 'no event begins at 965' --stop-position 965 f
 lines_of 0 0 '' --stop-position 964 f
+# An event past the stop position isn't read: in `damaged`, the one that begins at 964 has a wrong byte.
+cp f damaged
+printf '\377' | dd of=damaged bs=1 seek=1000 conv=notrunc status=none
+lines_of 0 0 '' --stop-position 964 damaged
+lines_of 1 0 'changes: damaged at 964: ' damaged
 lines_of 0 0 '' --start-position 964 --stop-position 964 f
 case_of 1 'no event begins at 965' --start-position 965 --stop-position 965 f
 case_of 2 'the start position is after the stop position' --start-position 6224 --stop-position 964 f

@@ -15,11 +15,11 @@ use Rattle.binlog_file.specs.Changes.{Spot}
 use Rattle.binlog_file.specs.LentEvents.{GoesPast}
 use Rattle.changed_rows.specs.declared.filter.Positions.{Positions}
 use Rattle.changed_rows.specs.Names.{is_before}
-use Rattle.changed_rows.specs.Filters.{is_among, wanted_position, start_sought, start_after}
+use Rattle.changed_rows.specs.Filters.{is_among, wanted_position, start_sought, start_after, IsUpTo}
 use Rattle.change_lines.specs.declared.error.Failure.{Failure}
 use Rattle.change_lines.specs.declared.error.Failure.TheVariants as failure
 use Rattle.change_lines.specs.Lines.{BeginsAt, IsBegun}
-use Rattle.change_lines.specs.Failures.{IsOutput, IsOfEvent, IsMissing}
+use Rattle.change_lines.specs.Failures.{IsOfEvent, MissesNone, AllBegin, IsMissing}
 use Rattle.change_lines.proofs.Causes.{Writes, Flushes}
 
 -- ---- where an event begins
@@ -102,47 +102,45 @@ sought_after start (Some n) new at (inr none) is = absurd (let bad = none in cc)
 
 -- ---- where no event begins
 
--- no event begins at the position, where there is one
+-- each event begins before the position, where there is one
 abbrev pub IsUnseen : Option ℕ → List Event → Type 0
 IsUnseen None es = ⊤
-IsUnseen (Some n) es = BeginsAt n es → ⊥
+IsUnseen (Some n) es = AllBegin es n
 
 pub nothing_unseen : (o : Option ℕ) → IsUnseen o []
 nothing_unseen None = tt
-nothing_unseen (Some n) = λ none. none
+nothing_unseen (Some n) = tt
 
--- one event more begins elsewhere
-unseen_last : (n : ℕ) (es : List Event) (e : Event) → (BeginsAt n es → ⊥) → e.position ≢ n → BeginsAt n (es ++ e ∷ []) → ⊥
-unseen_last n [] e not other (inl is) = other is
-unseen_last n [] e not other (inr none) = none
-unseen_last n (d ∷ es) e not other (inl is) = not (inl is)
-unseen_last n (d ∷ es) e not other (inr later) = unseen_last n es e (λ b. not (inr b)) other later
+-- one event more begins before it
+all_last : (n : ℕ) (es : List Event) (e : Event) → AllBegin es n → e.position < n → AllBegin (es ++ e ∷ []) n
+all_last n [] e all before = (before, tt)
+all_last n (d ∷ es) e all before = (all.0, all_last n es e all.1 before)
 
--- an event begins at the start position, which is looked for no more, or elsewhere
-unseen_one : (n here : ℕ) (es : List Event) (e : Event) → (BeginsAt n es → ⊥) → e.position ≡ here → IsUnseen (start_after (Some n) here) (es ++ e ∷ [])
-unseen_one n here es e not is = elim (eqb_tells n here) [
+-- an event begins at the start position, which is looked for no more, or before it
+unseen_one : (n here : ℕ) (es : List Event) (e : Event) → AllBegin es n → here ≤ n → e.position ≡ here → IsUnseen (start_after (Some n) here) (es ++ e ∷ [])
+unseen_one n here es e all up_to is = elim (eqb_tells n here) [
   | inl same ↦ subst (λ (b : Bool). IsUnseen (if b then None else Some n) (es ++ e ∷ [])) (sym same.0) tt
-  | inr other ↦ subst (λ (b : Bool). IsUnseen (if b then None else Some n) (es ++ e ∷ [])) (sym other.0) (unseen_last n es e not (λ at. other.1 (sym at ∙ is)))
+  | inr other ↦ subst (λ (b : Bool). IsUnseen (if b then None else Some n) (es ++ e ∷ [])) (sym other.0) (all_last n es e all (omega (arith, up_to, is, other.1)))
 ]
 
 -- one event more was read; others are passed over only where no position is looked for
 pub unseen_next : (sought : Option ℕ) (here there : ℕ) (es ds : List Event) (e : Event) (is_each : Bool)
-    → IsUnseen sought es → (is_each ≡ false → sought ≡ None) → (is_each ≡ true → there ≡ here) → (is_each ≡ true → ds ≡ es) → e.position ≡ there
+    → IsUnseen sought es → IsUpTo sought here → (is_each ≡ false → sought ≡ None) → (is_each ≡ true → there ≡ here) → (is_each ≡ true → ds ≡ es) → e.position ≡ there
     → IsUnseen (start_after sought here) (ds ++ e ∷ [])
-unseen_next None here there es ds e is_each not free each same is = tt
-unseen_next (Some n) here there es ds e true not free each same is =
-    subst (λ (l : List Event). IsUnseen (start_after (Some n) here) (l ++ e ∷ [])) (sym (same refl)) (unseen_one n here es e not (is ∙ each refl))
-unseen_next (Some n) here there es ds e false not free each same is = absurd (let bad = free refl in cc)
+unseen_next None here there es ds e is_each all up_to free each same is = tt
+unseen_next (Some n) here there es ds e true all up_to free each same is =
+    subst (λ (l : List Event). IsUnseen (start_after (Some n) here) (l ++ e ∷ [])) (sym (same refl)) (unseen_one n here es e all up_to (is ∙ each refl))
+unseen_next (Some n) here there es ds e false all up_to free each same is = absurd (let bad = free refl in cc)
 
 -- it began before the stop position
 pub early_next : (stop : Option ℕ) (here there : ℕ) (es ds : List Event) (e : Event) (is_each : Bool)
     → IsUnseen stop es → (is_each ≡ false → stop ≡ None) → (is_each ≡ true → there ≡ here) → (is_each ≡ true → ds ≡ es) → e.position ≡ there → is_before stop here ≡ true
     → IsUnseen stop (ds ++ e ∷ [])
-early_next None here there es ds e is_each not free each same is before = tt
-early_next (Some n) here there es ds e true not free each same is before =
+early_next None here there es ds e is_each all free each same is before = tt
+early_next (Some n) here there es ds e true all free each same is before =
     let early : here < n = ltb-true here n before in
-    subst (λ (l : List Event). IsUnseen (Some n) (l ++ e ∷ [])) (sym (same refl)) (unseen_last n es e not (λ at. absurd (omega (arith, early, at, is, each refl))))
-early_next (Some n) here there es ds e false not free each same is before = absurd (let bad = free refl in cc)
+    subst (λ (l : List Event). IsUnseen (Some n) (l ++ e ∷ [])) (sym (same refl)) (all_last n es e all (omega (arith, early, is, each refl)))
+early_next (Some n) here there es ds e false all free each same is before = absurd (let bad = free refl in cc)
 
 before_past : (stop : Option ℕ) (n at : ℕ) → is_before stop n ≡ true → is_before stop at ≡ false → n < at
 before_past None n at before past = absurd (let bad = past in cc)
@@ -167,11 +165,11 @@ wanted_before p (Some at) n is = by (is_among p at) refl
 abbrev pub Missed : Failure → Option ℕ → Option ℕ → ℕ → Type 0
 Missed why sought stop here = (n : ℕ) × (why ≡ failure.NoEvent n) × ((sought ≡ Some n) ⊎ ((stop ≡ Some n) × (n ≢ here)))
 
-unseen_at : (o : Option ℕ) (n : ℕ) (es : List Event) → IsUnseen o es → o ≡ Some n → BeginsAt n es → ⊥
-unseen_at o n es not is = subst (λ (p : Option ℕ). IsUnseen p es) is not
+unseen_at : (o : Option ℕ) (n : ℕ) (es : List Event) → IsUnseen o es → o ≡ Some n → AllBegin es n
+unseen_at o n es all is = subst (λ (p : Option ℕ). IsUnseen p es) is all
 
-missing_at : (why : Failure) (n : ℕ) (es : List Event) (at : Spot) → why ≡ failure.NoEvent n → (BeginsAt n es → ⊥) → (n < at.place.at) ⊎ (at.place.left ≡ []) → IsMissing why es at
-missing_at why n es at is not past = subst (λ (w : Failure). IsMissing w es at) (sym is) (not, past)
+missing_at : (why : Failure) (n : ℕ) (es : List Event) (at : Spot) → why ≡ failure.NoEvent n → AllBegin es n → (n < at.place.at) ⊎ (at.place.left ≡ []) → IsMissing why es at
+missing_at why n es at is all past = subst (λ (w : Failure). IsMissing w es at) (sym is) (all, past)
 
 -- an event begins after the start position
 pub missing_passed : (why : Failure) (sought : Option ℕ) (es : List Event) (at : Spot) → IsUnseen sought es → (n : ℕ) × (sought ≡ Some n) × (n < at.place.at) × (why ≡ failure.NoEvent n) → IsMissing why es at
@@ -204,14 +202,8 @@ missing_ended why stop sought here es ds at false not early free whole same left
 ]
 
 -- other failures miss no position
-pub missing_of_output : (why : Failure) (es : List Event) (at : Spot) → IsOutput why → IsMissing why es at
-missing_of_output (failure.Output e) es at is = tt
-missing_of_output (failure.File e) es at is = absurd is
-missing_of_output (failure.NoEvent n) es at is = absurd is
-missing_of_output failure.Memory es at is = absurd is
-
-pub missing_of_event : {O : Type 0} (writes : Writes O) (flushes : Flushes O) (why : Failure) → IsOfEvent writes flushes why → (es : List Event) (at : Spot) → IsMissing why es at
-missing_of_event writes flushes (failure.File e) is es at = tt
-missing_of_event writes flushes failure.Memory is es at = tt
-missing_of_event writes flushes (failure.Output e) is es at = tt
-missing_of_event writes flushes (failure.NoEvent n) is es at = absurd is
+pub misses_none : {O : Type 0} (writes : Writes O) (flushes : Flushes O) (why : Failure) → IsOfEvent writes flushes why → MissesNone why
+misses_none writes flushes (failure.File e) is = tt
+misses_none writes flushes failure.Memory is = tt
+misses_none writes flushes (failure.Output e) is = tt
+misses_none writes flushes (failure.NoEvent n) is = absurd is

@@ -28,8 +28,8 @@ use Rattle.change_lines.specs.Readings.{seen_types, Passes, SourceNext}
 use Rattle.change_lines.specs.Rows.{BeginsWith}
 use Rattle.change_lines.specs.Lines.{IsEnd}
 use Rattle.change_lines.specs.Failures.{IsOutput, IsNotOfFile, EndsAtRow}
-use Rattle.change_lines.proofs.Failures.{output_not_file, not_at_row, not_at_event}
-use Rattle.change_lines.proofs.Whole.{is_end_at}
+use Rattle.change_lines.proofs.Failures.{output_not_file, not_at_row, not_at_event, not_late, in_time_of}
+use Rattle.change_lines.proofs.Whole.{is_end_at, still_before}
 
 -- ---- counts
 
@@ -94,6 +94,10 @@ module _ (wanted : Wanted) (from : Spot) (a b : Counts) (old : Option (List ℕ)
   passed : (is_each : Bool) (at : Spot) → Passes is_each (spot_at r.kept p h.bytes) at → (ds : List Event) × AreCounted wanted from ds h.rows at
   passed is_each at passes = passed_counted wanted from h.events h.rows (spot_at r.kept None h.bytes) is_each at h.counted (subst (λ (o : Option FileError). Passes is_each (spot_at r.kept o h.bytes) at) h.goes_on passes)
 
+  -- where events are passed over there is no stop position
+  in_time : (is_each : Bool) (at : Spot) → Passes is_each (spot_at r.kept p h.bytes) at → (stop : Option ℕ) → is_before stop r.kept.at ≡ true → (is_each ≡ false → stop ≡ None) → is_before stop at.place.at ≡ true
+  in_time is_each at passes stop early whole = still_before is_each stop (spot_at r.kept p h.bytes) at passes early whole
+
   -- one event more was read and counted
   pub count_step : (is_each : Bool) (x : LentEvent) (source : Option (List ℕ)) (s : Reading) (q : Option FileError) (d : Counts) → SourceNext wanted is_each old r p (Some (Ok x)) source s q → CountsThese (AreEventRows x) b d → CountedSoFar wanted from a source s q d
   count_step is_each x source s q d gives counts =
@@ -130,26 +134,27 @@ module _ (wanted : Wanted) (from : Spot) (a b : Counts) (old : Option (List ℕ)
       ]
 
   -- nothing more was read
-  pub count_failed : (why : Failure) → IsNotOfFile why → CountsThese (AreFirstCounted why wanted from) a b
-  count_failed why not =
+  pub count_failed : (why : Failure) (stop : Option ℕ) → IsNotOfFile why → CountsThese (AreFirstCounted why stop wanted from) a b
+  count_failed why stop not =
       let at = spot_at r.kept None h.bytes in
-      (h.rows, record { events = h.events; front = h.rows; at = at; rows = []; counted = h.counted; next = inl (refl, not_at_event why wanted at not); whole = sym (append-nil h.rows) }, h.more)
+      (h.rows, record { events = h.events; front = h.rows; at = at; rows = []; counted = h.counted; next = inl (refl, not_at_event why wanted at not); in_time = not_late why stop at not; whole = sym (append-nil h.rows) }, h.more)
 
   -- the next event can't be read
-  pub count_error : (is_each : Bool) (e : FileError) (source : Option (List ℕ)) (s : Reading) (q : Option FileError) → SourceNext wanted is_each old r p (Some (Err e)) source s q → CountsThese (AreFirstCounted (failure.File e) wanted from) a b
-  count_error is_each e source s q gives =
+  pub count_error : (is_each : Bool) (e : FileError) (source : Option (List ℕ)) (s : Reading) (q : Option FileError) → SourceNext wanted is_each old r p (Some (Err e)) source s q
+      → (stop : Option ℕ) → is_before stop r.kept.at ≡ true → (is_each ≡ false → stop ≡ None) → CountsThese (AreFirstCounted (failure.File e) stop wanted from) a b
+  count_error is_each e source s q gives stop early whole =
       let m = gives h.bytes h.finds in
       let before = passed is_each m.2 m.3 in
-      (h.rows, record { events = before.0; front = h.rows; at = m.2; rows = []; counted = before.1; next = inl (refl, m.4.1); whole = sym (append-nil h.rows) }, h.more)
+      (h.rows, record { events = before.0; front = h.rows; at = m.2; rows = []; counted = before.1; next = inl (refl, m.4.1); in_time = in_time is_each m.2 m.3 stop early whole; whole = sym (append-nil h.rows) }, h.more)
 
   -- some first rows of the next event were counted
   pub count_first : (is_each : Bool) (x : LentEvent) (source : Option (List ℕ)) (s : Reading) (q : Option FileError) (d : Counts) (why : Failure) → SourceNext wanted is_each old r p (Some (Ok x)) source s q → CountsThese (AreFirstEventRows why x) b d
-      → CountsThese (AreFirstCounted why wanted from) a d
-  count_first is_each x source s q d why gives counts =
+      → (stop : Option ℕ) → is_before stop r.kept.at ≡ true → (is_each ≡ false → stop ≡ None) → CountsThese (AreFirstCounted why stop wanted from) a d
+  count_first is_each x source s q d why gives counts stop early whole =
       let m = gives h.bytes h.finds in
       let before = passed is_each m.2 m.3 in (
         h.rows ++ counts.0,
-        record { events = before.0; front = h.rows; at = m.2; rows = counts.0; counted = before.1; next = inr (m.4.0, spot_at s.kept q m.0, m.4.1, x, m.4.2, counts.1); whole = refl },
+        record { events = before.0; front = h.rows; at = m.2; rows = counts.0; counted = before.1; next = inr (m.4.0, spot_at s.kept q m.0, m.4.1, x, m.4.2, counts.1); in_time = in_time_of why stop m.2 (in_time is_each m.2 m.3 stop early whole); whole = refl },
         counts_more h.rows counts.0 a b d h.more counts.2,
       )
 
@@ -164,22 +169,22 @@ next_but_output : (why g : Failure) (wanted : Wanted) (at : Spot) (xs : List Cou
 next_but_output why g wanted at xs is (inl h) = inl (h.0, not_at_event g wanted at (output_not_file g is))
 next_but_output why g wanted at xs is (inr h) = inr (h.0, h.1, h.2, h.3, h.4, event_but_output why g h.3 xs is h.5)
 
-but_output : (why g : Failure) (wanted : Wanted) (from : Spot) (xs : List Counted) → IsOutput g → AreFirstCounted why wanted from xs → AreFirstCounted g wanted from xs
-but_output why g wanted from xs is h = record { events = h.events; front = h.front; at = h.at; rows = h.rows; counted = h.counted; next = next_but_output why g wanted h.at h.rows is h.next; whole = h.whole }
+but_output : (why g : Failure) (stop : Option ℕ) (wanted : Wanted) (from : Spot) (xs : List Counted) → IsOutput g → AreFirstCounted why stop wanted from xs → AreFirstCounted g stop wanted from xs
+but_output why g stop wanted from xs is h = record { events = h.events; front = h.front; at = h.at; rows = h.rows; counted = h.counted; next = next_but_output why g wanted h.at h.rows is h.next; in_time = not_late g stop h.at (output_not_file g is); whole = h.whole }
 
 -- what was counted up to a failure: that of the reading, or of the output
 pub counted_of : (r : Result (Unit {0}) Failure) (g : Failure) (stop : Option ℕ) (wanted : Wanted) (from : Spot) (a b : Counts)
-    → OnOk r (CountsThese (AreCountedToEnd stop wanted from) a b) → IfErr r (λ why. CountsThese (AreFirstCounted why wanted from) a b) → IsOutput g ⊎ (r ≡ Err g) → CountsThese (AreFirstCounted g wanted from) a b
+    → OnOk r (CountsThese (AreCountedToEnd stop wanted from) a b) → IfErr r (λ why. CountsThese (AreFirstCounted why stop wanted from) a b) → IsOutput g ⊎ (r ≡ Err g) → CountsThese (AreFirstCounted g stop wanted from) a b
 counted_of (Ok u) g stop wanted from a b all first (inl is) = (
   all.0,
-  record { events = all.1.events; front = all.0; at = all.1.end; rows = []; counted = all.1.counted; next = inl (refl, not_at_event g wanted all.1.end (output_not_file g is)); whole = sym (append-nil all.0) },
+  record { events = all.1.events; front = all.0; at = all.1.end; rows = []; counted = all.1.counted; next = inl (refl, not_at_event g wanted all.1.end (output_not_file g is)); in_time = not_late g stop all.1.end (output_not_file g is); whole = sym (append-nil all.0) },
   all.2,
 )
 counted_of (Ok u) g stop wanted from a b all first (inr same) = absurd cc
-counted_of (Err why) g stop wanted from a b all first (inl is) = (first.0, but_output why g wanted from first.0 is first.1, first.2)
+counted_of (Err why) g stop wanted from a b all first (inl is) = (first.0, but_output why g stop wanted from first.0 is first.1, first.2)
 counted_of (Err why) g stop wanted from a b all first (inr same) =
     let is : why ≡ g = cc in
-    (first.0, subst (λ (k : Failure). AreFirstCounted k wanted from first.0) is first.1, first.2)
+    (first.0, subst (λ (k : Failure). AreFirstCounted k stop wanted from first.0) is first.1, first.2)
 
 -- ---- a file
 

@@ -1,11 +1,13 @@
 -- What was written where a run ends early.
-use Rattle.std.proofs.Common.{◌≡◌, ◌≢◌, ◌⊎◌, inr, ℕ, List, [], ◌++◌, Option, Result, Ok, Err, IfErr, refl, sym, ap, subst, ◌∙◌, append_assoc, append-nil}
+use Rattle.std.proofs.Common.{◌≡◌, ◌≢◌, ◌⊎◌, inr, ℕ, true, List, [], ◌++◌, Option, Result, Ok, Err, IfErr, refl, sym, ap, subst, ◌∙◌, append_assoc, append-nil}
 use Rattle.std.specs.Io.KnownBytes.{Appends, Keeps}
 use Rattle.std.proofs.KnownBytes.{Appends-nil, Appends-trans, Appends-kept}
 use Rattle.binlog_base.specs.declared.fault.Fault.{Fault}
 use Rattle.binlog_base.specs.declared.fault.Fault.TheVariants as fault
 use Rattle.mysql_binlog_rows.specs.Images.{Pair}
+use Rattle.binlog_file.specs.Events.{Event}
 use Rattle.binlog_file.specs.Changes.{Wanted, Spot}
+use Rattle.changed_rows.specs.Names.{is_before}
 use Rattle.binlog_file.specs.LentChanges.{LentChange}
 use Rattle.mysql_binlog_rows.specs.RowsEvent.{RowsEvent}
 use Rattle.row_json.specs.Columns.{Column}
@@ -13,7 +15,7 @@ use Rattle.row_json.specs.Faults.{IsFaultOfPair}
 use Rattle.change_lines.specs.declared.error.Failure.{Failure}
 use Rattle.change_lines.specs.declared.error.Failure.TheVariants as failure
 use Rattle.change_lines.specs.Outputs.{Outputs, AppendsFirst}
-use Rattle.change_lines.specs.Failures.{IsOutput, IsNotOfFile, EndsAtRow, EndsAtEvent, IsLost, IsLostBy, OutputsUpTo, AppendsUpTo, IsRowFailure, IsLineFailure}
+use Rattle.change_lines.specs.Failures.{IsOutput, IsNotOfFile, EndsAtRow, EndsAtEvent, MissesNone, IsMissing, IsInTime, IsLost, IsLostBy, OutputsUpTo, AppendsUpTo, IsRowFailure, IsLineFailure}
 
 -- nothing is lost, whatever the failure is
 pub no_loss : (f : Failure) → IsLost f []
@@ -122,6 +124,30 @@ not_at_event (failure.File e) wanted at not = absurd not
 not_at_event (failure.NoEvent n) wanted at not = tt
 not_at_event (failure.Output e) wanted at not = tt
 not_at_event failure.Memory wanted at not = tt
+
+pub not_late : (why : Failure) (stop : Option ℕ) (at : Spot) → IsNotOfFile why → IsInTime why stop at
+not_late (failure.File e) stop at not = absurd not
+not_late (failure.NoEvent n) stop at not = tt
+not_late (failure.Output e) stop at not = tt
+not_late failure.Memory stop at not = tt
+
+pub in_time_of : (why : Failure) (stop : Option ℕ) (at : Spot) → is_before stop at.place.at ≡ true → IsInTime why stop at
+in_time_of (failure.File e) stop at before = before
+in_time_of (failure.NoEvent n) stop at before = tt
+in_time_of (failure.Output e) stop at before = tt
+in_time_of failure.Memory stop at before = tt
+
+pub output_misses_none : (why : Failure) → IsOutput why → MissesNone why
+output_misses_none (failure.File e) is = tt
+output_misses_none (failure.NoEvent n) is = absurd is
+output_misses_none (failure.Output e) is = tt
+output_misses_none failure.Memory is = tt
+
+pub nothing_missing : (why : Failure) (es : List Event) (at : Spot) → MissesNone why → IsMissing why es at
+nothing_missing (failure.File e) es at none = tt
+nothing_missing (failure.NoEvent n) es at none = absurd none
+nothing_missing (failure.Output e) es at none = tt
+nothing_missing failure.Memory es at none = tt
 
 -- the failure of a row whose line can't be made is that of one of its documents
 pub line_failure : (cs : List Column) (d : RowsEvent) (at row : ℕ) (f : Fault) (p : Pair) (why : Failure) → IsRowFailure at row f why → (f ≢ fault.Memory → IsFaultOfPair cs d p f) → IsLineFailure cs d at row p why

@@ -1,5 +1,5 @@
 -- What was written before an error.
-use Rattle.std.proofs.Common.{◌≡◌, ◌<◌, ◌^◌, ◌+◌, ℕ, Bool, false, List, [], ◌++◌, length, Option, Some, None, Result, Ok, Err, IfErr, ◌⊎◌, inl, inr, refl, sym, ap, subst, ◌∙◌, append-nil, length-append, arith}
+use Rattle.std.proofs.Common.{◌≡◌, ◌<◌, ◌^◌, ◌+◌, ℕ, Bool, true, false, List, [], ◌++◌, length, Option, Some, None, Result, Ok, Err, IfErr, ◌⊎◌, inl, inr, refl, sym, ap, subst, ◌∙◌, append-nil, length-append, arith}
 use Rattle.std.specs.Prelude.{OnOk}
 use Rattle.std.specs.Io.KnownBytes.{Consumes}
 use Rattle.binlog_table.specs.TableMap.{TableMap}
@@ -26,18 +26,18 @@ use Rattle.changed_rows.specs.declared.filter.Filter.{Filter}
 use Rattle.changed_rows.specs.declared.filter.Positions.{Positions}
 use Rattle.changed_rows.specs.Filters.{wanted_by}
 use Rattle.change_lines.specs.Outputs.{Outputs}
-use Rattle.changed_rows.specs.Names.{up_to_most}
+use Rattle.changed_rows.specs.Names.{up_to_most, is_before}
 use Rattle.change_lines.specs.Rows.{BeginsWith, AreLinesBy}
 use Rattle.change_lines.specs.Readings.{Passes, SourceNext}
 use Rattle.change_lines.specs.Lines.{IsRowLine, Writes}
-use Rattle.change_lines.specs.Failures.{IsOutput, IsNotOfFile, IsErrorOfRow, EndsAtRow, IsLineFailure, AreFirstOfEvent, AreFirstOfNext, IsMissing, AreFirst, IsLostBy, WritesFirstRows, WritesFirstOfEvent, WritesFirst}
+use Rattle.change_lines.specs.Failures.{IsOutput, IsNotOfFile, IsErrorOfRow, EndsAtRow, IsLineFailure, AreFirstOfEvent, AreFirstOfNext, MissesNone, IsMissing, AreFirst, IsLostBy, WritesFirstRows, WritesFirstOfEvent, WritesFirst}
 use Rattle.change_lines.specs.Runs.{AreFirstLines}
 use Rattle.change_lines.proofs.Pairs.{nothing_read}
 use Rattle.change_lines.proofs.Rows.{lines_weaker, no_lines}
 use Rattle.change_lines.proofs.Passed.{passed_more, passed_same}
-use Rattle.change_lines.proofs.Begun.{Missed, missing_ended, missing_of_output}
-use Rattle.change_lines.proofs.Failures.{up_to_all, up_to_nothing, up_to_here, up_to_more, OutputsBut, output_not_file, not_at_row, not_at_event}
-use Rattle.change_lines.proofs.Whole.{SoFar}
+use Rattle.change_lines.proofs.Begun.{Missed, missing_ended}
+use Rattle.change_lines.proofs.Failures.{up_to_all, up_to_nothing, up_to_here, up_to_more, OutputsBut, output_not_file, not_at_row, not_at_event, not_late, in_time_of, output_misses_none, nothing_missing}
+use Rattle.change_lines.proofs.Whole.{SoFar, still_before}
 
 -- ---- the errors of rows
 
@@ -125,11 +125,11 @@ first_counted f file gtid c old held same why h =
 
 -- the lines of some events were written, and then nothing more
 pub events_so_far : (f : Form) (wanted : Wanted) (file : List ℕ) (from : Spot) (gtid : Option (List ℕ)) (out : Option (List ℕ)) (held : List ℕ) (source : Option (List ℕ)) (r : Reading) (p : Option FileError) (here : Option (List ℕ)) (new : Option (List ℕ)) (left : List ℕ) (positions : Positions) (sought : Option ℕ)
-    (h : SoFar f wanted file from gtid out held source r p here new left positions sought) (why : Failure) → IsNotOfFile why → IsMissing why h.events (spot_at r.kept None h.bytes) → WritesFirst why f wanted file from gtid out held new left
+    (h : SoFar f wanted file from gtid out held source r p here new left positions sought) (why : Failure) → IsNotOfFile why → IsMissing why h.events (spot_at r.kept None h.bytes) → WritesFirst why f positions.stop wanted file from gtid out held new left
 events_so_far f wanted file from gtid out held source r p here new left positions sought h why not missing =
     let at = spot_at r.kept None h.bytes in (
       h.text,
-      record { events = h.events; front = h.text; at = at; here = here; rows = []; lines = h.lines; next = inl (refl, not_at_event why wanted at not); missing = missing; whole = sym (append-nil h.text) },
+      record { events = h.events; front = h.text; at = at; here = here; rows = []; lines = h.lines; next = inl (refl, not_at_event why wanted at not); in_time = not_late why positions.stop at not; missing = missing; whole = sym (append-nil h.text) },
       up_to_all why out new held h.text left h.outputs,
     )
 
@@ -137,7 +137,7 @@ events_so_far f wanted file from gtid out held source r p here new left position
 pub end_so_far : (f : Form) (wanted : Wanted) (file : List ℕ) (from : Spot) (gtid : Option (List ℕ)) (out : Option (List ℕ)) (held : List ℕ) (old : Option (List ℕ)) (r : Reading) (p : Option FileError) (here : Option (List ℕ)) (new : Option (List ℕ)) (left : List ℕ) (positions : Positions) (sought : Option ℕ)
     → SoFar f wanted file from gtid out held old r p here new left positions sought
     → (is_each : Bool) (source : Option (List ℕ)) (s : Reading) (q : Option FileError) → SourceNext wanted is_each old r p None source s q → (is_each ≡ false → sought ≡ None) → (is_each ≡ false → positions.stop ≡ None)
-    → (why : Failure) → IsNotOfFile why → Missed why sought positions.stop r.kept.at → WritesFirst why f wanted file from gtid out held new left
+    → (why : Failure) → IsNotOfFile why → Missed why sought positions.stop r.kept.at → WritesFirst why f positions.stop wanted file from gtid out held new left
 end_so_far f wanted file from gtid out held old r p here new left positions sought h is_each source s q gives free whole why not missed =
     let m = gives h.bytes h.finds in
     let at = m.2 in
@@ -146,7 +146,7 @@ end_so_far f wanted file from gtid out held old r p here new left positions soug
     let same = passed_same f wanted file from gtid h.events h.text (spot_at r.kept None h.bytes) here is_each at h.lines passes in
     let missing = missing_ended why positions.stop sought r.kept.at h.events passed.0 at is_each h.unseen h.early free whole same m.4.1 missed in (
       h.text,
-      record { events = passed.0; front = h.text; at = at; here = here; rows = []; lines = passed.1; next = inl (refl, not_at_event why wanted at not); missing = missing; whole = sym (append-nil h.text) },
+      record { events = passed.0; front = h.text; at = at; here = here; rows = []; lines = passed.1; next = inl (refl, not_at_event why wanted at not); in_time = not_late why positions.stop at not; missing = missing; whole = sym (append-nil h.text) },
       up_to_all why out new held h.text left h.outputs,
     )
 
@@ -154,14 +154,14 @@ end_so_far f wanted file from gtid out held old r p here new left positions soug
 -- passed over
 pub error_so_far : (f : Form) (wanted : Wanted) (file : List ℕ) (from : Spot) (gtid : Option (List ℕ)) (out : Option (List ℕ)) (held : List ℕ) (old : Option (List ℕ)) (r : Reading) (p : Option FileError) (here : Option (List ℕ)) (new : Option (List ℕ)) (left : List ℕ) (positions : Positions) (sought : Option ℕ)
     → SoFar f wanted file from gtid out held old r p here new left positions sought
-    → (is_each : Bool) (e : FileError) (source : Option (List ℕ)) (s : Reading) (q : Option FileError) → SourceNext wanted is_each old r p (Some (Err e)) source s q → WritesFirst (failure.File e) f wanted file from gtid out held new left
-error_so_far f wanted file from gtid out held old r p here new left positions sought h is_each e source s q gives =
+    → (is_each : Bool) (e : FileError) (source : Option (List ℕ)) (s : Reading) (q : Option FileError) → SourceNext wanted is_each old r p (Some (Err e)) source s q → is_before positions.stop r.kept.at ≡ true → (is_each ≡ false → positions.stop ≡ None) → WritesFirst (failure.File e) f positions.stop wanted file from gtid out held new left
+error_so_far f wanted file from gtid out held old r p here new left positions sought h is_each e source s q gives before whole =
     let m = gives h.bytes h.finds in
     let at = m.2 in
     let passes = subst (λ (o : Option FileError). Passes is_each (spot_at r.kept o h.bytes) at) h.goes_on m.3 in
     let passed = passed_more f wanted file from gtid h.events h.text (spot_at r.kept None h.bytes) here is_each at h.lines passes in (
       h.text,
-      record { events = passed.0; front = h.text; at = at; here = here; rows = []; lines = passed.1; next = inl (refl, m.4.1); missing = tt; whole = sym (append-nil h.text) },
+      record { events = passed.0; front = h.text; at = at; here = here; rows = []; lines = passed.1; next = inl (refl, m.4.1); in_time = still_before is_each positions.stop (spot_at r.kept None h.bytes) at passes before whole; missing = tt; whole = sym (append-nil h.text) },
       up_to_all (failure.File e) out new held h.text left h.outputs,
     )
 
@@ -169,14 +169,14 @@ error_so_far f wanted file from gtid out held old r p here new left positions so
 pub event_so_far : (f : Form) (wanted : Wanted) (file : List ℕ) (from : Spot) (gtid : Option (List ℕ)) (out : Option (List ℕ)) (held : List ℕ) (old : Option (List ℕ)) (r : Reading) (p : Option FileError) (here : Option (List ℕ)) (mid : Option (List ℕ)) (kept : List ℕ) (positions : Positions) (sought : Option ℕ)
     → SoFar f wanted file from gtid out held old r p here mid kept positions sought
     → (is_each : Bool) (x : LentEvent) (source : Option (List ℕ)) (s : Reading) (q : Option FileError) (new : Option (List ℕ)) (left : List ℕ)
-    → SourceNext wanted is_each old r p (Some (Ok x)) source s q → (why : Failure) → WritesFirstOfEvent why f file here x mid kept new left → ((es : List Event) (at : Spot) → IsMissing why es at) → WritesFirst why f wanted file from gtid out held new left
-event_so_far f wanted file from gtid out held old r p here mid kept positions sought h is_each x source s q new left gives why writes missing =
+    → SourceNext wanted is_each old r p (Some (Ok x)) source s q → (why : Failure) → WritesFirstOfEvent why f file here x mid kept new left → MissesNone why → is_before positions.stop r.kept.at ≡ true → (is_each ≡ false → positions.stop ≡ None) → WritesFirst why f positions.stop wanted file from gtid out held new left
+event_so_far f wanted file from gtid out held old r p here mid kept positions sought h is_each x source s q new left gives why writes none before whole =
     let m = gives h.bytes h.finds in
     let at = m.2 in
     let passes = subst (λ (o : Option FileError). Passes is_each (spot_at r.kept o h.bytes) at) h.goes_on m.3 in
     let passed = passed_more f wanted file from gtid h.events h.text (spot_at r.kept None h.bytes) here is_each at h.lines passes in (
       h.text ++ writes.0,
-      record { events = passed.0; front = h.text; at = at; here = here; rows = writes.0; lines = passed.1; next = inr (m.4.0, spot_at s.kept q m.0, m.4.1, x, m.4.2, writes.1); missing = missing passed.0 at; whole = refl },
+      record { events = passed.0; front = h.text; at = at; here = here; rows = writes.0; lines = passed.1; next = inr (none, m.4.0, spot_at s.kept q m.0, m.4.1, x, m.4.2, writes.1); in_time = in_time_of why positions.stop at (still_before is_each positions.stop (spot_at r.kept None h.bytes) at passes before whole); missing = nothing_missing why passed.0 at none; whole = refl },
       up_to_more why out mid new held kept left h.text writes.0 h.outputs writes.2,
     )
 
@@ -188,10 +188,10 @@ event_but_output why g f file gtid (lent.Rows c) text is h = (h.0, h.1, h.2, h.3
 
 next_but_output : (why g : Failure) (f : Form) (wanted : Wanted) (file : List ℕ) (at : Spot) (gtid : Option (List ℕ)) (text : List ℕ) → IsOutput g → AreFirstOfNext why f wanted file at gtid text → AreFirstOfNext g f wanted file at gtid text
 next_but_output why g f wanted file at gtid text is (inl h) = inl (h.0, not_at_event g wanted at (output_not_file g is))
-next_but_output why g f wanted file at gtid text is (inr h) = inr (h.0, h.1, h.2, h.3, h.4, event_but_output why g f file gtid h.3 text is h.5)
+next_but_output why g f wanted file at gtid text is (inr h) = inr (output_misses_none g is, h.1, h.2, h.3, h.4, h.5, event_but_output why g f file gtid h.4 text is h.6)
 
-first_but_output : (why g : Failure) (f : Form) (wanted : Wanted) (file : List ℕ) (from : Spot) (gtid : Option (List ℕ)) (text : List ℕ) → IsOutput g → AreFirst why f wanted file from gtid text → AreFirst g f wanted file from gtid text
-first_but_output why g f wanted file from gtid text is h = record {
+first_but_output : (why g : Failure) (f : Form) (stop : Option ℕ) (wanted : Wanted) (file : List ℕ) (from : Spot) (gtid : Option (List ℕ)) (text : List ℕ) → IsOutput g → AreFirst why f stop wanted file from gtid text → AreFirst g f stop wanted file from gtid text
+first_but_output why g f stop wanted file from gtid text is h = record {
   events = h.events;
   front = h.front;
   at = h.at;
@@ -199,7 +199,8 @@ first_but_output why g f wanted file from gtid text is h = record {
   rows = h.rows;
   lines = h.lines;
   next = next_but_output why g f wanted file h.at h.here h.rows is h.next;
-  missing = missing_of_output g h.events h.at is;
+  in_time = not_late g stop h.at (output_not_file g is);
+  missing = nothing_missing g h.events h.at (output_misses_none g is);
   whole = h.whole;
 }
 
@@ -208,33 +209,33 @@ first_but_output why g f wanted file from gtid text is h = record {
 -- What was written of a file up to a failure: that of the reading, or of the output, whether the file was
 -- read to its end or not.
 pub written_of : (r : Result (Unit {0}) Failure) (g : Failure) (f : Form) (wanted : Wanted) (file : List ℕ) (positions : Positions) (from : Spot) (gtid : Option (List ℕ)) (old : Option (List ℕ)) (held : List ℕ) (new : Option (List ℕ)) (left : List ℕ)
-    → OnOk r (Writes f wanted file positions from gtid old held new left) → IfErr r (λ why. WritesFirst why f wanted file from gtid old held new left) → IsOutput g ⊎ (r ≡ Err g)
-    → (text : List ℕ) × AreFirst g f wanted file from gtid text × (lost : List ℕ) × OutputsBut old held text new left lost × IsLostBy r lost
+    → OnOk r (Writes f wanted file positions from gtid old held new left) → IfErr r (λ why. WritesFirst why f positions.stop wanted file from gtid old held new left) → IsOutput g ⊎ (r ≡ Err g)
+    → (text : List ℕ) × AreFirst g f positions.stop wanted file from gtid text × (lost : List ℕ) × OutputsBut old held text new left lost × IsLostBy r lost
 written_of (Ok u) g f wanted file positions from gtid old held new left all first (inl is) = (
   all.text,
-  record { events = all.events; front = all.text; at = all.end; here = all.after; rows = []; lines = all.lines; next = inl (refl, not_at_event g wanted all.end (output_not_file g is)); missing = missing_of_output g all.events all.end is; whole = sym (append-nil all.text) },
+  record { events = all.events; front = all.text; at = all.end; here = all.after; rows = []; lines = all.lines; next = inl (refl, not_at_event g wanted all.end (output_not_file g is)); in_time = not_late g positions.stop all.end (output_not_file g is); missing = nothing_missing g all.events all.end (output_misses_none g is); whole = sym (append-nil all.text) },
   [],
   (all.outputs.0, all.outputs.1, all.outputs.2 ∙ ap (λ (t : List ℕ). all.outputs.0 ++ t) (sym (append-nil left))),
   refl,
 )
 written_of (Ok u) g f wanted file positions from gtid old held new left all first (inr same) = absurd cc
-written_of (Err why) g f wanted file positions from gtid old held new left all first (inl is) = (first.0, first_but_output why g f wanted file from gtid first.0 is first.1, first.2.1, (first.2.0, first.2.2, first.2.3), first.2.4)
+written_of (Err why) g f wanted file positions from gtid old held new left all first (inl is) = (first.0, first_but_output why g f positions.stop wanted file from gtid first.0 is first.1, first.2.1, (first.2.0, first.2.2, first.2.3), first.2.4)
 written_of (Err why) g f wanted file positions from gtid old held new left all first (inr same) =
     let is : why ≡ g = cc in
-    (first.0, subst (λ (k : Failure). AreFirst k f wanted file from gtid first.0) is first.1, first.2.1, (first.2.0, first.2.2, first.2.3), first.2.4)
+    (first.0, subst (λ (k : Failure). AreFirst k f positions.stop wanted file from gtid first.0) is first.1, first.2.1, (first.2.0, first.2.2, first.2.3), first.2.4)
 
 -- first lines of what a reading finds after the first bytes of a file are first lines of the file
 pub first_lines : (why : Failure) (settings : Settings) (choice : Filter) (file x : List ℕ) (source : Option (List ℕ)) (r : Reading) (gtid : Option (List ℕ)) (Q : List ℕ → Type 0)
     → Consumes (Some x) source magic → r.kept ≡ first_kept → r.is_over ≡ false → length x < 2 ^ 64 → choice ≡ settings.filter → gtid ≡ None
-    → ((y : List ℕ) → Finds r source y → (text : List ℕ) × AreFirst why settings.form (wanted_by choice) file (spot_at r.kept None y) gtid text × Q text)
+    → ((y : List ℕ) → Finds r source y → (text : List ℕ) × AreFirst why settings.form settings.filter.positions.stop (wanted_by choice) file (spot_at r.kept None y) gtid text × Q text)
     → (text : List ℕ) × AreFirstLines why settings file x text × Q text
 first_lines why settings choice file x None r gtid Q consumes kept on small chosen none writes = absurd consumes
 first_lines why settings choice file x (Some y) r gtid Q consumes kept on small chosen none writes =
     let fits : r.kept.at + length y < 2 ^ 64 = omega (arith, ap (λ (k : Kept). k.at) kept, ap length consumes, length-append magic y, small) in
     let w = writes y (subst (λ (o : Bool). Found o r.kept.at (Some y) y) (sym on) (refl, fits)) in
     let f = settings.form in
-    let lines1 = subst (λ (c : Filter). AreFirst why f (wanted_by c) file (spot_at r.kept None y) gtid w.0) chosen w.1 in
-    let lines2 = subst (λ (k : Kept). AreFirst why f (wanted_by settings.filter) file (spot_at k None y) gtid w.0) kept lines1 in
-    let lines3 = subst (λ (g : Option (List ℕ)). AreFirst why f (wanted_by settings.filter) file (spot_at first_kept None y) g w.0) none lines2 in
+    let lines1 = subst (λ (c : Filter). AreFirst why f settings.filter.positions.stop (wanted_by c) file (spot_at r.kept None y) gtid w.0) chosen w.1 in
+    let lines2 = subst (λ (k : Kept). AreFirst why f settings.filter.positions.stop (wanted_by settings.filter) file (spot_at k None y) gtid w.0) kept lines1 in
+    let lines3 = subst (λ (g : Option (List ℕ)). AreFirst why f settings.filter.positions.stop (wanted_by settings.filter) file (spot_at first_kept None y) g w.0) none lines2 in
     subst (λ (t : List ℕ). (text : List ℕ) × AreFirstLines why settings file t text × Q text) (sym consumes)
     (w.0, inr (refl, lines3), w.2)

@@ -14,7 +14,7 @@ use Rattle.change_lines.specs.declared.run.Settings.{Settings}
 use Rattle.changed_rows.specs.declared.filter.Filter.{Filter}
 use Rattle.changed_rows.specs.Names.{is_before}
 use Rattle.changed_rows.specs.declared.filter.Positions.{Positions}
-use Rattle.changed_rows.specs.Filters.{wanted_by, start_sought, start_after}
+use Rattle.changed_rows.specs.Filters.{wanted_by, start_sought, start_after, IsUpTo}
 use Rattle.change_lines.specs.Outputs.{Outputs}
 use Rattle.change_lines.specs.Readings.{Passes, SourceNext}
 use Rattle.change_lines.specs.Lines.{gtid_past, AreLines, WritesEvent, IsEnd, Writes}
@@ -25,7 +25,8 @@ use Rattle.change_lines.proofs.Begun.{IsSought, IsUnseen, past_position, sought_
 use Rattle.change_lines.proofs.Outputs.{outputs_more}
 
 -- What was written so far: the lines of the events from a spot on up to the place of a reading, which finds
--- these bytes. An event is looked for at the start position, or began there. None began at the stop position.
+-- these bytes. An event is looked for at the start position, and none began there or after it; or one began there. None began
+-- at the stop position or after it.
 pub record SoFar (f : Form) (wanted : Wanted) (file : List ℕ) (from : Spot) (gtid : Option (List ℕ)) (out : Option (List ℕ)) (held : List ℕ) (source : Option (List ℕ)) (r : Reading) (pending : Option FileError) (here : Option (List ℕ)) (new : Option (List ℕ)) (left : List ℕ) (positions : Positions) (sought : Option ℕ) : Type 0 where
   pub goes_on : pending ≡ None
   pub bytes : List ℕ
@@ -42,13 +43,18 @@ stays_at : (is_each : Bool) (old at : Spot) → Passes is_each old at → is_eac
 stays_at true old at same each = ap (λ (s : Spot). s.place.at) same
 stays_at false old at same each = absurd (let bad = each in cc)
 
+-- where events are passed over there is no stop position
+pub still_before : (is_each : Bool) (stop : Option ℕ) (old at : Spot) → Passes is_each old at → is_before stop old.place.at ≡ true → (is_each ≡ false → stop ≡ None) → is_before stop at.place.at ≡ true
+still_before true stop old at same before whole = subst (λ (s : Spot). is_before stop s.place.at ≡ true) (sym same) before
+still_before false stop old at passes before whole = subst (λ (o : Option ℕ). is_before o at.place.at ≡ true) (sym (whole refl)) refl
+
 -- one event more was read and written, perhaps after others that were passed over
 pub step : (f : Form) (wanted : Wanted) (file : List ℕ) (from : Spot) (gtid : Option (List ℕ)) (out : Option (List ℕ)) (held : List ℕ) (old : Option (List ℕ)) (r : Reading) (p : Option FileError) (here : Option (List ℕ)) (mid : Option (List ℕ)) (kept : List ℕ) (positions : Positions) (sought : Option ℕ)
     → SoFar f wanted file from gtid out held old r p here mid kept positions sought
     → (is_each : Bool) (x : LentEvent) (source : Option (List ℕ)) (s : Reading) (q : Option FileError) (after : Option (List ℕ)) (new : Option (List ℕ)) (left : List ℕ)
     → SourceNext wanted is_each old r p (Some (Ok x)) source s q → WritesEvent f file here x mid kept new left → after ≡ gtid_past here x → (is_each ≡ false → sought ≡ None) → (is_each ≡ false → positions.stop ≡ None)
-    → is_before positions.stop r.kept.at ≡ true → (next : Option ℕ) → next ≡ start_after sought r.kept.at → SoFar f wanted file from gtid out held source s q after new left positions next
-step f wanted file from gtid out held old r p here mid kept positions sought h is_each x source s q after new left gives writes is free whole before next goes =
+    → is_before positions.stop r.kept.at ≡ true → IsUpTo sought r.kept.at → (next : Option ℕ) → next ≡ start_after sought r.kept.at → SoFar f wanted file from gtid out held source s q after new left positions next
+step f wanted file from gtid out held old r p here mid kept positions sought h is_each x source s q after new left gives writes is free whole before up_to next goes =
     let m = gives h.bytes h.finds in
     let at = m.2 in
     let passes = subst (λ (o : Option FileError). Passes is_each (spot_at r.kept o h.bytes) at) h.goes_on m.3 in
@@ -68,7 +74,7 @@ step f wanted file from gtid out held old r p here mid kept positions sought h i
       lines = subst (λ (g : Option (List ℕ)). AreLines f wanted file from gtid (passed.0 ++ e ∷ []) (h.text ++ writes.0) (spot_at s.kept None m.0) g) (sym is) lines;
       outputs = outputs_more out mid new held kept left h.text writes.0 h.outputs writes.2;
       is_sought = subst (λ (o : Option ℕ). IsSought (start_sought positions) o (passed.0 ++ e ∷ [])) (sym goes) (sought_next (start_sought positions) sought r.kept.at at.place.at h.events passed.0 e is_each h.is_sought free there here_at passed.2);
-      unseen = subst (λ (o : Option ℕ). IsUnseen o (passed.0 ++ e ∷ [])) (sym goes) (unseen_next sought r.kept.at at.place.at h.events passed.0 e is_each h.unseen free there same here_at);
+      unseen = subst (λ (o : Option ℕ). IsUnseen o (passed.0 ++ e ∷ [])) (sym goes) (unseen_next sought r.kept.at at.place.at h.events passed.0 e is_each h.unseen up_to free there same here_at);
       early = early_next positions.stop r.kept.at at.place.at h.events passed.0 e is_each h.early whole there same here_at before;
     }
 

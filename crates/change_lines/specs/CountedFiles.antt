@@ -17,7 +17,7 @@ use Rattle.changed_rows.specs.Filters.{operation_of, wanted_by}
 use Rattle.changed_rows.specs.Counted.{Name, Counted, CountsMore}
 use Rattle.change_lines.specs.Rows.{BeginsWith}
 use Rattle.change_lines.specs.Lines.{IsEnd}
-use Rattle.change_lines.specs.Failures.{IsNotOfFile, EndsAtRow, EndsAtEvent, EndsAtHeader}
+use Rattle.change_lines.specs.Failures.{IsNotOfFile, EndsAtRow, EndsAtEvent, EndsAtHeader, IsInTime}
 
 -- ---- the rows of an event
 
@@ -69,14 +69,15 @@ AreNextCounted why wanted at xs =
     ⊎ ((e : Event) × (new : Spot) × GoesPast at e new × (x : LentEvent) × Shows wanted new.in_force.tables (glance_of e) x × AreFirstEventRows why x xs)
 
 -- The rows of some events that are read one after the other from a spot on, and then some first rows of the
--- next one, up to a failure.
-pub record AreFirstCounted (why : Failure) (wanted : Wanted) (from : Spot) (xs : List Counted) : Type 0 where
+-- next one, up to a failure. If that is an error of the file, the next one begins before the stop position.
+pub record AreFirstCounted (why : Failure) (stop : Option ℕ) (wanted : Wanted) (from : Spot) (xs : List Counted) : Type 0 where
   pub events : List Event
   pub front : List Counted
   pub at : Spot
   pub rows : List Counted
   pub counted : AreCounted wanted from events front at
   pub next : AreNextCounted why wanted at rows
+  pub in_time : IsInTime why stop at
   pub whole : xs ≡ front ++ rows
 
 -- ---- files
@@ -89,7 +90,7 @@ AreAllCounted settings x xs = (is_binlog x ≡ true) × AreCountedToEnd settings
 abbrev pub AreFirstOfFile : Failure → Settings → List ℕ → List Counted → Type 0
 AreFirstOfFile why settings x xs =
     ((xs ≡ []) × EndsAtHeader why x)
-    ⊎ ((is_binlog x ≡ true) × AreFirstCounted why (wanted_by settings.filter) (first_spot x) xs)
+    ⊎ ((is_binlog x ≡ true) × AreFirstCounted why settings.filter.positions.stop (wanted_by settings.filter) (first_spot x) xs)
 
 -- such rows were counted beside all that was counted before
 abbrev pub CountsThese : (List Counted → Type 0) → Counts → Counts → Type 0

@@ -1,5 +1,5 @@
 -- What was written where a run ends early. It is a module of its own because Failure is a type of the code.
-use Rattle.std.specs.Prelude.{◌≡◌, ◌≢◌, ◌⊎◌, ◌+◌, ◌<◌, ℕ, List, [], ◌++◌, length, Option, Some, Result, Ok, Err, ⊤}
+use Rattle.std.specs.Prelude.{◌≡◌, ◌≢◌, ◌⊎◌, ◌+◌, ◌<◌, ℕ, true, List, [], ◌∷◌, ◌++◌, length, Option, Some, Result, Ok, Err, ⊤}
 use Rattle.std.specs.Io.KnownBytes.{Appends}
 use Rattle.binlog_base.specs.declared.fault.Fault.{Fault}
 use Rattle.binlog_base.specs.declared.fault.Fault.TheVariants as fault
@@ -21,13 +21,13 @@ use Rattle.row_json.specs.Faults.{IsFaultOfPair}
 use Rattle.change_lines.specs.declared.error.Failure.{Failure}
 use Rattle.change_lines.specs.declared.error.Failure.TheVariants as failure
 use Rattle.change_lines.specs.declared.run.Form.{Form}
-use Rattle.changed_rows.specs.Names.{up_to_most}
+use Rattle.changed_rows.specs.Names.{up_to_most, is_before}
 use Rattle.std.specs.declared.io.Error.{Error}
 use Rattle.changed_rows.specs.declared.filter.Positions.{Positions}
 use Rattle.changed_rows.specs.Filters.{start_sought}
 use Rattle.change_lines.specs.Outputs.{IsErrorOf}
 use Rattle.change_lines.specs.Rows.{AreLinesBy, BeginsWith}
-use Rattle.change_lines.specs.Lines.{AreRowLines, AreLines, BeginsAt}
+use Rattle.change_lines.specs.Lines.{AreRowLines, AreLines}
 
 -- ---- what a failure is of
 
@@ -99,22 +99,38 @@ AreFirstOfEvent why f file gtid (lent.Other o) text = (text ≡ []) × IsNotOfFi
 AreFirstOfEvent why f file gtid (lent.Rows c) text =
     (ps : List Pair) × (rest : List ℕ) × BeginsWith (pair c.table c.rows) c.left ps rest × AreRowLines f file gtid c 0 ps text × EndsAtRow why c (length ps) rest
 
--- no lines, where the event at a spot fails; or those of the first rows of this event, up to the failure
+-- no position is missing
+abbrev pub MissesNone : Failure → Type 0
+MissesNone (failure.NoEvent n) = ⊥
+MissesNone _ = ⊤
+
+-- No lines, where the event at a spot fails, or no event begins at a position; or those of the first rows of
+-- this event, up to the failure.
 abbrev pub AreFirstOfNext : Failure → Form → Wanted → List ℕ → Spot → Option (List ℕ) → List ℕ → Type 0
 AreFirstOfNext why f wanted file at gtid text =
     ((text ≡ []) × EndsAtEvent why wanted at)
-    ⊎ ((e : Event) × (new : Spot) × GoesPast at e new × (x : LentEvent) × Shows wanted new.in_force.tables (glance_of e) x × AreFirstOfEvent why f file gtid x text)
+    ⊎ (MissesNone why × (e : Event) × (new : Spot) × GoesPast at e new × (x : LentEvent) × Shows wanted new.in_force.tables (glance_of e) x × AreFirstOfEvent why f file gtid x text)
 
--- Where no event begins at a position, none of these events does, and the next one, if there is one, begins
--- after it.
+-- each of these events begins before a position
+abbrev pub AllBegin : List Event → ℕ → Type 0
+AllBegin [] n = ⊤
+AllBegin (e ∷ es) n = (e.position < n) × AllBegin es n
+
+-- Where no event begins at a position, each of these events begins before it, and the next one, if there is
+-- one, after it.
 abbrev pub IsMissing : Failure → List Event → Spot → Type 0
-IsMissing (failure.NoEvent n) es at = (BeginsAt n es → ⊥) × ((n < at.place.at) ⊎ (at.place.left ≡ []))
+IsMissing (failure.NoEvent n) es at = AllBegin es n × ((n < at.place.at) ⊎ (at.place.left ≡ []))
 IsMissing _ es at = ⊤
 
+-- an error of the file is that of an event before the stop position, if there is one
+abbrev pub IsInTime : Failure → Option ℕ → Spot → Type 0
+IsInTime (failure.File e) stop at = is_before stop at.place.at ≡ true
+IsInTime _ stop at = ⊤
+
 -- Lines of a file from a spot on, up to a failure: those of some events that are read one after the other,
--- and then those of some first rows of the next one. A position at which no event begins is missing in the
--- file.
-pub record AreFirst (why : Failure) (f : Form) (wanted : Wanted) (file : List ℕ) (from : Spot) (gtid : Option (List ℕ)) (text : List ℕ) : Type 0 where
+-- and then those of some first rows of the next one, which begins before the stop position if the failure is
+-- an error of the file. A position at which no event begins is missing in the file.
+pub record AreFirst (why : Failure) (f : Form) (stop : Option ℕ) (wanted : Wanted) (file : List ℕ) (from : Spot) (gtid : Option (List ℕ)) (text : List ℕ) : Type 0 where
   pub events : List Event
   pub front : List ℕ
   pub at : Spot
@@ -122,6 +138,7 @@ pub record AreFirst (why : Failure) (f : Form) (wanted : Wanted) (file : List �
   pub rows : List ℕ
   pub lines : AreLines f wanted file from gtid events front at here
   pub next : AreFirstOfNext why f wanted file at here rows
+  pub in_time : IsInTime why stop at
   pub missing : IsMissing why events at
   pub whole : text ≡ front ++ rows
 
@@ -160,8 +177,8 @@ abbrev pub WritesFirstOfEvent : Failure → Form → List ℕ → Option (List �
 WritesFirstOfEvent why f file gtid x old held new left = (text : List ℕ) × AreFirstOfEvent why f file gtid x text × OutputsUpTo why old held text new left
 
 -- Lines of a file from a spot on were written.
-abbrev pub WritesFirst : Failure → Form → Wanted → List ℕ → Spot → Option (List ℕ) → Option (List ℕ) → List ℕ → Option (List ℕ) → List ℕ → Type 0
-WritesFirst why f wanted file from gtid old held new left = (text : List ℕ) × AreFirst why f wanted file from gtid text × OutputsUpTo why old held text new left
+abbrev pub WritesFirst : Failure → Form → Option ℕ → Wanted → List ℕ → Spot → Option (List ℕ) → Option (List ℕ) → List ℕ → Option (List ℕ) → List ℕ → Type 0
+WritesFirst why f stop wanted file from gtid old held new left = (text : List ℕ) × AreFirst why f stop wanted file from gtid text × OutputsUpTo why old held text new left
 
 -- ---- what the functions give
 

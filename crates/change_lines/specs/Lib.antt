@@ -8,3 +8,4 @@ pub mod CountedFiles
 pub mod Runs
 pub mod Arguments
 pub mod Printers
+pub mod Notes

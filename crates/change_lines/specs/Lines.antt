@@ -1,5 +1,5 @@
 -- The lines of a file's rows.
-use Rattle.std.specs.Prelude.{◌≡◌, ◌⊎◌, ℕ, List, [], ◌∷◌, ◌++◌, codes, decimal, Option, Some, None, MatchOption, ⊤}
+use Rattle.std.specs.Prelude.{◌≡◌, ◌⊎◌, ℕ, List, [], ◌∷◌, ◌++◌, codes, decimal, Option, Some, None, MatchOption, if◌then◌else◌, ⊤}
 use Rattle.std.specs.Str.Lossy.{utf8_lossy}
 use Rattle.binlog_table.specs.TableMap.{TableMap}
 use Rattle.mysql_binlog_rows.specs.Images.{Pair, pair}
@@ -16,9 +16,11 @@ use Rattle.row_lines.specs.Lines.{signed_line_text}
 use Rattle.change_lines.specs.declared.run.Form.{Form}
 use Rattle.change_lines.specs.declared.run.Form.TheVariants as form
 use Rattle.changed_rows.specs.declared.filter.Positions.{Positions}
-use Rattle.changed_rows.specs.Filters.{start_sought}
+use Rattle.changed_rows.specs.Filters.{start_sought, is_among}
 use Rattle.changed_rows.specs.Names.{up_to_most}
 use Rattle.changed_rows.specs.Gtids.{gtid_after}
+use Rattle.changed_rows.specs.Gaps.{gap_of, gap_of_rows, with_gap}
+use Rattle.changed_rows.specs.declared.gaps.Gaps.{Gaps}
 use Rattle.changed_rows.specs.Origins.{member_of_row}
 use Rattle.change_lines.specs.Outputs.{Outputs}
 use Rattle.change_lines.specs.Rows.{AreLinesBy}
@@ -50,6 +52,12 @@ AreEventLines f file gtid (lent.Rows c) text = (ps : List Pair) × Covers (pair 
 abbrev pub gtid_past : Option (List ℕ) → LentEvent → Option (List ℕ)
 gtid_past old (lent.Rows c) = old
 gtid_past old (lent.Other o) = gtid_after old o
+
+-- What is said of changes up to the end of an event that has so many rows. Of the events that are no rows events
+-- that are wanted, those count that begin at these positions.
+abbrev pub gaps_past : Positions → ℕ → LentEvent → Gaps → Gaps
+gaps_past p n (lent.Rows c) old = with_gap (gap_of_rows n) old
+gaps_past p n (lent.Other o) old = if is_among p o.origin.position then with_gap (gap_of o) old else old
 
 -- the reading ends at the stop position, or, without one, where no bytes are left
 abbrev pub IsEnd : Option ℕ → Spot → Type 0

@@ -1,11 +1,13 @@
 -- The lines of the rows of an event.
-use Rattle.std.specs.Prelude.{◌≡◌, ℕ, suc, List, [], ◌∷◌, ◌++◌, Option, None}
+use Rattle.std.specs.Prelude.{◌≡◌, ℕ, suc, List, [], ◌∷◌, ◌++◌, length, Option, None}
 use Rattle.std.specs.List.{concat}
 use Rattle.binlog_base.specs.Format.{Format}
 use Rattle.mysql_binlog_rows.specs.RowsEvent.{RowsEvent}
 use Rattle.mysql_binlog_rows.specs.Images.{Pair, pair}
 use Rattle.mysql_binlog_rows.specs.Cover.{ArePairs, Covers}
 use Rattle.binlog_file.specs.LentChanges.{LentChange}
+use Rattle.binlog_file.specs.declared.lent_changes.LentEvent.{LentEvent}
+use Rattle.binlog_file.specs.declared.lent_changes.LentEvent.TheVariants as lent
 use Rattle.row_json.specs.Columns.{Column}
 use Rattle.row_json.specs.Rows.{IsLine}
 use Rattle.changed_rows.specs.declared.source.Source.{Source}
@@ -34,3 +36,12 @@ pub record WritesRows (Is : ℕ → Pair → List ℕ → Type 0) (c : LentChang
   pub covers : Covers (pair c.table c.rows) c.left pairs None
   pub lines : AreLinesBy Is 0 pairs text
   pub outputs : Outputs old held text new left
+
+-- All rows of an event can be read, and there are so many, up to the most that a number holds.
+abbrev pub IsRowCount : LentChange → ℕ → Type 0
+IsRowCount c n = (ps : List Pair) × Covers (pair c.table c.rows) c.left ps None × (n ≡ up_to_most (length ps))
+
+-- so many rows of an event are wanted: none of an event that is no rows event that is wanted
+abbrev pub IsRowCountOf : LentEvent → ℕ → Type 0
+IsRowCountOf (lent.Rows c) n = IsRowCount c n
+IsRowCountOf (lent.Other o) n = n ≡ 0

@@ -27,11 +27,12 @@ pub record AreAllLines (settings : Settings) (file : List ℕ) (x : List ℕ) (t
 
 -- These are first lines of a file of this name and these bytes, up to a failure: none, where it is no binlog
 -- file; or those of some first events, each of which is read without an error, and then those of some first
--- rows of the next one. Rows of events past the stop position aren't wanted, so that no line is theirs.
+-- rows of the next one. Rows of events past the stop position aren't wanted, so that no line is theirs, and
+-- no error of the file is of such an event.
 abbrev pub AreFirstLines : Failure → Settings → List ℕ → List ℕ → List ℕ → Type 0
 AreFirstLines why settings file x text =
     ((text ≡ []) × EndsAtHeader why x)
-    ⊎ ((is_binlog x ≡ true) × AreFirst why settings.form (wanted_by settings.filter) file (first_spot x) None text)
+    ⊎ ((is_binlog x ≡ true) × AreFirst why settings.form settings.filter.positions.stop (wanted_by settings.filter) file (first_spot x) None text)
 
 -- the output failed because whoever read it went away
 abbrev pub IsBrokenPipe : Failure → Type 0

@@ -1,5 +1,8 @@
 //! What is said on standard error.
 
+ghost use Rattle.std.specs.Prelude.{◌≡◌, ◌≤◌, [], length, None, IsTrue, OnOk};
+ghost use Rattle.change_lines.specs.Notes.{TellsAtMostOne};
+
 use crate::error::{Failure, Told};
 use crate::progress::Meter;
 use crate::run::Form;
@@ -35,11 +38,23 @@ pub struct Notes<'c, E, K> {
     // How many bytes the file has, if that is known.
     len: Option<u64>,
     meter: Option<Meter<'c, K>>,
+    // What is kept is bounded, however many tables a file names.
+    ghost few_told: { length told.keys ≤ 1024 },
+    ghost few_ids: { length seen.keys ≤ 4096 },
 }
 
 impl<'c, E: Write + Drop, K: Clock> Notes<'c, E, K> {
+    ghost use Rattle.binlog_file.specs.LentChanges.{OtherEvent};
+    ghost use Rattle.binlog_file.specs.declared.lent_changes.LentEvent.TheVariants as lent;
+    ghost use Rattle.change_lines.specs.declared.run.Form.TheVariants as Form;
+
     /// Returns notes that were not begun. If they are quiet, only errors are told.
-    pub fn new(alloc: Global, err: E, is_quiet: bool) -> Notes<'c, E, K> {
+    pub fn new(alloc: Global, err: E, is_quiet: bool) -> Notes<'c, E, K>
+        ensures none_told { result.told.keys ≡ [] }
+        ensures no_ids { result.seen.keys ≡ [] }
+        ensures quiet { result.is_quiet ≡ is_quiet }
+        ensures err { result.err ≡ err }
+    {
         Notes {
             alloc,
             err,
@@ -54,20 +69,38 @@ impl<'c, E: Write + Drop, K: Clock> Notes<'c, E, K> {
 
     /// Begins the notes of a file of so many bytes, if that is known, with a meter if progress is to be
     /// told.
-    pub fn begin(&mut self, len: Option<u64>, meter: Option<Meter<'c, K>>) {
+    pub fn begin(&mut self, len: Option<u64>, meter: Option<Meter<'c, K>>)
+        ensures no_ids { self.new.seen.keys ≡ [] }
+        ensures len { self.new.len ≡ len }
+        ensures meter { self.new.meter ≡ meter.entry }
+        ensures told { self.new.told ≡ self.old.told }
+        ensures quiet { self.new.is_quiet ≡ self.old.is_quiet }
+        ensures err { self.new.err ≡ self.old.err }
+    {
         self.forget_ids();
         self.len = len;
         self.meter = meter;
     }
 
     // Takes in that from here on the ids may be those of other tables.
-    fn forget_ids(&mut self) {
+    fn forget_ids(&mut self)
+        ensures no_ids { self.new.seen.keys ≡ [] }
+        ensures no_last { self.new.last ≡ None }
+        ensures len { self.new.len ≡ self.old.len }
+        ensures meter { self.new.meter ≡ self.old.meter }
+        ensures told { self.new.told ≡ self.old.told }
+        ensures quiet { self.new.is_quiet ≡ self.old.is_quiet }
+        ensures err { self.new.err ≡ self.old.err }
+    {
         self.seen.clear();
         self.last = None;
     }
 
     /// Tells why the reading of a file ended early.
-    pub fn tell(&mut self, path: &str, failure: &Failure) {
+    pub fn tell(&mut self, path: &str, failure: &Failure)
+        ensures quiet { self.new.is_quiet ≡ self.old.is_quiet }
+        ensures told { self.new.told ≡ self.old.told }
+    {
         let told = Told {
             path,
             len: self.len,
@@ -77,7 +110,12 @@ impl<'c, E: Write + Drop, K: Clock> Notes<'c, E, K> {
     }
 
     /// Takes in that so many rows of the event at a position were read, and tells the progress.
-    pub fn step(&mut self, path: &str, position: u64, rows: u64) {
+    pub fn step(&mut self, path: &str, position: u64, rows: u64)
+        ensures quiet { self.new.is_quiet ≡ self.old.is_quiet }
+        ensures told { self.new.told ≡ self.old.told }
+        ensures no_meter { self.old.meter ≡ None → self.new.meter ≡ None }
+        ensures silent { self.old.meter ≡ None → self.new.err ≡ self.old.err }
+    {
         if let Some(meter) = &mut self.meter {
             meter.add_rows(rows);
             let _written = meter.step(path, position, &mut self.err);
@@ -85,14 +123,22 @@ impl<'c, E: Write + Drop, K: Clock> Notes<'c, E, K> {
     }
 
     // Tells how often a file says something of changes that its rows don't show, unless it never does.
-    fn tell_gap(&mut self, path: &str, what: &str, count: u64) {
+    fn tell_gap(&mut self, path: &str, what: &str, count: u64)
+        ensures quiet { self.new.is_quiet ≡ self.old.is_quiet }
+        ensures told { self.new.told ≡ self.old.told }
+        ensures never { count ≡ 0 → self.new ≡ self.old }
+    {
         if count > 0 {
             let _written = writeln!(self.err, "changes: {path}: {what}: {count}");
         }
     }
 
     /// Tells what a file says of changes that its rows don't show.
-    pub fn tell_gaps(&mut self, path: &str, gaps: &Gaps) {
+    pub fn tell_gaps(&mut self, path: &str, gaps: &Gaps)
+        ensures quiet { self.new.is_quiet ≡ self.old.is_quiet }
+        ensures told { self.new.told ≡ self.old.told }
+        ensures silent { IsTrue self.old.is_quiet → self.new ≡ self.old }
+    {
         if self.is_quiet {
             return;
         }
@@ -133,8 +179,16 @@ impl<'c, E: Write + Drop, K: Clock> Notes<'c, E, K> {
         );
     }
 
-    /// Takes in an event that is printed in a form.
-    pub fn see(&mut self, form: Form, event: &LentEvent<'_>) -> Result<(), AllocError> {
+    /// Takes in an event that is printed in a form. It fails if memory is refused.
+    pub fn see(&mut self, form: Form, event: &LentEvent<'_>) -> Result<(), AllocError>
+        ensures quiet { self.new.is_quiet ≡ self.old.is_quiet }
+        ensures silent { IsTrue self.old.is_quiet → self.new.err ≡ self.old.err }
+        ensures counted { form ≡ Form.Count → self.new.err ≡ self.old.err }
+        ensures forgets { (e : OtherEvent) → event.now ≡ lent.Other e → e.header.event_type ≡ 0x0F
+            → (self.new.seen.keys ≡ []) × (self.new.last ≡ None) }
+        ensures once { OnOk result (TellsAtMostOne self.old.err self.new.err
+            self.old.told.keys self.new.told.keys) }
+    {
         match (form, event) {
             (Form::Json | Form::Text, LentEvent::Rows(change)) => self.see_table(change.table()),
             (_, LentEvent::Other(other)) if other.header().event_type() == FORMAT_DESCRIPTION => {
@@ -146,7 +200,12 @@ impl<'c, E: Write + Drop, K: Clock> Notes<'c, E, K> {
     }
 
     // Tells once for each table what its event lacks.
-    fn see_table(&mut self, table: &TableMapEvent<'_>) -> Result<(), AllocError> {
+    fn see_table(&mut self, table: &TableMapEvent<'_>) -> Result<(), AllocError>
+        ensures quiet { self.new.is_quiet ≡ self.old.is_quiet }
+        ensures silent { IsTrue self.old.is_quiet → self.new ≡ self.old }
+        ensures once { OnOk result (TellsAtMostOne self.old.err self.new.err
+            self.old.told.keys self.new.told.keys) }
+    {
         let id = table.table_id();
         if self.is_quiet || self.last == Some(id) || self.seen.contains(&id) {
             return Ok(());
@@ -159,7 +218,12 @@ impl<'c, E: Write + Drop, K: Clock> Notes<'c, E, K> {
     }
 
     // Tells what a table's event lacks, if it lacks something and that wasn't told.
-    fn tell_lack(&mut self, table: &TableMapEvent<'_>) -> Result<(), AllocError> {
+    fn tell_lack(&mut self, table: &TableMapEvent<'_>) -> Result<(), AllocError>
+        ensures quiet { self.new.is_quiet ≡ self.old.is_quiet }
+        ensures full { 1024 ≤ length self.old.told.keys → self.new ≡ self.old }
+        ensures once { OnOk result (TellsAtMostOne self.old.err self.new.err
+            self.old.told.keys self.new.told.keys) }
+    {
         if self.told.len() >= MOST_TABLES {
             return Ok(());
         }

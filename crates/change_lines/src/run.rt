@@ -7,7 +7,7 @@ ghost use Rattle.std.specs.Io.KnownBytes.{Appends};
 ghost use Rattle.row_json.specs.Rows.{IsLine};
 ghost use Rattle.row_json.specs.Columns.{columns_of};
 ghost use Rattle.row_lines.specs.Lines.{signed_line_text};
-ghost use Rattle.std.specs.Prelude.{◌^◌, ◌*◌, ◌<◌, length, Some, None, Ok, Err, IfSome, IsSome, IsOk};
+ghost use Rattle.std.specs.Prelude.{◌^◌, ◌*◌, ◌<◌, ◌≤◌, length, vec_capacity, Some, None, Ok, Err, IfSome, IsSome, IsOk};
 ghost use Rattle.mysql_binlog_rows.specs.Images.{Pair, pair};
 ghost use Rattle.mysql_binlog_rows.specs.Cover.{Covers};
 ghost use Rattle.binlog_file.specs.declared.lent_changes.LentEvent.TheVariants as lent;
@@ -19,9 +19,9 @@ ghost use Rattle.changed_rows.specs.Filters.{wanted_by};
 ghost use Rattle.changed_rows.specs.Gtids.{gtid_after};
 ghost use Rattle.changed_rows.specs.Sources.{members_in};
 ghost use Rattle.change_lines.specs.Outputs.{Outputs, AppendsFirst};
-ghost use Rattle.change_lines.specs.Rows.{BeginsWith, IsJsonLine, WritesRows};
+ghost use Rattle.change_lines.specs.Rows.{BeginsWith, IsJsonLine, WritesRows, IsRowCount, IsRowCountOf};
 ghost use Rattle.change_lines.specs.Readings.{Stays, SourceNext};
-ghost use Rattle.change_lines.specs.Lines.{place_text, IsRowLine, gtid_past, WritesEvent, Writes};
+ghost use Rattle.change_lines.specs.Lines.{place_text, IsRowLine, gtid_past, gaps_past, WritesEvent, Writes};
 ghost use Rattle.change_lines.specs.declared.error.Failure.{Failure};
 ghost use Rattle.change_lines.specs.Failures.{IsOutput, IsErrorOfRow, EndsAtRow, IsRowFailure, IsLineFailure};
 ghost use Rattle.change_lines.specs.Failures.{IsOfReading, IsOfEvent, IsOfRun};
@@ -167,7 +167,8 @@ impl Lines {
 
     // Empties the lines. The memory of a long one is given back.
     fn empty(&mut self)
-        ensures { self.new.bytes.items ≡ [] }
+        ensures empty { self.new.bytes.items ≡ [] }
+        ensures kept { vec_capacity self.new.bytes ≤ 1024 * 1024 }
     {
         if self.bytes.capacity() > MOST_KEPT {
             self.bytes = Vec::new(self.alloc);
@@ -184,6 +185,7 @@ impl Lines {
         ensures failed { IfErr result IsOutput }
         ensures cause { IfErr result (IsOfEvent O.writes O.flushes) }
         ensures left { self.new.bytes.items ≡ [] }
+        ensures kept { vec_capacity self.new.bytes ≤ 1024 * 1024 }
     {
         let written = write_whole(out, &self.bytes);
         self.empty();
@@ -222,6 +224,8 @@ impl Lines {
         ensures flushed { OnOk result ((mid : O) × (u : Unit {0}) × O.flushes mid (Ok u) out.new) }
         ensures first { IfErr result (λ why. (lost : List ℕ) → IsLostBy read lost → AppendsUpTo why
             (O.contents out.old) (O.contents out.new) (self.old.bytes.items ++ lost)) }
+        ensures flushed_first { IfErr result (λ why. IsOutput why
+            ⊎ ((mid : O) × (u : Unit {0}) × O.flushes mid (Ok u) out.new)) }
     {
         self.write_out(out)?;
         match out.flush_once() {
@@ -297,6 +301,9 @@ fn write_json_rows<'f, 'b, S: Bytes + Drop, O: WriteOnce>(
         lines.old.bytes.items (O.contents out.new) lines.new.bytes.items) }
     ensures stays { OnOk result (Stays changes.old changes.new) }
     ensures cause { IfErr result (IsOfEvent O.writes O.flushes) }
+    ensures few { OnOk result (length lines.old.bytes.items < 32 * 1024
+        → length lines.new.bytes.items < 32 * 1024) }
+    ensures rows { IfOk result (IsRowCount change.old) }
 {
     let mut row: u64 = 0;
     while let Some(read) = changes.next_pair(change, buffer) {
@@ -326,6 +333,9 @@ fn write_text_rows<'f, 'b, S: Bytes + Drop, O: WriteOnce>(
         lines.old.bytes.items (O.contents out.new) lines.new.bytes.items) }
     ensures stays { OnOk result (Stays changes.old changes.new) }
     ensures cause { IfErr result (IsOfEvent O.writes O.flushes) }
+    ensures few { OnOk result (length lines.old.bytes.items < 32 * 1024
+        → length lines.new.bytes.items < 32 * 1024) }
+    ensures rows { IfOk result (IsRowCount change.old) }
 {
     let mut count: u64 = 0;
     while let Some(read) = changes.next_pair(change, buffer) {
@@ -451,6 +461,10 @@ impl<'a> Printer<'a> {
         ensures cause { IfErr result (IsOfEvent O.writes O.flushes) }
         ensures same { IsSame self.old self.new }
         ensures gtid { self.new.gtid ≡ self.old.gtid }
+        ensures few { OnOk result (length self.old.lines.bytes.items < 32 * 1024
+            → length self.new.lines.bytes.items < 32 * 1024) }
+        ensures rows { IfOk result (IsRowCount change.old) }
+        ensures gaps { self.new.gaps ≡ self.old.gaps }
     {
         let table = self.tables.table(self.alloc, change.table())?;
         let (database, name) = (table.database(), table.name());
@@ -480,6 +494,10 @@ impl<'a> Printer<'a> {
         ensures cause { IfErr result (IsOfEvent O.writes O.flushes) }
         ensures same { IsSame self.old self.new }
         ensures gtid { self.new.gtid ≡ self.old.gtid }
+        ensures few { OnOk result (length self.old.lines.bytes.items < 32 * 1024
+            → length self.new.lines.bytes.items < 32 * 1024) }
+        ensures rows { IfOk result (IsRowCount change.old) }
+        ensures gaps { self.new.gaps ≡ self.old.gaps }
     {
         let place = self.place(change.position(), change.table())?;
         write_text_rows(
@@ -511,6 +529,7 @@ impl<'a> Printer<'a> {
             counts.old counts.new) }
         ensures first_counts { IfErr result (λ why. CountsThese
             (AreFirstEventRows why (lent.Rows change.old)) counts.old counts.new) }
+        ensures rows { IfOk result (IsRowCount change.old) }
     {
         let name = TableName::of(self.alloc, change.table())?;
         let operation = Operation::of(change.rows().event_type());
@@ -545,6 +564,10 @@ impl<'a> Printer<'a> {
             → CountsThese (AreEventRows (lent.Rows change.old)) counts.old counts.new) }
         ensures first_counts { IfErr result (λ why. self.old.settings.now.form ≡ Form.Count
             → CountsThese (AreFirstEventRows why (lent.Rows change.old)) counts.old counts.new) }
+        ensures few { OnOk result (length self.old.lines.bytes.items < 32 * 1024
+            → length self.new.lines.bytes.items < 32 * 1024) }
+        ensures rows { IfOk result (IsRowCount change.old) }
+        ensures gaps { self.new.gaps ≡ self.old.gaps }
     {
         match self.settings.form {
             Form::Json => self.print_json(changes, change, buffer, out),
@@ -558,6 +581,8 @@ impl<'a> Printer<'a> {
         ensures gtid { OnOk result (self.new.gtid ≡ gtid_after self.old.gtid event.now) }
         ensures lines { self.new.lines ≡ self.old.lines }
         ensures same { IsSame self.old self.new }
+        ensures gaps { OnOk result (self.new.gaps
+            ≡ gaps_past self.old.settings.now.filter.positions 0 (lent.Other event.now) self.old.gaps) }
     {
         self.gtid.see(self.alloc, event)?;
         if self.settings.filter.positions.contains(event.position()) {
@@ -588,6 +613,11 @@ impl<'a> Printer<'a> {
             → CountsThese (AreEventRows event.entry) counts.old counts.new) }
         ensures first_counts { IfErr result (λ why. self.old.settings.now.form ≡ Form.Count
             → CountsThese (AreFirstEventRows why event.entry) counts.old counts.new) }
+        ensures few { OnOk result (length self.old.lines.bytes.items < 32 * 1024
+            → length self.new.lines.bytes.items < 32 * 1024) }
+        ensures rows { IfOk result (IsRowCountOf event.entry) }
+        ensures gaps { IfOk result (λ n. self.new.gaps
+            ≡ gaps_past self.old.settings.now.filter.positions n event.entry self.old.gaps) }
     {
         match event {
             LentEvent::Other(event) => {
@@ -621,7 +651,8 @@ impl<'a> Printer<'a> {
             (O.contents out.new) self.new.lines.bytes.items) }
         ensures first { IfErr result (λ why. changes.old.walk.pending ≡ None
             → (x : List ℕ) → Finds (reading_in changes.old.walk) (S.remaining changes.old.source) x
-            → WritesFirst why self.old.settings.now.form (wanted_by changes.old.choice)
+            → WritesFirst why self.old.settings.now.form
+            self.old.settings.now.filter.positions.stop (wanted_by changes.old.choice)
             self.old.file.now (spot_at (kept_in changes.old.walk) None x) self.old.gtid
             (O.contents out.old) self.old.lines.bytes.items
             (O.contents out.new) self.new.lines.bytes.items) }
@@ -634,7 +665,8 @@ impl<'a> Printer<'a> {
         ensures first_counts { IfErr result (λ why. self.old.settings.now.form ≡ Form.Count
             → changes.old.walk.pending ≡ None → (x : List ℕ)
             → Finds (reading_in changes.old.walk) (S.remaining changes.old.source) x
-            → CountsThese (AreFirstCounted why (wanted_by changes.old.choice)
+            → CountsThese (AreFirstCounted why self.old.settings.now.filter.positions.stop
+            (wanted_by changes.old.choice)
             (spot_at (kept_in changes.old.walk) None x)) counts.old counts.new) }
         ensures cause { IfErr result (IsOfRun self.old.settings.now.filter.positions
             O.writes O.flushes) }
@@ -710,14 +742,13 @@ pub fn run<R: Read + Drop, O: WriteOnce, E: Write + Drop, K: Clock>(
     ensures counts { result ≡ Whole → settings.now.form ≡ Form.Count
         → (x : List ℕ) → R.remaining reader ≡ Some x → length x < 2 ^ 64
         → CountsThese (AreAllCounted settings.now x) counts.old counts.new }
-    ensures first { result ≢ Whole → (x : List ℕ) → R.remaining reader ≡ Some x → length x < 2 ^ 64
-        → (why : Failure) × (text : List ℕ) × AreFirstLines why settings.now file.now x text
+    ensures first { result ≢ Whole → (why : Failure) × EndsBy result why
+        × IsOfRun settings.now.filter.positions O.writes O.flushes why
+        × ((x : List ℕ) → R.remaining reader ≡ Some x → length x < 2 ^ 64
+        → (text : List ℕ) × AreFirstLines why settings.now file.now x text
         × AppendsUpTo why (O.contents out.old) (O.contents out.new) text
         × (settings.now.form ≡ Form.Count
-        → CountsThese (AreFirstOfFile why settings.now x) counts.old counts.new)
-        × EndsBy result why }
-    ensures cause { result ≢ Whole → (why : Failure) × EndsBy result why
-        × IsOfRun settings.now.filter.positions O.writes O.flushes why }
+        → CountsThese (AreFirstOfFile why settings.now x) counts.old counts.new)) }
     ensures flushed { result ≡ Whole → (mid : O) × (u : Unit {0}) × O.flushes mid (Ok u) out.new }
 {
     let mut printer = Printer {
@@ -756,6 +787,7 @@ pub fn write_counts<O: WriteOnce>(
         (Appends (O.contents out.old) (O.contents out.new) (table_text counts.now)) }
     ensures cause { IfErr result (IsOfEvent O.writes O.flushes) }
     ensures flushed { OnOk result ((mid : O) × (u : Unit {0}) × O.flushes mid (Ok u) out.new) }
+    ensures failed { IfErr result (λ why. IsOutput why ⊎ (why ≡ Failure.Memory)) }
 {
     let mut lines = Lines::new(alloc);
     if counts.print(&mut lines.bytes).is_err() {

@@ -6,22 +6,7 @@ use Rattle.change_lines.proofs.run.run.Goals.{then-eq, else-eq}
 use Rattle.change_lines.proofs.run.run.Goals as goal
 
 pub returns-clause-first : goal.returns-clause-first
-returns-clause-first g c = λ not x known small.
-    let why = c.in-Err.failure in
-    let h = of_error c.print.result why _ c.in-Err.is c.print.ensures.first c.new-4.ensures c.new.ensures x known small in (
-      why,
-      h.0,
-      h.1,
-      h.2,
-      λ same. of_error c.print.result why _ c.in-Err.is c.print.ensures.first_counts same x known small,
-      elim c.if-eq.branch [
-        | then-eq w ↦ subst (λ (e : Ended). EndsBy e why) (sym w.result-is) c.ended_by-ended.ensures
-        | else-eq w ↦ subst (λ (e : Ended). EndsBy e why) (sym w.result-is) c.ended_by-ended.ensures
-      ],
-    )
-
-pub returns-clause-cause : goal.returns-clause-cause
-returns-clause-cause g c = λ not.
+returns-clause-first g c = λ not.
     let why = c.in-Err.failure in (
       why,
       elim c.if-eq.branch [
@@ -29,4 +14,7 @@ returns-clause-cause g c = λ not.
         | else-eq w ↦ subst (λ (e : Ended). EndsBy e why) (sym w.result-is) c.ended_by-ended.ensures
       ],
       of_error c.print.result why _ c.in-Err.is c.print.ensures.cause,
+      λ x known small.
+          let h = of_error c.print.result why _ c.in-Err.is c.print.ensures.first c.new-4.ensures c.new.ensures x known small in
+          (h.0, h.1, h.2, λ same. of_error c.print.result why _ c.in-Err.is c.print.ensures.first_counts same x known small),
     )

@@ -20,7 +20,7 @@ use Rattle.change_lines.proofs.run.write_json_rows.Goals as goal
 pub loop-read-init : goal.loop-read-init
 loop-read-init g c =
     let e = c.args.change.now in
-    (record { walk = refl; source = refl; choice = refl }, refl, refl, [], [], nothing_read e.table e.rows e.left, refl, refl, outputs_nothing (g.O.Write.contents c.args.out.now) c.args.lines.now.bytes.items, refl, omega arith)
+    (record { walk = refl; source = refl; choice = refl }, refl, refl, [], [], nothing_read e.table e.rows e.left, refl, refl, outputs_nothing (g.O.Write.contents c.args.out.now) c.args.lines.now.bytes.items, refl, omega arith, λ few. few)
 
 pub loop-read-preserved : goal.loop-read-preserved
 loop-read-preserved g c =
@@ -54,6 +54,7 @@ loop-read-preserved g c =
       outputs_more _ _ _ _ c.loop-read.lines.bytes.items _ h.4 line h.8 out,
       same_origin old new p u gives ∙ h.9,
       counted_more e old new h.3 p u gives h.10,
+      λ few. c.in_ok-write_if_full.ensures.few,
     )
 
 pub returns-in_err-read-clause-first : goal.returns-in_err-read-clause-first

@@ -1,4 +1,4 @@
-use Rattle.std.proofs.Common.{◌≡◌, ◌+◌, ℕ, List, length}
+use Rattle.std.proofs.Common.{◌≡◌, ◌+◌, ◌*◌, ◌<◌, ℕ, List, length}
 use Rattle.mysql_binlog_rows.specs.Images.{Pair, pair}
 use Rattle.mysql_binlog_rows.proofs.Covers.{SoFar}
 use Rattle.change_lines.specs.Readings.{Stays}
@@ -17,6 +17,7 @@ invariant-loop-read g l =
     × (l.row ≡ up_to_most (length ps))
     × Outputs (g.O.Write.contents l.fn.out) l.fn.lines.bytes.items text (g.O.Write.contents l.out) l.lines.bytes.items
     × (l.change.origin ≡ l.fn.change.origin) × (l.change.count ≡ l.fn.change.count + length ps)
+    × (length l.fn.lines.bytes.items < 32 * 1024 → length l.lines.bytes.items < 32 * 1024)
 
 abbrev pub decreases-loop-read : goal.decreases-loop-read
 decreases-loop-read g l = length l.change.left

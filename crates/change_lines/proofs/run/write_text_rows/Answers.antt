@@ -1,4 +1,4 @@
-use Rattle.std.proofs.Common.{[], ◌∷◌, ◌++◌, length, refl, ◌∙◌, arith}
+use Rattle.std.proofs.Common.{[], ◌∷◌, ◌++◌, length, refl, ◌∙◌, arith, length-append}
 use Rattle.row_lines.specs.Lines.{signed_line_text}
 use Rattle.change_lines.specs.declared.error.Failure.TheVariants as failure
 use Rattle.change_lines.proofs.Pairs.{nothing_read, pair_read, ok_gives, stays, same_table, same_rows, same_origin, counted_more}
@@ -12,7 +12,7 @@ use Rattle.change_lines.proofs.run.write_text_rows.Goals as goal
 pub loop-read-init : goal.loop-read-init
 loop-read-init g c =
     let e = c.args.change.now in
-    (record { walk = refl; source = refl; choice = refl }, refl, refl, [], [], nothing_read e.table e.rows e.left, refl, outputs_nothing (g.O.Write.contents c.args.out.now) c.args.lines.now.bytes.items, refl, omega arith)
+    (record { walk = refl; source = refl; choice = refl }, refl, refl, [], [], nothing_read e.table e.rows e.left, refl, outputs_nothing (g.O.Write.contents c.args.out.now) c.args.lines.now.bytes.items, refl, omega arith, refl, λ few. few)
 
 pub loop-read-preserved : goal.loop-read-preserved
 loop-read-preserved g c =
@@ -39,6 +39,8 @@ loop-read-preserved g c =
       outputs_more _ _ _ _ c.loop-read.lines.bytes.items _ h.4 line h.7 out,
       same_origin old new p u gives ∙ h.8,
       counted_more e old new h.3 p u gives h.9,
+      omega (arith, c.saturating_add-count.ensures, h.10, length-append h.3 (p ∷ [])),
+      λ few. c.in_ok-write_if_full.ensures.few,
     )
 
 pub returns-in_err-read-clause-first : goal.returns-in_err-read-clause-first

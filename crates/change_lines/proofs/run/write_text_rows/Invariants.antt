@@ -1,7 +1,8 @@
-use Rattle.std.proofs.Common.{◌≡◌, ◌+◌, ◌++◌, ℕ, List, length}
+use Rattle.std.proofs.Common.{◌≡◌, ◌+◌, ◌*◌, ◌<◌, ◌++◌, ℕ, List, length}
 use Rattle.mysql_binlog_rows.specs.Images.{Pair, pair}
 use Rattle.mysql_binlog_rows.proofs.Covers.{SoFar}
 use Rattle.row_lines.specs.Lines.{signed_line_text}
+use Rattle.changed_rows.specs.Names.{up_to_most}
 use Rattle.change_lines.specs.Readings.{Stays}
 use Rattle.change_lines.specs.Outputs.{Outputs}
 use Rattle.change_lines.specs.Rows.{AreLinesBy}
@@ -16,6 +17,8 @@ invariant-loop-read g l =
     × AreLinesBy (λ row p line. line ≡ l.place ++ signed_line_text p) 0 ps text
     × Outputs (g.O.Write.contents l.fn.out) l.fn.lines.bytes.items text (g.O.Write.contents l.out) l.lines.bytes.items
     × (l.change.origin ≡ l.fn.change.origin) × (l.change.count ≡ l.fn.change.count + length ps)
+    × (l.count ≡ up_to_most (length ps))
+    × (length l.fn.lines.bytes.items < 32 * 1024 → length l.lines.bytes.items < 32 * 1024)
 
 abbrev pub decreases-loop-read : goal.decreases-loop-read
 decreases-loop-read g l = length l.change.left

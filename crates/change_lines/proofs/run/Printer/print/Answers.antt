@@ -101,7 +101,7 @@ returns-clause-first_counts g c =
     let left : Consumes (Some x) (g.R.Read.remaining w.source.inner) magic =
     subst (λ (o : Option (List ℕ)). Consumes o (g.R.Read.remaining w.source.inner) magic) source
     (subst (λ (o : Option (List ℕ)). Consumes (g.R.Read.remaining c.new.result.inner) o magic) (sym (ap (λ (k : CountedState _). g.R.Read.remaining k.inner) c.new-changes.ensures.source)) file.ok) in
-    let first = file_counted s.settings.now w.choice x (g.R.Read.remaining w.source.inner) (reading_in w.walk) (AreFirstCounted why) c.args.counts.now c.print_events-read.new.counts
+    let first = file_counted s.settings.now w.choice x (g.R.Read.remaining w.source.inner) (reading_in w.walk) (AreFirstCounted why s.settings.now.filter.positions.stop) c.args.counts.now c.print_events-read.new.counts
     left kept on small c.new-changes.ensures.choice (λ y finds. counted_of c.print_events-read.result why s.settings.now.filter.positions.stop (wanted_by w.choice) (spot_at (kept_in w.walk) None y) c.args.counts.now c.print_events-read.new.counts
     (on_ok c.print_events-read.result _ _ (λ f. f same c.new-changes.ensures.pending y finds) c.print_events-read.ensures.counts)
     (on_error c.print_events-read.result _ _ (λ why f. f same c.new-changes.ensures.pending y finds) c.print_events-read.ensures.first_counts) is) in

@@ -1,8 +1,9 @@
-use Rattle.std.proofs.Common.{[], refl, sym, subst, ap, ◌∙◌, append-nil}
+use Rattle.std.proofs.Common.{◌≡◌, ◌*◌, ◌<◌, [], length, refl, sym, subst, ap, ◌∙◌, append-nil}
 use Rattle.binlog_file.specs.declared.lent_changes.LentEvent.{LentEvent}
 use Rattle.change_lines.specs.declared.error.Failure.TheVariants as failure
 use Rattle.change_lines.specs.declared.run.Lines.{Lines}
-use Rattle.change_lines.specs.Lines.{AreEventLines}
+use Rattle.change_lines.specs.Rows.{IsRowCountOf}
+use Rattle.change_lines.specs.Lines.{AreEventLines, gaps_past}
 use Rattle.change_lines.specs.Failures.{AreFirstOfEvent, OutputsUpTo, WritesFirstOfEvent}
 use Rattle.change_lines.specs.CountedFiles.{AreEventRows, AreFirstEventRows, CountsThese}
 use Rattle.change_lines.proofs.Errors.{passed_on}
@@ -49,3 +50,14 @@ returns-in_err-rows-in-Rows-clause-first_counts g c =
     let why = c.in_err-rows-in-Rows.field-0.0 in
     passed_on _ why _ c.from_residual-in_err-rows-in-Rows.ensures.1
     (λ same. subst (λ (x : LentEvent). CountsThese (AreFirstEventRows why x) c.args.counts.now c.print_rows.new.counts) (sym c.in-Rows.is) (c.in_err-rows-in-Rows.ensures.first_counts same))
+
+pub returns-in_ok-see-in-Other-clause-few : goal.returns-in_ok-see-in-Other-clause-few
+returns-in_ok-see-in-Other-clause-few g c = λ few. subst (λ (l : Lines). length l.bytes.items < 32 * 1024) (sym c.see.ensures.lines) few
+
+pub returns-in_ok-see-in-Other-clause-rows : goal.returns-in_ok-see-in-Other-clause-rows
+returns-in_ok-see-in-Other-clause-rows g c = subst (λ (x : LentEvent). IsRowCountOf x 0) (sym c.in-Other.is) refl
+
+pub returns-in_ok-see-in-Other-clause-gaps : goal.returns-in_ok-see-in-Other-clause-gaps
+returns-in_ok-see-in-Other-clause-gaps g c =
+    let s = c.args.self.now in
+    subst (λ (x : LentEvent). c.see.new.self.gaps ≡ gaps_past s.settings.now.filter.positions 0 x s.gaps) (sym c.in-Other.is) c.in_ok-see-in-Other.ensures.gaps

@@ -9,7 +9,7 @@ use Rattle.change_lines.specs.declared.error.Failure.TheVariants as failure
 use Rattle.change_lines.specs.declared.run.Form.{Form}
 use Rattle.changed_rows.specs.declared.filter.Filter.{Filter}
 use Rattle.changed_rows.specs.Names.{is_before}
-use Rattle.changed_rows.specs.Filters.{wanted_by, start_after}
+use Rattle.changed_rows.specs.Filters.{wanted_by, start_after, IsUpTo}
 use Rattle.change_lines.specs.Readings.{SourceNext}
 use Rattle.change_lines.specs.Lines.{WritesEvent}
 use Rattle.change_lines.specs.Failures.{WritesFirstOfEvent}
@@ -19,7 +19,7 @@ use Rattle.change_lines.proofs.First.{events_so_far, end_so_far, error_so_far, e
 use Rattle.change_lines.proofs.Outputs.{outputs_nothing}
 use Rattle.change_lines.proofs.Written.{on_ok, both_ok}
 use Rattle.change_lines.proofs.Whole.{step, ended, stopped}
-use Rattle.change_lines.proofs.Begun.{sought_after, nothing_unseen, Missed, missing_passed, missing_stopped, missing_of_event}
+use Rattle.change_lines.proofs.Begun.{sought_after, nothing_unseen, Missed, missing_passed, missing_stopped, misses_none}
 use Rattle.change_lines.proofs.Causes.{of_missing, of_passed, of_event}
 use Rattle.change_lines.proofs.CountedFiles.{counts_nothing, count_step, count_ended, count_stopped, count_failed, count_error, count_first}
 use Rattle.change_lines.proofs.run.Printer.print_events.Goals as goal
@@ -68,7 +68,7 @@ loop-bounds-preserved g c =
       record { form = same.form ∙ h.0.form; stop = same.stop ∙ h.0.stop; file = same.file ∙ h.0.file },
       stays.choice ∙ c.next_event.ensures.choice ∙ h.1,
       c.begin.ensures.stop ∙ h.2,
-      λ none y finds. step _ _ _ _ _ _ _ _ _ _ _ _ _ _ _ (h.3 none y finds) _ x _ _ _ _ _ _ gives writes c.in_ok-rows.ensures.gtid (λ free. (c.are_given.ensures.0 free).0) (λ free. sym h.2 ∙ (c.are_given.ensures.0 free).1) before _ (c.in_ok-begin.ensures.start.1 ∙ ap (start_after c.loop-bounds.bounds.start) place),
+      λ none y finds. step _ _ _ _ _ _ _ _ _ _ _ _ _ _ _ (h.3 none y finds) _ x _ _ _ _ _ _ gives writes c.in_ok-rows.ensures.gtid (λ free. (c.are_given.ensures.0 free).0) (λ free. sym h.2 ∙ (c.are_given.ensures.0 free).1) before (subst (IsUpTo c.loop-bounds.bounds.start) place c.in_ok-begin.ensures.start.0) _ (c.in_ok-begin.ensures.start.1 ∙ ap (start_after c.loop-bounds.bounds.start) place),
       λ counted none y finds. count_step _ _ _ _ _ _ _ (h.4 counted none y finds) _ x _ _ _ _ gives (c.in_ok-rows.ensures.counts (h.0.form ∙ counted)),
       sought_after _ c.loop-bounds.bounds.start _ _ h.5 c.in_ok-begin.ensures.start.1,
     )
@@ -113,7 +113,7 @@ returns-then-not-goes_on-clause-counts g c =
     c.end.ensures.stop
 
 pub returns-then-not-goes_on-clause-first_counts : goal.returns-then-not-goes_on-clause-first_counts
-returns-then-not-goes_on-clause-first_counts g c = on_error c.end.result _ _ (λ why not counted none x finds. count_failed _ _ _ _ _ _ _ (c.loop-bounds.invariant.4 counted none x finds) why not) c.end.ensures.failed
+returns-then-not-goes_on-clause-first_counts g c = on_error c.end.result _ _ (λ why not counted none x finds. count_failed _ _ _ _ _ _ _ (c.loop-bounds.invariant.4 counted none x finds) why _ not) c.end.ensures.failed
 
 pub returns-in-None-clause-counts : goal.returns-in-None-clause-counts
 returns-in-None-clause-counts g c =
@@ -130,16 +130,16 @@ returns-in-None-clause-counts g c =
     c.end-in-None.ensures.stop
 
 pub returns-in-None-clause-first_counts : goal.returns-in-None-clause-first_counts
-returns-in-None-clause-first_counts g c = on_error c.end-in-None.result _ _ (λ why not counted none x finds. count_failed _ _ _ _ _ _ _ (c.loop-bounds.invariant.4 counted none x finds) why not) c.end-in-None.ensures.failed
+returns-in-None-clause-first_counts g c = on_error c.end-in-None.result _ _ (λ why not counted none x finds. count_failed _ _ _ _ _ _ _ (c.loop-bounds.invariant.4 counted none x finds) why _ not) c.end-in-None.ensures.failed
 
 pub returns-in_err-begin-clause-first_counts : goal.returns-in_err-begin-clause-first_counts
 returns-in_err-begin-clause-first_counts g c =
     let why = c.in_err-begin.field-0.0 in
-    passed_on _ why _ c.from_residual-in_err-begin.ensures.1 (λ counted none x finds. count_failed _ _ _ _ _ _ _ (c.loop-bounds.invariant.4 counted none x finds) why c.in_err-begin.ensures.failed)
+    passed_on _ why _ c.from_residual-in_err-begin.ensures.1 (λ counted none x finds. count_failed _ _ _ _ _ _ _ (c.loop-bounds.invariant.4 counted none x finds) why _ c.in_err-begin.ensures.failed)
 
 pub returns-in_err-see-clause-first_counts : goal.returns-in_err-see-clause-first_counts
 returns-in_err-see-clause-first_counts g c =
-    passed_on _ failure.Memory _ c.from_residual-in_err-see.ensures.1 (λ counted none x finds. count_failed _ _ _ _ _ _ _ (c.loop-bounds.invariant.4 counted none x finds) failure.Memory tt)
+    passed_on _ failure.Memory _ c.from_residual-in_err-see.ensures.1 (λ counted none x finds. count_failed _ _ _ _ _ _ _ (c.loop-bounds.invariant.4 counted none x finds) failure.Memory _ tt)
 
 pub returns-in-None-clause-all : goal.returns-in-None-clause-all
 returns-in-None-clause-all g c =
@@ -194,7 +194,11 @@ returns-in_err-event-in-Some-clause-first g c =
     let error = c.in_err-event-in-Some.field-0.0 in
     let gives1 = subst (λ (e : Result LentEvent FileError). SourceNext (wanted_by w.choice) c.are_given.result (g.S.Source.remaining w.source) (reading_in w.walk) w.walk.pending (Some e) (g.S.Source.remaining mid.source) (reading_in mid.walk) mid.walk.pending) c.in_err-event-in-Some.was c.in-Some.ensures.event in
     let gives = subst (λ (f : Filter). SourceNext (wanted_by f) c.are_given.result (g.S.Source.remaining w.source) (reading_in w.walk) w.walk.pending (Some (Err error)) (g.S.Source.remaining mid.source) (reading_in mid.walk) mid.walk.pending) h.1 gives1 in
-    passed_on _ (failure.File error) _ c.from_residual.ensures.1 (λ none x finds. error_so_far _ _ _ _ _ _ _ _ _ _ _ _ _ _ _ (h.3 none x finds) _ error (g.S.Source.remaining mid.source) (reading_in mid.walk) mid.walk.pending gives)
+    let place = c.position-position.ensures ∙ ap (λ (k : EventStreamReader). (kept_by k.kept).at) c.reader.ensures in
+    let on : c.goes_on.result ≡ true = search rules in
+    let early = subst (λ (n : ℕ). is_before c.loop-bounds.bounds.stop n ≡ true) place (sym c.goes_on.ensures ∙ on) in
+    let before = subst (λ (o : Option ℕ). is_before o (reading_in w.walk).kept.at ≡ true) h.2 early in
+    passed_on _ (failure.File error) _ c.from_residual.ensures.1 (λ none x finds. error_so_far _ _ _ _ _ _ _ _ _ _ _ _ _ _ _ (h.3 none x finds) _ error (g.S.Source.remaining mid.source) (reading_in mid.walk) mid.walk.pending gives before (λ free. sym h.2 ∙ (c.are_given.ensures.0 free).1))
 
 pub returns-in_err-rows-clause-first : goal.returns-in_err-rows-clause-first
 returns-in_err-rows-clause-first g c =
@@ -208,7 +212,11 @@ returns-in_err-rows-clause-first g c =
     let why = c.in_err-rows.field-0.0 in
     let writes1 = subst (λ (f : Form). WritesFirstOfEvent why f s.file.now s.gtid x (g.O.Write.contents c.loop-bounds.out) s.lines.bytes.items (g.O.Write.contents c.print_event.new.out) c.print_event.new.self.lines.bytes.items) h.0.form c.in_err-rows.ensures.first in
     let writes = subst (λ (n : List ℕ). WritesFirstOfEvent why c.args.self.now.settings.now.form n s.gtid x (g.O.Write.contents c.loop-bounds.out) s.lines.bytes.items (g.O.Write.contents c.print_event.new.out) c.print_event.new.self.lines.bytes.items) h.0.file writes1 in
-    passed_on _ why _ c.from_residual-in_err-rows.ensures.1 (λ none y finds. event_so_far _ _ _ _ _ _ _ _ _ _ _ _ _ _ _ (h.3 none y finds) _ x (g.S.Source.remaining mid.source) (reading_in mid.walk) mid.walk.pending _ _ gives why writes (missing_of_event g.O.WriteOnce.writes g.O.WriteOnce.flushes why c.in_err-rows.ensures.cause))
+    let place = c.position-position.ensures ∙ ap (λ (k : EventStreamReader). (kept_by k.kept).at) c.reader.ensures in
+    let on : c.goes_on.result ≡ true = search rules in
+    let early = subst (λ (n : ℕ). is_before c.loop-bounds.bounds.stop n ≡ true) place (sym c.goes_on.ensures ∙ on) in
+    let before = subst (λ (o : Option ℕ). is_before o (reading_in w.walk).kept.at ≡ true) h.2 early in
+    passed_on _ why _ c.from_residual-in_err-rows.ensures.1 (λ none y finds. event_so_far _ _ _ _ _ _ _ _ _ _ _ _ _ _ _ (h.3 none y finds) _ x (g.S.Source.remaining mid.source) (reading_in mid.walk) mid.walk.pending _ _ gives why writes (misses_none g.O.WriteOnce.writes g.O.WriteOnce.flushes why c.in_err-rows.ensures.cause) before (λ free. sym h.2 ∙ (c.are_given.ensures.0 free).1))
 
 pub returns-in_err-event-in-Some-clause-first_counts : goal.returns-in_err-event-in-Some-clause-first_counts
 returns-in_err-event-in-Some-clause-first_counts g c =
@@ -218,7 +226,11 @@ returns-in_err-event-in-Some-clause-first_counts g c =
     let error = c.in_err-event-in-Some.field-0.0 in
     let gives1 = subst (λ (e : Result LentEvent FileError). SourceNext (wanted_by w.choice) c.are_given.result (g.S.Source.remaining w.source) (reading_in w.walk) w.walk.pending (Some e) (g.S.Source.remaining mid.source) (reading_in mid.walk) mid.walk.pending) c.in_err-event-in-Some.was c.in-Some.ensures.event in
     let gives = subst (λ (f : Filter). SourceNext (wanted_by f) c.are_given.result (g.S.Source.remaining w.source) (reading_in w.walk) w.walk.pending (Some (Err error)) (g.S.Source.remaining mid.source) (reading_in mid.walk) mid.walk.pending) h.1 gives1 in
-    passed_on _ (failure.File error) _ c.from_residual.ensures.1 (λ counted none x finds. count_error _ _ _ _ _ _ _ (h.4 counted none x finds) _ error (g.S.Source.remaining mid.source) (reading_in mid.walk) mid.walk.pending gives)
+    let place = c.position-position.ensures ∙ ap (λ (k : EventStreamReader). (kept_by k.kept).at) c.reader.ensures in
+    let on : c.goes_on.result ≡ true = search rules in
+    let early = subst (λ (n : ℕ). is_before c.loop-bounds.bounds.stop n ≡ true) place (sym c.goes_on.ensures ∙ on) in
+    let before = subst (λ (o : Option ℕ). is_before o (reading_in w.walk).kept.at ≡ true) h.2 early in
+    passed_on _ (failure.File error) _ c.from_residual.ensures.1 (λ counted none x finds. count_error _ _ _ _ _ _ _ (h.4 counted none x finds) _ error (g.S.Source.remaining mid.source) (reading_in mid.walk) mid.walk.pending gives _ before (λ free. sym h.2 ∙ (c.are_given.ensures.0 free).1))
 
 pub returns-in_err-rows-clause-first_counts : goal.returns-in_err-rows-clause-first_counts
 returns-in_err-rows-clause-first_counts g c =
@@ -229,8 +241,12 @@ returns-in_err-rows-clause-first_counts g c =
     let gives1 = subst (λ (e : Result LentEvent FileError). SourceNext (wanted_by w.choice) c.are_given.result (g.S.Source.remaining w.source) (reading_in w.walk) w.walk.pending (Some e) (g.S.Source.remaining mid.source) (reading_in mid.walk) mid.walk.pending) c.in_ok-event-in-Some.was c.in-Some.ensures.event in
     let gives = subst (λ (f : Filter). SourceNext (wanted_by f) c.are_given.result (g.S.Source.remaining w.source) (reading_in w.walk) w.walk.pending (Some (Ok x)) (g.S.Source.remaining mid.source) (reading_in mid.walk) mid.walk.pending) h.1 gives1 in
     let why = c.in_err-rows.field-0.0 in
+    let place = c.position-position.ensures ∙ ap (λ (k : EventStreamReader). (kept_by k.kept).at) c.reader.ensures in
+    let on : c.goes_on.result ≡ true = search rules in
+    let early = subst (λ (n : ℕ). is_before c.loop-bounds.bounds.stop n ≡ true) place (sym c.goes_on.ensures ∙ on) in
+    let before = subst (λ (o : Option ℕ). is_before o (reading_in w.walk).kept.at ≡ true) h.2 early in
     passed_on _ why _ c.from_residual-in_err-rows.ensures.1
-    (λ counted none y finds. count_first _ _ _ _ _ _ _ (h.4 counted none y finds) _ x (g.S.Source.remaining mid.source) (reading_in mid.walk) mid.walk.pending _ why gives (c.in_err-rows.ensures.first_counts (h.0.form ∙ counted)))
+    (λ counted none y finds. count_first _ _ _ _ _ _ _ (h.4 counted none y finds) _ x (g.S.Source.remaining mid.source) (reading_in mid.walk) mid.walk.pending _ why gives (c.in_err-rows.ensures.first_counts (h.0.form ∙ counted)) _ before (λ free. sym h.2 ∙ (c.are_given.ensures.0 free).1))
 
 -- ---- causes
 

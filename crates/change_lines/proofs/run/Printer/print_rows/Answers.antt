@@ -35,5 +35,8 @@ returns-in-Text-clause-counts g c = in_any_case c.print_text.result _ (λ same. 
 pub returns-in-Text-clause-first_counts : goal.returns-in-Text-clause-first_counts
 returns-in-Text-clause-first_counts g c = any_error c.print_text.result _ (λ why same. absurd (let bad : form.Text ≡ form.Count = sym c.in-Text.is ∙ same in cc))
 
+pub returns-in-Count-clause-few : goal.returns-in-Count-clause-few
+returns-in-Count-clause-few g c = in_any_case c.count.result _ (λ few. few)
+
 pub returns-in-Count-clause-cause : goal.returns-in-Count-clause-cause
 returns-in-Count-clause-cause g c = on_error c.count.result _ _ (of_reading g.O.WriteOnce.writes g.O.WriteOnce.flushes) c.count.ensures.cause

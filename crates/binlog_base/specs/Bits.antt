@@ -9,9 +9,13 @@ abbrev pub shift_of : BitOrder → ℕ → ℕ
 shift_of LeastSignificantFirst i = i % 8
 shift_of MostSignificantFirst i = 7 - i % 8
 
+-- bit i of a bitmap, given its byte
+abbrev pub bit_in : BitOrder → ℕ → ℕ → Bool
+bit_in order byte i = byte / 2 ^ shift_of order i % 2 == 1
+
 -- bit i of a bitmap, which is in byte i / 8
 unfoldable pub bit_at : BitOrder → List ℕ → ℕ → Bool
-bit_at order bytes i = slice_index bytes (i / 8) / 2 ^ shift_of order i % 2 == 1
+bit_at order bytes i = bit_in order (slice_index bytes (i / 8)) i
 
 -- the n bits from bit i on
 abbrev pub bits_from : BitOrder → List ℕ → ℕ → ℕ → List Bool

@@ -9,7 +9,8 @@ mod limit;
 mod packed;
 
 pub use binary::{
-    my_datetime_packed_from_binary, my_time_packed_from_binary, my_timestamp_from_binary,
+    Datetime2, Time2, Timestamp2, my_datetime_packed_from_binary, my_time_packed_from_binary,
+    my_timestamp_from_binary,
 };
 pub use fields::{DateTimeFields, TimeFields, datetime_from_packed, time_from_packed};
 pub use limit::{LimitWrite, LimitedWrite};

@@ -36,8 +36,12 @@ impl Count {
     /// Adds the cells of a pair.
     pub fn add_pair(&mut self, pair: &LentPair<'_>) {
         self.pairs = self.pairs.wrapping_add(1);
-        self.add_row(pair.before());
-        self.add_row(pair.after());
+        if let Some(row) = pair.before() {
+            self.add_row(row);
+        }
+        if let Some(row) = pair.after() {
+            self.add_row(row);
+        }
     }
 
     /// Keeps the error with which the file ends.
@@ -45,20 +49,14 @@ impl Count {
         self.error = Some(error);
     }
 
-    // Adds the cells of a row, if there is one.
-    fn add_row(&mut self, row: Option<&LentRow<'_>>) {
-        let Some(row) = row else {
-            return;
-        };
+    // Adds the cells of a row.
+    fn add_row(&mut self, row: &LentRow<'_>) {
+        let mut sum = self.sum;
         for cell in row.cells() {
-            self.add_number(number_of(cell));
+            sum = sum.rotate_left(5) ^ number_of(cell);
         }
-    }
-
-    // Adds the number that stands for a cell.
-    fn add_number(&mut self, number: u64) {
-        self.cells = self.cells.wrapping_add(1);
-        self.sum = self.sum.rotate_left(5) ^ number;
+        self.sum = sum;
+        self.cells = self.cells.wrapping_add(row.len() as u64);
     }
 }
 

@@ -1,6 +1,6 @@
 -- The loop over the columns of an image: the cells read so far, and those that are left.
 use Rattle.std.proofs.Common.{◌≡◌, ℕ, ◌+◌, ◌<◌, ◌≤◌, Bool, false, List, [], ◌∷◌, ◌++◌, length, get_or, drop, Option, Some, None, Result, Ok, Err, refl, sym, ap, ◌∙◌, append_assoc, suc, arith, add-one, drop-cons}
-use Rattle.std.proofs.lemmas.List.{get_or-drop, drop-drop, drop_all, append-nil}
+use Rattle.std.proofs.lemmas.List.{drop_all, append-nil}
 use Rattle.binlog_base.specs.declared.fault.Fault.{Fault}
 use Rattle.binlog_base.specs.Format.{◌>>=◌}
 use Rattle.binlog_base.specs.Lemmas.Format.{ok_is, err_is}
@@ -33,29 +33,22 @@ fault_next bs s ss end nulls x e f = rw f refl
 slot_here : (ss : List Slot) (i : ℕ) (s : Slot) → i < length ss → s ≡ get_or ss i s → drop i ss ≡ s ∷ drop (i + 1) ss
 slot_here ss i s lt is = rw (add-one, drop-cons ss i s) (ap (λ (t : Slot). t ∷ drop (suc i) ss) (sym is))
 
-null_here : (nulls : List Bool) (k : ℕ) → get_or (drop k nulls) 0 false ≡ get_or nulls k false
-null_here nulls k = get_or-drop k nulls 0 false ∙ ap (λ (j : ℕ). get_or nulls j false) (omega arith)
+pub goes_on : (bs : List Bool) (front : List (Option Cell)) (ss : List Slot) (end : Option Fault) (nulls : List Bool) (i : ℕ) (x y : List ℕ) (s : Slot) (v : Cell) (total : Read)
+    → i < length ss → s ≡ get_or ss i s → (slot_cell (get_or nulls 0 false) bs s).parse x ≡ Ok (v, y)
+    → with_front front ((slot_cells bs (drop i ss) end nulls).parse x) ≡ total
+    → with_front (front ++ Some v ∷ []) ((slot_cells bs (drop (i + 1) ss) end (drop 1 nulls)).parse y) ≡ total
+goes_on bs front ss end nulls i x y s v total lt is e so_far =
+    let here = ap (λ (ts : List Slot). (slot_cells bs ts end nulls).parse x) (slot_here ss i s lt is) in
+    let one = value_next bs s (drop (i + 1) ss) end nulls x y v e in
+    sym (with_front-twice front (Some v ∷ []) ((slot_cells bs (drop (i + 1) ss) end (drop 1 nulls)).parse y)) ∙ ap (with_front front) (sym (here ∙ one)) ∙ so_far
 
-null_more : (nulls : List Bool) (k : ℕ) → drop 1 (drop k nulls) ≡ drop (k + 1) nulls
-null_more nulls k = drop-drop 1 k nulls
-
-pub goes_on : (bs : List Bool) (front : List (Option Cell)) (ss : List Slot) (end : Option Fault) (nulls : List Bool) (i k : ℕ) (x y : List ℕ) (s : Slot) (v : Cell) (total : Read)
-    → i < length ss → s ≡ get_or ss i s → (slot_cell (get_or nulls k false) bs s).parse x ≡ Ok (v, y)
-    → with_front front ((slot_cells bs (drop i ss) end (drop k nulls)).parse x) ≡ total
-    → with_front (front ++ Some v ∷ []) ((slot_cells bs (drop (i + 1) ss) end (drop (k + 1) nulls)).parse y) ≡ total
-goes_on bs front ss end nulls i k x y s v total lt is e so_far =
-    let here = ap (λ (ts : List Slot). (slot_cells bs ts end (drop k nulls)).parse x) (slot_here ss i s lt is) in
-    let one = value_next bs s (drop (i + 1) ss) end (drop k nulls) x y v (ap (λ (b : Bool). (slot_cell b bs s).parse x) (null_here nulls k) ∙ e) in
-    let later = ap (λ (ns : List Bool). with_front (Some v ∷ []) ((slot_cells bs (drop (i + 1) ss) end ns).parse y)) (null_more nulls k) in
-    sym (with_front-twice front (Some v ∷ []) ((slot_cells bs (drop (i + 1) ss) end (drop (k + 1) nulls)).parse y)) ∙ ap (with_front front) (sym (here ∙ one ∙ later)) ∙ so_far
-
-pub stops : (bs : List Bool) (front : List (Option Cell)) (ss : List Slot) (end : Option Fault) (nulls : List Bool) (i k : ℕ) (x : List ℕ) (s : Slot) (e : Fault) (total : Read)
-    → i < length ss → s ≡ get_or ss i s → (slot_cell (get_or nulls k false) bs s).parse x ≡ Err e
-    → with_front front ((slot_cells bs (drop i ss) end (drop k nulls)).parse x) ≡ total
+pub stops : (bs : List Bool) (front : List (Option Cell)) (ss : List Slot) (end : Option Fault) (nulls : List Bool) (i : ℕ) (x : List ℕ) (s : Slot) (e : Fault) (total : Read)
+    → i < length ss → s ≡ get_or ss i s → (slot_cell (get_or nulls 0 false) bs s).parse x ≡ Err e
+    → with_front front ((slot_cells bs (drop i ss) end nulls).parse x) ≡ total
     → total ≡ Err e
-stops bs front ss end nulls i k x s e total lt is f so_far =
-    let here = ap (λ (ts : List Slot). (slot_cells bs ts end (drop k nulls)).parse x) (slot_here ss i s lt is) in
-    let one = fault_next bs s (drop (i + 1) ss) end (drop k nulls) x e (ap (λ (b : Bool). (slot_cell b bs s).parse x) (null_here nulls k) ∙ f) in
+stops bs front ss end nulls i x s e total lt is f so_far =
+    let here = ap (λ (ts : List Slot). (slot_cells bs ts end nulls).parse x) (slot_here ss i s lt is) in
+    let one = fault_next bs s (drop (i + 1) ss) end nulls x e f in
     sym so_far ∙ ap (with_front front) (here ∙ one)
 
 pub all_read : (bs : List Bool) (front : List (Option Cell)) (ss : List Slot) (end : Option Fault) (nulls : List Bool) (i : ℕ) (x : List ℕ) (total : Read)
@@ -95,20 +88,20 @@ not_put : (front : List (Option Cell)) (r : Result (Cell × List ℕ) Fault) (e 
 not_put front (Ok p) e h = absurd cc
 not_put front (Err f) e h = ap no_cell (err_is f e h)
 
-pub puts_on : (bs : List Bool) (front more : List (Option Cell)) (ss : List Slot) (end : Option Fault) (nulls : List Bool) (i k : ℕ) (x y : List ℕ) (s : Slot) (total : Read)
-    → i < length ss → s ≡ get_or ss i s → (one_more front (slot_cell (get_or nulls k false) bs s)).parse x ≡ Ok (more, y)
-    → with_front front ((slot_cells bs (drop i ss) end (drop k nulls)).parse x) ≡ total
-    → with_front more ((slot_cells bs (drop (i + 1) ss) end (drop (k + 1) nulls)).parse y) ≡ total
+pub puts_on : (bs : List Bool) (front more : List (Option Cell)) (ss : List Slot) (end : Option Fault) (nulls : List Bool) (i : ℕ) (x y : List ℕ) (s : Slot) (total : Read)
+    → i < length ss → s ≡ get_or ss i s → (one_more front (slot_cell (get_or nulls 0 false) bs s)).parse x ≡ Ok (more, y)
+    → with_front front ((slot_cells bs (drop i ss) end nulls).parse x) ≡ total
+    → with_front more ((slot_cells bs (drop (i + 1) ss) end (drop 1 nulls)).parse y) ≡ total
 unfolding one_more
-puts_on bs front more ss end nulls i k x y s total lt is h so_far =
-    let put = put_front front more ((slot_cell (get_or nulls k false) bs s).parse x) y h in
-    ap (λ (t : List (Option Cell)). with_front t ((slot_cells bs (drop (i + 1) ss) end (drop (k + 1) nulls)).parse y)) put.2
-    ∙ goes_on bs front ss end nulls i k x y s put.0 total lt is put.1 so_far
+puts_on bs front more ss end nulls i x y s total lt is h so_far =
+    let put = put_front front more ((slot_cell (get_or nulls 0 false) bs s).parse x) y h in
+    ap (λ (t : List (Option Cell)). with_front t ((slot_cells bs (drop (i + 1) ss) end (drop 1 nulls)).parse y)) put.2
+    ∙ goes_on bs front ss end nulls i x y s put.0 total lt is put.1 so_far
 
-pub put_stops : (bs : List Bool) (front : List (Option Cell)) (ss : List Slot) (end : Option Fault) (nulls : List Bool) (i k : ℕ) (x : List ℕ) (s : Slot) (e : Fault) (total : Read)
-    → i < length ss → s ≡ get_or ss i s → (one_more front (slot_cell (get_or nulls k false) bs s)).parse x ≡ Err e
-    → with_front front ((slot_cells bs (drop i ss) end (drop k nulls)).parse x) ≡ total
+pub put_stops : (bs : List Bool) (front : List (Option Cell)) (ss : List Slot) (end : Option Fault) (nulls : List Bool) (i : ℕ) (x : List ℕ) (s : Slot) (e : Fault) (total : Read)
+    → i < length ss → s ≡ get_or ss i s → (one_more front (slot_cell (get_or nulls 0 false) bs s)).parse x ≡ Err e
+    → with_front front ((slot_cells bs (drop i ss) end nulls).parse x) ≡ total
     → total ≡ Err e
 unfolding one_more
-put_stops bs front ss end nulls i k x s e total lt is h so_far =
-    stops bs front ss end nulls i k x s e total lt is (not_put front ((slot_cell (get_or nulls k false) bs s).parse x) e h) so_far
+put_stops bs front ss end nulls i x s e total lt is h so_far =
+    stops bs front ss end nulls i x s e total lt is (not_put front ((slot_cell (get_or nulls 0 false) bs s).parse x) e h) so_far

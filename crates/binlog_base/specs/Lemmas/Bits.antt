@@ -1,6 +1,5 @@
 -- The format of a bit list is exact.
-use Rattle.std.specs.Prelude.{ℕ, min, ◌*◌, ◌≤◌, List, length}
-use Rattle.std.proofs.Common.{◌≡◌, ap, arith}
+use Rattle.std.specs.Prelude.{ℕ}
 use Rattle.binlog_base.specs.declared.bits.BitOrder.{BitOrder}
 use Rattle.binlog_base.specs.Format.{IsExact, take_bytes}
 use Rattle.binlog_base.specs.Lemmas.Format.{exact_take_bytes, exact_map_value}
@@ -9,7 +8,3 @@ use Rattle.binlog_base.specs.Bits.{bitmap_len, bits_of, bit_list}
 pub exact_bit_list : (order : BitOrder) (n : ℕ) → IsExact (bit_list order n)
 unfolding bit_list
 exact_bit_list order n = exact_map_value (take_bytes (bitmap_len n)) (bits_of order n) (exact_take_bytes (bitmap_len n))
-
--- where the bytes have `len` bits or more, none of these bits is missing
-pub all_there : (order : BitOrder) (bytes : List ℕ) (len : ℕ) → len ≤ 8 * length bytes → bits_of order (min len (8 * length bytes)) bytes ≡ bits_of order len bytes
-all_there order bytes len h = let e : min len (8 * length bytes) ≡ len = omega arith in ap (λ (n : ℕ). bits_of order n bytes) e

@@ -1,11 +1,11 @@
 //! Bits over borrowed bytes, and the iterator over them.
 
-ghost use Rattle.std.specs.Prelude.{◌≡◌, ℕ, min, ◌*◌, ◌≤◌, ◌<◌, Bool, List, length, slice_get, false, IsTrue, ◌↔◌};
+ghost use Rattle.std.specs.Prelude.{◌≡◌, ◌≢◌, ℕ, min, ◌*◌, ◌/◌, ◌%◌, ◌≤◌, ◌<◌, Bool, List, length, slice_get, slice_index, false, IsTrue, ◌↔◌};
 ghost use Rattle.std.specs.Iterator.{YieldsFirst, item_count};
 ghost use Rattle.std.specs.Bool.{beq};
 ghost use Rattle.std.specs.Cmp.{bool_eq_equiv, partial_equiv_from_equiv};
 ghost use Rattle.std.specs.Cmp.Lexicographic.{pointwise, lists_equiv, lists_per};
-ghost use Rattle.binlog_base.specs.Bits.{bits_of, bit_at, bits_from, count_set, bit_list, bitmap_len};
+ghost use Rattle.binlog_base.specs.Bits.{bits_of, bit_in, bit_at, bits_from, count_set, bit_list, bitmap_len};
 ghost use Rattle.binlog_base.specs.Lemmas.Bits.{exact_bit_list};
 
 use super::BitOrder;
@@ -33,18 +33,33 @@ impl<'a> Model for BitView<'a> {
     ghost invariant = { λ a. a.len ≤ 8 * length a.bytes.now };
 }
 
-// Returns bit `i` of the bytes, counted from 0.
-#[tactic(auto, unfolding(crate::specs::Bits::bit_at))]
-fn bit(bytes: &[u8], order: BitOrder, i: usize) -> bool
-    requires { i < 8 * length bytes.now }
-    ensures { result ≡ bit_at order bytes.now i }
+// Returns bit `i` of the bytes, counted from 0, given its byte.
+fn bit_in(byte: u8, order: BitOrder, i: usize) -> bool
+    ensures { result ≡ bit_in order byte i }
 {
-    let byte = bytes[i / 8];
     let shift = match order {
         BitOrder::LeastSignificantFirst => i % 8,
         BitOrder::MostSignificantFirst => 7 - i % 8,
     };
     (byte >> shift) & 1 == 1
+}
+
+// Returns bit `i` of the bytes.
+#[tactic(auto, unfolding(crate::specs::Bits::bit_at))]
+fn bit(bytes: &[u8], order: BitOrder, i: usize) -> bool
+    requires { i < 8 * length bytes.now }
+    ensures { result ≡ bit_at order bytes.now i }
+{
+    bit_in(bytes[i / 8], order, i)
+}
+
+// Returns the byte of bit `i`, which is known where that isn't its first bit.
+fn byte_of(bytes: &[u8], i: usize, known: u8) -> u8
+    requires there { i < 8 * length bytes.now }
+    requires known { i % 8 ≢ 0 → known ≡ slice_index bytes.now (i / 8) }
+    ensures { result ≡ slice_index bytes.now (i / 8) }
+{
+    if i % 8 == 0 { bytes[i / 8] } else { known }
 }
 
 impl<'a> BitView<'a> {
@@ -93,6 +108,7 @@ impl<'a> BitView<'a> {
             at: 0,
             end: self.len,
             order: self.order,
+            byte: 0,
         }
     }
 
@@ -138,17 +154,20 @@ pub struct BitIter<'a> {
     at: usize,
     end: usize,
     order: BitOrder,
+    // The byte of bit `at`, where that isn't its first bit.
+    byte: u8,
 }
 
 impl<'a> Model for BitIter<'a> {
-    ghost use Rattle.std.specs.Prelude.{List, Bool, ◌≤◌, ◌*◌, ◌-◌, length};
+    ghost use Rattle.std.specs.Prelude.{List, Bool, ◌≡◌, ◌≢◌, ◌≤◌, ◌*◌, ◌-◌, ◌/◌, ◌%◌, length, slice_index};
     ghost use Rattle.binlog_base.specs.Bits.{bits_from};
 
     ghost Value = { List Bool };
 
     ghost view = { λ a. bits_from a.order a.bytes.now a.at (a.end - a.at) };
 
-    ghost invariant = { λ a. (a.at ≤ a.end) × (a.end ≤ 8 * length a.bytes.now) };
+    ghost invariant = { λ a. (a.at ≤ a.end) × (a.end ≤ 8 * length a.bytes.now)
+        × (a.at % 8 ≢ 0 → a.byte ≡ slice_index a.bytes.now (a.at / 8)) };
 }
 
 impl Iterator for BitIter<'_> {
@@ -158,12 +177,13 @@ impl Iterator for BitIter<'_> {
 
     ghost remaining = { item_count (λ s. s) };
 
-    #[tactic(auto, using(crate::proofs::BitLists::bits_next))]
+    #[tactic(auto, using(crate::proofs::BitLists::bits_next), unfolding(crate::specs::Bits::bit_at))]
     fn next(&mut self) -> Option<bool> {
         if self.at >= self.end {
             return None;
         }
-        let b = bit(self.bytes, self.order, self.at);
+        self.byte = byte_of(self.bytes, self.at, self.byte);
+        let b = bit_in(self.byte, self.order, self.at);
         self.at += 1;
         Some(b)
     }
@@ -192,10 +212,10 @@ impl<'de> MyDeserialize<'de> for BitView<'de> {
 
     type Ctx = (BitOrder, usize);
 
-    #[tactic(auto, using(crate::specs::Lemmas::Bits::all_there), unfolding(crate::specs::Bits::bit_list))]
+    #[tactic(auto, unfolding(crate::specs::Bits::bit_list))]
     fn deserialize(ctx: (BitOrder, usize), buf: &mut ParseBuf<'de>) -> Result<Self, Fault> {
         let (order, len) = ctx;
         let bytes = buf.eat(bitmap_len(len))?;
-        Ok(BitView::new(bytes, len, order))
+        Ok(BitView { bytes, len, order })
     }
 }

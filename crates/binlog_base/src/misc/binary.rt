@@ -127,8 +127,8 @@ fn packed_in_range(whole: u64, microseconds: i64) -> Result<i64, Fault>
     }
 }
 
-// The kind of TIME2 values. They are read with the count of their decimals.
-struct Time2;
+/// The kind of TIME2 values, which are packed times. They are read with the count of their decimals.
+pub struct Time2;
 
 impl OfWidth for Time2 {
     ghost format = { time2 };
@@ -157,8 +157,9 @@ impl OfWidth for Time2 {
     }
 }
 
-// The kind of DATETIME2 values. They are read with the count of their decimals.
-struct Datetime2;
+/// The kind of DATETIME2 values, which are packed times. They are read with the count of their
+/// decimals.
+pub struct Datetime2;
 
 impl OfWidth for Datetime2 {
     ghost format = { datetime2 };
@@ -182,8 +183,9 @@ impl OfWidth for Datetime2 {
     }
 }
 
-// The kind of TIMESTAMP2 values. They are read with the count of their decimals.
-struct Timestamp2;
+/// The kind of TIMESTAMP2 values: seconds and microseconds. They are read with the count of their
+/// decimals.
+pub struct Timestamp2;
 
 impl OfWidth for Timestamp2 {
     ghost format = { timestamp2 };

@@ -10,12 +10,9 @@ ghost use Rattle.binlog_cells.specs.Pieces.{date_of, time_of};
 ghost use Rattle.binlog_cells.specs.Cells.{timestamp_cell, time_of_digits, time_cell, date_of_digits, datetime_cell, year_text, year_cell, date_of_bits, date_cell, timestamp_text, timestamp2_cell, datetime2_cell, time2_cell};
 
 use super::timestamp::Timestamp;
-use binlog_base::below::{ColumnType, IntRepr, LeU24, LeU32, LeU64, ParseBuf, U8, Value};
+use binlog_base::below::{ColumnType, IntRepr, LeU24, LeU32, LeU64, OfWidth, ParseBuf, U8, Value};
 use binlog_base::fault::Fault;
-use binlog_base::misc::{
-    DateTimeFields, TimeFields, my_datetime_packed_from_binary, my_time_packed_from_binary,
-    my_timestamp_from_binary,
-};
+use binlog_base::misc::{DateTimeFields, Datetime2, Time2, TimeFields, Timestamp2};
 use itoa::write_digits;
 use std::alloc::{AllocError, Global};
 
@@ -223,7 +220,7 @@ pub(super) fn read_seconds(decimals: u8, buf: &mut ParseBuf<'_>) -> Result<Times
     ensures { ParsesAs (λ t. Bytes (timestamp_text (t.seconds, t.microseconds)))
         (timestamp2_cell decimals) result buf.old.0.now buf.new.0.now }
 {
-    let (seconds, microseconds) = my_timestamp_from_binary(buf, decimals)?;
+    let (seconds, microseconds) = <Timestamp2 as OfWidth>::deserialize(u32::from(decimals), buf)?;
     Ok(Timestamp {
         seconds,
         microseconds,
@@ -251,7 +248,7 @@ pub(super) fn read_timestamp2(
 pub(super) fn read_datetime2(decimals: u8, buf: &mut ParseBuf<'_>) -> Result<Date, Fault>
     ensures { ParsesAs date_of (datetime2_cell decimals) result buf.old.0.now buf.new.0.now }
 {
-    let packed = my_datetime_packed_from_binary(buf, u32::from(decimals))?;
+    let packed = <Datetime2 as OfWidth>::deserialize(u32::from(decimals), buf)?;
     let date = DateTimeFields::of_packed(packed);
     Ok((
         date.year,
@@ -270,7 +267,7 @@ pub(super) fn read_datetime2(decimals: u8, buf: &mut ParseBuf<'_>) -> Result<Dat
 pub(super) fn read_time2(decimals: u8, buf: &mut ParseBuf<'_>) -> Result<Time, Fault>
     ensures { ParsesAs time_of (time2_cell decimals) result buf.old.0.now buf.new.0.now }
 {
-    let packed = my_time_packed_from_binary(buf, u32::from(decimals))?;
+    let packed = <Time2 as OfWidth>::deserialize(u32::from(decimals), buf)?;
     let time = TimeFields::of_packed(packed);
     Ok((
         time.is_negative,

@@ -20,7 +20,7 @@ use super::lent_row::LentRow;
 use binlog_base::below::{
     Column, ColumnFlags, ColumnList, ColumnType, IntRepr, LenEnc, MyDeserialize, ParseBuf, Value,
 };
-use binlog_base::bits::{BitOrder, BitView};
+use binlog_base::bits::{BitIter, BitOrder, BitView};
 use binlog_base::fault::Fault;
 use binlog_cells::value::{
     BinlogValue, Form, LentCell, form_of, put_cell, put_json, put_plain, read_json, read_plain,
@@ -380,6 +380,8 @@ impl Plan {
 
     /// Reads one image into a row that lends its cells, as `read` does. What the row held before is
     /// gone, and its memory is used again.
+    // Not inlined, so that an event without this image calls nothing.
+    #[inline(never)]
     #[tactic(auto, unfolding(crate::specs::Workings::Plans::planned_image))]
     pub fn read_lent<'b>(
         &self,
@@ -413,22 +415,24 @@ fn read_cells(
         slots.now end nulls.now) result buf.old.0.now buf.new.0.now) }
 {
     let mut values = Vec::with_capacity(alloc, slots.len())?;
-    let mut place = 0;
+    let mut null_bits = nulls.iter();
     for slot in slots {
-        add_nullable_cell(
-            alloc,
-            slot,
-            partials,
-            is_set(nulls, place),
-            &mut values,
-            buf,
-        )?;
-        place += 1;
+        let is_null = next_bit(&mut null_bits);
+        add_nullable_cell(alloc, slot, partials, is_null, &mut values, buf)?;
     }
     match end {
         None => Ok(values),
         Some(fault) => Err(fault),
     }
+}
+
+// Returns whether the next bit is set; false where no bit is left.
+#[inline(always)]
+fn next_bit(bits: &mut BitIter<'_>) -> bool
+    ensures bit { result ≡ slice_index_or bits.old 0 false }
+    ensures rest { bits.new ≡ drop 1 bits.old }
+{
+    bits.next().unwrap_or(false)
 }
 
 // Returns whether the bit at an index is set; false where there is no such bit.
@@ -528,10 +532,10 @@ fn read_lent_cells<'b>(
 {
     cells.clear();
     cells.reserve(slots.len())?;
-    let mut at = 0;
+    let mut bits = nulls.iter();
     for slot in slots {
-        put_lent_cell(slot, partials, is_set(nulls, at), cells, buf)?;
-        at += 1;
+        let is_null = next_bit(&mut bits);
+        put_lent_cell(slot, partials, is_null, cells, buf)?;
     }
     match end {
         None => Ok(()),

@@ -75,6 +75,7 @@ impl<'a> MaybeRow<'a> {
     }
 
     // Reads the image, if there is a plan for it.
+    #[inline(always)]
     fn read(
         &mut self,
         plan: &Option<Plan>,

@@ -18,6 +18,9 @@ use crate::description::FormatDescriptionEvent;
 use crate::error::EventError;
 use crate::header::BinlogEventHeader;
 use crate::origin::Origin;
+use crate::types::{
+    FORMAT_DESCRIPTION, ROTATE, START_ENCRYPTION, TABLE_MAP, TRANSACTION_PAYLOAD, WRITE_ROWS,
+};
 use crate::version::knows_checksums;
 use binlog_base::below::{MyDeserialize, ParseBuf, Server};
 use binlog_consts::consts::EventType;
@@ -79,21 +82,21 @@ impl<'a> Raw<'a> {
     fn is_description(&self) -> bool
         ensures { result ≡ Spec.is_description self.now }
     {
-        self.header.event_type() == 0x0f
+        self.header.event_type() == FORMAT_DESCRIPTION
     }
 
     /// Returns whether the event is a table map event.
     pub fn is_table(&self) -> bool
         ensures { IsTrue result ↔ (self.now.header.event_type ≡ 0x13) }
     {
-        self.header.event_type() == 0x13
+        self.header.event_type() == TABLE_MAP
     }
 
     /// Returns whether the event is neither a format description nor a table map event.
     pub fn is_plain(&self) -> bool
         ensures { result ≡ Spec.is_plain self.now }
     {
-        !matches!(self.header.event_type(), 0x0f | 0x13)
+        !matches!(self.header.event_type(), FORMAT_DESCRIPTION | TABLE_MAP)
     }
 }
 
@@ -404,7 +407,7 @@ fn with_table<'a>(
         (Spec.with_table position header parts.entry)) result x x }
 {
     let Parts { body, footer } = parts;
-    let post_header_len = description.post_header_len(0x13);
+    let post_header_len = description.post_header_len(TABLE_MAP);
     let table = read_table(description.server(), post_header_len, body)?;
     Ok(Event {
         position,
@@ -422,7 +425,7 @@ fn with_table<'a>(
 fn has_unread_rows(event_type: u8) -> bool
     ensures { result ≡ Spec.has_unread_rows event_type }
 {
-    matches!(event_type, 0x14..=0x16 | 0x28 | 0xa4 | 0xa6..=0xab)
+    matches!(event_type, 0x14..=0x16 | TRANSACTION_PAYLOAD | START_ENCRYPTION | 0xa6..=0xab)
 }
 
 // Returns whether a server writes events of the type.
@@ -465,7 +468,7 @@ fn rows_ctx(description: &FormatDescriptionEvent<'_>, number: u8) -> Option<Rows
     Some(RowsEventCtx {
         event_type,
         post_header_len: description.post_header_len(number),
-        write_rows_post_header_len: description.post_header_len(0x1e),
+        write_rows_post_header_len: description.post_header_len(WRITE_ROWS),
     })
 }
 
@@ -501,7 +504,7 @@ impl<'a> Model for PlainEvent<'a> {
 fn is_rotate(header: &BinlogEventHeader) -> bool
     ensures { result ≡ Spec.is_rotate header.now }
 {
-    header.event_type() == 0x04
+    header.event_type() == ROTATE
 }
 
 // Reads an event that no description comes before. The name of a file is passed over: a server begins
@@ -640,7 +643,7 @@ fn after_description<'a>(
         (Spec.other_event position (Some description.now) header parts.entry) result x x }
 {
     let event_type = header.event_type();
-    if event_type == 0x13 {
+    if event_type == TABLE_MAP {
         with_table(position, description, header, parts)
     } else if is_supported(&header) {
         let Parts { body, footer } = parts;

@@ -8,4 +8,5 @@ pub mod error;
 pub mod event;
 pub mod header;
 pub mod origin;
+pub mod types;
 mod version;

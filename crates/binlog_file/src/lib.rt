@@ -16,7 +16,7 @@ mod sighting;
 pub mod source_changes;
 mod stored;
 
-pub use binlog_events::{crc, error, header, origin};
+pub use binlog_events::{crc, error, header, origin, types};
 pub use binlog_kept::tables;
 
 /// The format description event.

@@ -6,6 +6,7 @@ ghost use Rattle.binlog_file.specs.Workings.Stored as Spec;
 
 use crate::file::MAGIC;
 use binlog_events::event::{Event, PlainEvent, Raw};
+use binlog_events::types::{ANONYMOUS_GTID, GTID, MARIADB_GTID, TAGGED_GTID};
 use std::alloc::{AllocError, Global};
 use std::marker::Model;
 
@@ -51,7 +52,10 @@ fn replace(bytes: &mut Vec<u8>, raw: &Raw<'_>) -> Result<(), AllocError>
 fn is_gtid(event_type: u8) -> bool
     ensures { result ≡ Spec.is_gtid event_type }
 {
-    matches!(event_type, 0x21 | 0x22 | 0x2a | 0xa2)
+    matches!(
+        event_type,
+        GTID | ANONYMOUS_GTID | TAGGED_GTID | MARIADB_GTID
+    )
 }
 
 // Stores an event if it is a format description event.

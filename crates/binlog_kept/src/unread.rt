@@ -14,6 +14,7 @@ use binlog_events::description::FormatDescriptionEvent;
 use binlog_events::error::EventError;
 use binlog_events::event::{Glance, Parts, Raw, has_checksum, parts_of};
 use binlog_events::header::BinlogEventHeader;
+use binlog_events::types::TABLE_MAP;
 use binlog_table::table_map::TableMapEvent;
 use std::alloc::Global;
 use std::marker::Model;
@@ -63,7 +64,7 @@ impl<'a> UnreadTable<'a> {
                 header: raw.header(),
                 parts,
                 server: description.server(),
-                post_header_len: description.post_header_len(0x13),
+                post_header_len: description.post_header_len(TABLE_MAP),
             }),
         }
     }

@@ -91,7 +91,7 @@ fn with_notes<'a>(alloc: Global, command: Command<'a>) -> Result<Command<'a>, Al
         .arg(flag(alloc, "quiet", quiet))
 }
 
-/// Returns the command line that the program takes.
+/// Returns the command line that the program takes. Fails if memory is refused.
 pub fn command<'a>(alloc: Global) -> Result<Command<'a>, AllocError> {
     let files = Arg::new(alloc, "file")
         .value_name("FILE")
@@ -111,7 +111,7 @@ pub fn command<'a>(alloc: Global) -> Result<Command<'a>, AllocError> {
     with_notes(alloc, command)?.arg(files)
 }
 
-/// Returns the error of wrong arguments: a message and the usage.
+/// Returns the error of wrong arguments: a message and the usage. Fails if memory is refused.
 pub fn usage_error(alloc: Global, message: &str) -> Result<Error, AllocError> {
     command(alloc)?.error(ErrorKind::ValueValidation, message)
 }
@@ -125,7 +125,7 @@ pub struct Arguments<'a> {
     pub is_count: bool,
     /// Whether progress is told.
     pub is_progress: bool,
-    /// Whether nothing is said of what a file can't show.
+    /// Whether nothing but errors is told: neither progress nor what a file can't show.
     pub is_quiet: bool,
     tables: TableNames<'a>,
     operations: Operations,

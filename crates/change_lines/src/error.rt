@@ -4,19 +4,21 @@ ghost use Rattle.std.specs.Prelude.{◌≡◌};
 ghost use Rattle.change_lines.specs.declared.error.Failure.TheVariants.{File, Output, Memory};
 
 use binlog_file::error::{EventError, FileError};
+use binlog_file::types::{START_ENCRYPTION, TRANSACTION_PAYLOAD};
 use std::alloc::{AllocError, AllocFailed};
 use std::{fmt, io};
 
 /// Why a run ends early.
 #[derive(Debug, Drop)]
 pub enum Failure {
-    /// The event can't be read.
+    /// The file is no binlog file, an event can't be read, or a row of it can't be read or written. Where
+    /// memory was refused to a reading, the error is `EventError::Memory`.
     File(FileError),
     /// No event begins at the position that was asked for.
     NoEvent(u64),
     /// The output can't be written.
     Output(io::Error),
-    /// Memory was refused.
+    /// Memory was refused outside a reading.
     Memory,
 }
 
@@ -87,13 +89,13 @@ impl fmt::Display for Sentence {
             ),
             EventError::Cut(missing) => self.write_cut(f, missing),
             EventError::RowsData(row, fault) => write!(f, "row {row} can't be read: {fault}"),
-            EventError::NotSupported(0x28) => f.write_str(
+            EventError::NotSupported(TRANSACTION_PAYLOAD) => f.write_str(
                 "the transaction is compressed: turn off binlog_transaction_compression",
             ),
             EventError::NotSupported(0xA6..=0xAB) => {
                 f.write_str("the event is compressed: turn off log_bin_compress")
             }
-            EventError::NotSupported(0xA4) => {
+            EventError::NotSupported(START_ENCRYPTION) => {
                 f.write_str(
                     "the events are encrypted: have the server read them (mariadb-binlog -R --raw), or turn off encrypt_binlog",
                 )
@@ -111,6 +113,7 @@ pub struct Told<'a> {
     pub path: &'a str,
     /// How many bytes the file has, if that is known.
     pub len: Option<u64>,
+    /// Why it ends.
     pub failure: &'a Failure,
 }
 

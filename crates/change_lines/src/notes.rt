@@ -7,6 +7,7 @@ use crate::error::{Failure, Told};
 use crate::progress::Meter;
 use crate::run::Form;
 use binlog_file::lent_changes::LentEvent;
+use binlog_file::types::FORMAT_DESCRIPTION;
 use binlog_table::table_map::TableMapEvent;
 use changed_rows::count::TableName;
 use changed_rows::gaps::Gaps;
@@ -20,9 +21,6 @@ use std::time::Clock;
 const MOST_TABLES: usize = 1024;
 /// How many table ids are remembered whose tables were looked at.
 const MOST_IDS: usize = 4096;
-
-/// The type of format description events.
-const FORMAT_DESCRIPTION: u8 = 0x0F;
 
 /// What is said on standard error, and what was said. That it can't be written there is no error.
 #[derive(Drop)]

@@ -70,7 +70,8 @@ impl<'c, K: Clock> Meter<'c, K> {
         self.rows = self.rows.saturating_add(rows);
     }
 
-    /// Writes a line if the last one was a second ago. `bytes` is how far the reading is.
+    /// Writes a line if the last one was a second ago. `bytes` is how far the reading is. Fails if the clock
+    /// or the output fails.
     pub fn step<E: Write>(&mut self, name: &str, bytes: u64, err: &mut E) -> io::Result<()> {
         self.events = self.events.wrapping_add(1);
         if self.events % EVENTS != 1 {

@@ -46,6 +46,10 @@ use binlog_file::file::BinlogFile;
 use binlog_file::lent_changes::{LentChange, LentEvent, OtherEvent};
 use binlog_file::reader::EventBuffer;
 use binlog_file::source_changes::SourceChanges;
+use binlog_file::types::{
+    ANONYMOUS_GTID, COMPRESSED_QUERY, EXECUTE_LOAD_QUERY, FORMAT_DESCRIPTION, GTID, INCIDENT,
+    MARIADB_GTID, QUERY, TAGGED_GTID, XA_PREPARE,
+};
 use binlog_table::table_map::TableMapEvent;
 use changed_rows::count::{Counts, TableName};
 use changed_rows::filter::{Filter, Operation};
@@ -394,7 +398,18 @@ fn add_rows(
 
 // The types of the events that are looked at beside rows events: those after which another GTID may be
 // in force, and those that say something of changes. Those that come most are first.
-const SEEN: [u8; 10] = [0xA2, 0x21, 0x02, 0x0F, 0x12, 0x22, 0x2A, 0xA5, 0x26, 0x1A];
+const SEEN: [u8; 10] = [
+    MARIADB_GTID,
+    GTID,
+    QUERY,
+    FORMAT_DESCRIPTION,
+    EXECUTE_LOAD_QUERY,
+    ANONYMOUS_GTID,
+    TAGGED_GTID,
+    COMPRESSED_QUERY,
+    XA_PREPARE,
+    INCIDENT,
+];
 
 // Reads the next event into a buffer: each one, or only those that are looked at.
 fn next_event<'f, 'b, S: Bytes + Drop>(
@@ -722,10 +737,13 @@ impl<'a> Printer<'a> {
     }
 }
 
-/// Prints the changes of a file as the settings say. `file` is the name of the file in lines, and
-/// `path` that in what is told. With `Form::Count` the rows are counted in `counts`, and nothing is printed.
+/// Prints the changes of a file as the settings say, and flushes the output. `file` is the name of the file
+/// in lines, and `path` that in what is told. With `Form::Count` the rows are counted in `counts`, and nothing
+/// is printed.
 ///
-/// An error is told after all lines before it.
+/// The run is `Whole` if all was read that was asked for and all lines were written; then it is told what the
+/// file can't show. It is `Closed` if the output failed because whoever read it went away, and nothing is told
+/// of that. Else it has `Failed`, and the error is told after all lines before it.
 pub fn run<R: Read + Drop, O: WriteOnce, E: Write + Drop, K: Clock>(
     alloc: Global,
     settings: &Settings<'_>,

@@ -4,18 +4,8 @@ ghost use Rattle.std.specs.Prelude.{◌≡◌, Some, drop};
 ghost use Rattle.changed_rows.specs.Gaps.{after_blanks, statement_in, begins_with, changes_rows, rolls_back, gap_of_statement, gap_of, gap_of_rows, with_gap, no_gaps};
 
 use binlog_file::lent_changes::OtherEvent;
+use binlog_file::types::{COMPRESSED_QUERY, EXECUTE_LOAD_QUERY, INCIDENT, QUERY, XA_PREPARE};
 use byteorder::{ByteOrder, LittleEndian};
-
-/// The type of events with a statement.
-const QUERY: u8 = 0x02;
-/// The type of events with a LOAD DATA statement.
-const EXECUTE_LOAD_QUERY: u8 = 0x12;
-/// The type of events by which a server says that changes are missing in its log.
-const INCIDENT: u8 = 0x1A;
-/// The type of events that end a transaction which XA prepares.
-const XA_PREPARE: u8 = 0x26;
-/// The type of MariaDB's events with a statement that is compressed.
-const COMPRESSED_QUERY: u8 = 0xA5;
 
 /// What an event says of changes that no rows show.
 #[derive(Clone, Copy, Debug, PartialEq, Eq)]
@@ -42,12 +32,19 @@ pub enum Gap {
 /// How often a file says something of changes that its rows don't show: a number for each [`Gap`].
 #[derive(Clone, Copy, Debug, PartialEq, Eq)]
 pub struct Gaps {
+    /// How often [`Gap::Statement`].
     pub statements: u64,
+    /// How often [`Gap::Compressed`].
     pub compressed: u64,
+    /// How often [`Gap::Truncation`].
     pub truncations: u64,
+    /// How often [`Gap::Rollback`].
     pub rollbacks: u64,
+    /// How often [`Gap::Prepared`].
     pub prepared: u64,
+    /// How often [`Gap::Incident`].
     pub incidents: u64,
+    /// How often [`Gap::NoRows`].
     pub without_rows: u64,
 }
 

@@ -6,22 +6,12 @@ ghost use Rattle.std.specs.String.{string_bytes};
 ghost use Rattle.changed_rows.specs.Gtids.{part_text, uuid_text, mysql_gtid, mariadb_gtid, gtid_after};
 
 use binlog_file::lent_changes::OtherEvent;
+use binlog_file::types::{ANONYMOUS_GTID, FORMAT_DESCRIPTION, GTID, MARIADB_GTID, TAGGED_GTID};
 use byteorder::{ByteOrder, LittleEndian};
 use hex::encode;
 use itoa::Buffer;
 use std::alloc::{AllocError, Global};
 use std::marker::Model;
-
-/// The type of format description events.
-const FORMAT_DESCRIPTION: u8 = 0x0F;
-/// The type of MySQL's events with the GTID of a transaction.
-const GTID: u8 = 0x21;
-/// The type of MySQL's events before a transaction without a GTID.
-const ANONYMOUS_GTID: u8 = 0x22;
-/// The type of MySQL's events with a GTID that has a tag.
-const TAGGED_GTID: u8 = 0x2A;
-/// The type of MariaDB's events with the GTID of a transaction.
-const MARIADB_GTID: u8 = 0xA2;
 
 /// The global transaction id (GTID) that is in force, as text: MySQL's `uuid:number`, or MariaDB's
 /// `domain-server-sequence`.
@@ -172,7 +162,8 @@ impl Gtid {
         Ok(())
     }
 
-    /// Takes in an event, after which another GTID may be in force.
+    /// Takes in an event, after which another GTID may be in force. Fails if memory is refused: which GTID
+    /// is in force then isn't known.
     pub fn see(&mut self, alloc: Global, event: &OtherEvent<'_>) -> Result<(), AllocError>
         ensures { OnOk result (self.new ≡ gtid_after self.old event.now) }
     {

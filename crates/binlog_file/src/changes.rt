@@ -82,7 +82,7 @@ impl<'a, C: Choice + Drop> FileChanges<'a, C> {
         ensures choice { IfOk result (λ c. c.choice ≡ choice) }
         ensures magic { IfOk result (λ _. is_binlog file.now ≡ true) }
         ensures err { IfErr result (λ e. (e ≡ no_binlog file.now) × (is_binlog file.now ≡ false)) }
-        ensures most { IfOk result (λ c. most_kept_in c.walk ≤ 32 * 1024 * 1024) }
+        ensures most { IfOk result (λ c. most_kept_in c.walk ≡ 32 * 1024 * 1024) }
     {
         FileChanges::with_kept_bytes(alloc, file, choice, MOST_BYTES)
     }
@@ -103,7 +103,7 @@ impl<'a, C: Choice + Drop> FileChanges<'a, C> {
         ensures choice { IfOk result (λ c. c.choice ≡ choice) }
         ensures magic { IfOk result (λ _. is_binlog file.now ≡ true) }
         ensures err { IfErr result (λ e. (e ≡ no_binlog file.now) × (is_binlog file.now ≡ false)) }
-        ensures most { IfOk result (λ c. most_kept_in c.walk ≤ most) }
+        ensures most { IfOk result (λ c. most_kept_in c.walk ≡ most) }
     {
         let events = Events::new(file)?;
         Ok(FileChanges {

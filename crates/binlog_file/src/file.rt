@@ -86,7 +86,7 @@ impl<S: Source + Drop> BinlogFile<S> {
         ensures counts { IfOk result (λ f. S.failures f.source ≡ S.failures source) }
         ensures kept { IfOk result (λ f. kept_by f.reader.kept ≡ Spec.first_kept) }
         ensures goes_on { IfOk result (λ f. f.reader.is_over ≡ false) }
-        ensures most { IfOk result (λ f. most_kept f.reader.kept.tables ≤ 8 * 1024 * 1024) }
+        ensures most { IfOk result (λ f. most_kept f.reader.kept.tables ≡ 8 * 1024 * 1024) }
     {
         let mut source = source;
         BinlogFileHeader::read(alloc, &mut source)?;
@@ -99,7 +99,7 @@ impl<S: Source + Drop> BinlogFile<S> {
         ensures source { result.source ≡ source }
         ensures kept { kept_by result.reader.kept ≡ Spec.first_kept }
         ensures goes_on { result.reader.is_over ≡ false }
-        ensures most { most_kept result.reader.kept.tables ≤ 8 * 1024 * 1024 }
+        ensures most { most_kept result.reader.kept.tables ≡ 8 * 1024 * 1024 }
     {
         BinlogFile {
             source,

@@ -458,7 +458,7 @@ impl EventStreamReader {
     pub fn new(alloc: Global) -> EventStreamReader
         ensures kept { kept_by result.kept ≡ Spec.first_kept }
         ensures goes_on { result.is_over ≡ false }
-        ensures most { most_kept result.kept.tables ≤ 8 * 1024 * 1024 }
+        ensures most { most_kept result.kept.tables ≡ 8 * 1024 * 1024 }
     {
         EventStreamReader::with_tables(alloc, TableMaps::new(alloc))
     }
@@ -468,7 +468,7 @@ impl EventStreamReader {
     pub fn with_kept_bytes(alloc: Global, most: usize) -> EventStreamReader
         ensures kept { kept_by result.kept ≡ Spec.first_kept }
         ensures goes_on { result.is_over ≡ false }
-        ensures most { most_kept result.kept.tables ≤ most }
+        ensures most { most_kept result.kept.tables ≡ most }
     {
         EventStreamReader::with_tables(alloc, TableMaps::with_kept_bytes(alloc, most))
     }
@@ -497,7 +497,7 @@ impl EventStreamReader {
     // was kept is given up.
     pub(crate) fn keep_at_most(&mut self, most: usize)
         ensures reading { reading_of self.new ≡ reading_of self.old }
-        ensures most { most_kept self.new.kept.tables ≤ most }
+        ensures most { most_kept self.new.kept.tables ≡ most }
     {
         self.kept.tables.keep_at_most(self.alloc, most);
     }

@@ -365,7 +365,7 @@ impl<S: Source + Drop, C: Choice + Drop> SourceChanges<S, C> {
         ensures source { result.source ≡ file.source }
         ensures reader { reading_in result.walk ≡ reading_of file.reader }
         ensures pending { result.walk.pending ≡ None }
-        ensures most { most_kept_by result.walk ≤ most }
+        ensures most { most_kept_by result.walk ≡ most }
     {
         let mut changes = SourceChanges::with_plans(alloc, file, choice, most - most / 4);
         changes.walk.reader.keep_at_most(most / 4);

@@ -1,5 +1,5 @@
 -- What is kept to be used again, and how many bytes of memory that takes.
-use Rattle.std.specs.Prelude.{◌≡◌, ◌+◌, ◌≤◌, ◌%◌, ℕ, cond, List, Option, Some, None, IsSome}
+use Rattle.std.specs.Prelude.{◌≡◌, ◌+◌, ◌≤◌, ◌%◌, ℕ, cond, List, length, Option, Some, None, IsSome}
 use Rattle.std.specs.Ordering.{nat_cmp}
 use Rattle.std.specs.List.{sum_by, slice_get}
 use Rattle.std.specs.Map.{lookup, values_of}
@@ -45,6 +45,10 @@ kept_at g k = either (value_at g.younger k) (value_at g.older k)
 -- the bytes of all that is kept
 abbrev pub all_bytes : {X : Type 0} → (X → ℕ) → Generations X → ℕ
 all_bytes f g = bytes_held f g.younger + bytes_held f g.older
+
+-- how many values are kept
+abbrev pub count_of : {X : Type 0} → Generations X → ℕ
+count_of g = length g.younger + length g.older
 
 -- there is room for so many bytes more
 abbrev pub HasRoom : {X : Type 0} → (X → ℕ) → Generations X → ℕ → Type 0

@@ -1,10 +1,10 @@
 //! What is kept to be used again, in two generations.
 
-ghost use Rattle.std.specs.Prelude.{◌≡◌, ◌≢◌, ◌≤◌, ◌+◌, ◌<◌, ◌^◌, ◌↔◌, ℕ, cond, [], drop, Some, None, OnOk, OnErr, IfOk, IfSome, IfNone, IsTrue, IsFalse};
+ghost use Rattle.std.specs.Prelude.{◌≡◌, ◌≢◌, ◌≤◌, ◌+◌, ◌-◌, ◌<◌, ◌^◌, ◌↔◌, ◌⊎◌, ℕ, cond, [], drop, Some, None, OnOk, OnErr, IfOk, IfSome, IfNone, IsTrue, IsFalse};
 ghost use Rattle.std.specs.Ordering.{nat_cmp};
 ghost use Rattle.std.specs.BTreeMap.{is_at};
 ghost use Rattle.std.specs.Option.{option_map};
-ghost use Rattle.binlog_kept.specs.Kept.{bytes_held, all_bytes, value_at, kept_at, Changes, HasRoom, IsNoted};
+ghost use Rattle.binlog_kept.specs.Kept.{bytes_held, all_bytes, count_of, value_at, kept_at, Changes, HasRoom, IsNoted};
 ghost use Rattle.binlog_kept.specs.Kept as Spec;
 
 use crate::notes::Notes;
@@ -89,13 +89,6 @@ impl<T: Weighed + Drop> Generation<T> {
             self.bytes -= replaced.weight();
         }
         Ok(())
-    }
-
-    // Returns how many values there are.
-    fn len(&self) -> usize
-        ensures { result < 2 ^ 63 }
-    {
-        self.entries.len()
     }
 
     // Takes out the value under a key.
@@ -184,7 +177,7 @@ impl<T: Weighed + Drop> Generations<T> {
     #[inline]
     pub fn get(&self, key: u64) -> Option<Found<'_, T>>
         ensures value { option_map (λ k. k.value.now) result ≡ kept_at self.now key }
-        ensures old { IfSome result (λ k. IsTrue k.is_old → Spec.IsOld self.now key) }
+        ensures old { IfSome result (λ k. IsTrue k.is_old ↔ Spec.IsOld self.now key) }
     {
         if let Some(value) = self.younger.get(key) {
             return Some(Found {
@@ -206,10 +199,19 @@ impl<T: Weighed + Drop> Generations<T> {
         weight <= self.most - self.bytes()
     }
 
+    // Returns whether nothing is kept.
+    fn is_empty(&self) -> bool
+        ensures { IsTrue result ↔ (count_of self.now ≡ 0) }
+    {
+        self.younger.is_empty() && self.older.is_empty()
+    }
+
     // Makes all values older ones, if there are none.
     fn age(&mut self)
         ensures kept { (k : ℕ) → kept_at self.new k ≡ kept_at self.old k }
         ensures stays { self.old.older ≢ [] → Spec.Stays self.old self.new }
+        ensures count { count_of self.new ≡ count_of self.old }
+        ensures none { self.new.older ≡ [] → self.new.younger ≡ [] }
         ensures most { self.new.most ≡ self.old.most }
         ensures notes { self.new.notes ≡ self.old.notes }
     {
@@ -223,6 +225,7 @@ impl<T: Weighed + Drop> Generations<T> {
     fn give_up_one(&mut self)
         ensures no_more { Spec.NoMore self.old self.new }
         ensures younger { self.old.older ≢ [] → self.new.younger ≡ self.old.younger }
+        ensures fewer { count_of self.new ≡ count_of self.old - 1 }
         ensures most { self.new.most ≡ self.old.most }
         ensures notes { self.new.notes ≡ self.old.notes }
     {
@@ -230,17 +233,18 @@ impl<T: Weighed + Drop> Generations<T> {
         self.older.give_up_first();
     }
 
-    // Gives up older values until there is room for so many bytes more.
+    // Gives up older values until there is room for so many bytes more, and younger ones only where that
+    // isn't enough.
     fn give_up(&mut self, weight: usize)
+        ensures room { weight ≤ self.old.most → HasRoom T.weight self.new weight }
         ensures no_more { Spec.NoMore self.old self.new }
         ensures stays { HasRoom T.weight self.old weight → Spec.Stays self.old self.new }
+        ensures younger { bytes_held T.weight self.old.younger + weight ≤ self.old.most
+            → self.new.younger ≡ self.old.younger }
         ensures most { self.new.most ≡ self.old.most }
         ensures notes { self.new.notes ≡ self.old.notes }
     {
-        for _ in 0..self.younger.len() + self.older.len() {
-            if self.has_room(weight) {
-                return;
-            }
+        while !self.has_room(weight) && !self.is_empty() {
             self.give_up_one();
         }
     }
@@ -259,8 +263,12 @@ impl<T: Weighed + Drop> Generations<T> {
     /// is kept if there is room. Else it is only noted when it comes first, and room is made when it
     /// comes again. What takes more than half of all bytes is not kept.
     pub fn make_room(&mut self, key: u64, weight: usize) -> Result<bool, AllocError>
+        ensures answer { IfOk result (λ b. IsTrue b ↔ ((weight + weight ≤ self.old.most)
+            × (HasRoom T.weight self.old weight ⊎ IsNoted self.old.notes key))) }
         ensures room { IfOk result (λ b. IsTrue b → HasRoom T.weight self.new weight) }
         ensures stays { HasRoom T.weight self.old weight → Spec.Stays self.old self.new }
+        ensures younger { bytes_held T.weight self.old.younger + weight ≤ self.old.most
+            → self.new.younger ≡ self.old.younger }
         ensures first { ¬ (IsNoted self.old.notes key) → Spec.Stays self.old self.new }
         ensures noted { IfOk result (λ b. IsFalse b → weight + weight ≤ self.old.most
             → IsNoted self.new.notes key) }
@@ -278,7 +286,7 @@ impl<T: Weighed + Drop> Generations<T> {
             return Ok(false);
         }
         self.give_up(weight);
-        Ok(self.has_room(weight))
+        Ok(true)
     }
 
     /// Keeps a value in place of one with the same key, if there is room.

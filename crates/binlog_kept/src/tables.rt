@@ -128,7 +128,7 @@ impl TableMaps {
     pub fn new(alloc: Global) -> TableMaps
         ensures tables { (id : ℕ) → in_maps result id ≡ no_tables id }
         ensures ended { result.ended ≡ false }
-        ensures most { most_kept result ≤ 8 * 1024 * 1024 }
+        ensures most { most_kept result ≡ 8 * 1024 * 1024 }
     {
         TableMaps::with_kept_bytes(alloc, MOST_KEPT)
     }
@@ -138,7 +138,7 @@ impl TableMaps {
     pub fn with_kept_bytes(alloc: Global, most: usize) -> TableMaps
         ensures tables { (id : ℕ) → in_maps result id ≡ no_tables id }
         ensures ended { result.ended ≡ false }
-        ensures most { most_kept result ≤ most }
+        ensures most { most_kept result ≡ most }
     {
         TableMaps {
             first: None,
@@ -161,7 +161,7 @@ impl TableMaps {
     /// up.
     pub fn keep_at_most(&mut self, alloc: Global, most: usize)
         ensures held { held_by self.new ≡ held_by self.old }
-        ensures most { most_kept self.new ≤ most }
+        ensures most { most_kept self.new ≡ most }
     {
         self.kept = Generations::new(alloc, most);
     }

@@ -2,7 +2,7 @@
 use Rattle.std.specs.Prelude.{◌≡◌, Option, Some, None}
 use Rattle.std.specs.String.{string_bytes}
 use Rattle.std.specs.Str.Lossy.{utf8_lossy}
-use Rattle.binlog_table.specs.TableMap.{TableMap}
+use Rattle.binlog_table.specs.TableMap.{TableMap, without_id}
 use Rattle.row_json.specs.Columns.{columns_of}
 use Rattle.binlog_kept.specs.Kept.{Generations}
 use Rattle.changed_rows.specs.declared.table.Table.{Table}
@@ -22,3 +22,8 @@ pub record TablesKept : Type 0 where
 abbrev pub TellsIf : Option Table → TableMap → Type 0
 TellsIf None t = ⊥
 TellsIf (Some k) t = Tells t k
+
+-- something is kept, and its event tells the same of the table as this one: all but the id
+abbrev pub TellsAlike : Option Table → TableMap → Type 0
+TellsAlike None t = ⊥
+TellsAlike (Some k) t = without_id k.event ≡ without_id t

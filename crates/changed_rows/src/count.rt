@@ -1,12 +1,12 @@
 //! How many rows of each table changed.
 
-ghost use Rattle.std.specs.Prelude.{◌≡◌, [], ◌∷◌, ◌++◌, codes, IfOk, OnOk, OnErr};
+ghost use Rattle.std.specs.Prelude.{◌≡◌, [], ◌∷◌, Ok, IfOk, OnOk, OnErr};
 ghost use Rattle.std.specs.String.{string_bytes};
-ghost use Rattle.std.specs.Str.Lossy.{utf8_lossy};
 ghost use Rattle.std.specs.Io.KnownBytes.{Appends};
 ghost use Rattle.changed_rows.specs.Counted.{nothing, plus, added, name_of, CountsMore, AreCounts, name_text, numbers_text, table_text};
 
 use crate::filter::Operation;
+use binlog_base::below::WriteOnce;
 use binlog_table::table_map::TableMapEvent;
 use std::alloc::{AllocError, Global};
 use std::collections::BTreeMap;
@@ -19,8 +19,11 @@ const MOST_TABLES: usize = 65536;
 /// How many rows changed.
 #[derive(Clone, Copy, Debug, PartialEq, Eq)]
 pub struct Changed {
+    /// Rows that were inserted.
     pub inserted: u64,
+    /// Rows that were updated.
     pub updated: u64,
+    /// Rows that were deleted.
     pub deleted: u64,
 }
 
@@ -75,7 +78,7 @@ pub struct TableName {
 }
 
 impl TableName {
-    /// Returns the name of a table.
+    /// Returns the name of a table. It is copied, and the call fails if memory is refused.
     pub fn of(alloc: Global, table: &TableMapEvent<'_>) -> Result<TableName, AllocError>
         ensures { IfOk result (λ name. name_of name ≡ (table.now.database, table.now.table)) }
     {
@@ -85,7 +88,8 @@ impl TableName {
         })
     }
 
-    /// Returns the name as text, with U+FFFD in place of what isn't UTF-8.
+    /// Returns the name as text, `database.table`, with U+FFFD in place of what isn't UTF-8. Fails if
+    /// memory is refused.
     pub fn text(&self, alloc: Global) -> Result<String, AllocError>
         ensures { IfOk result (λ text. string_bytes text ≡ name_text self.now) }
     {
@@ -115,7 +119,8 @@ impl Counts {
         }
     }
 
-    /// Adds so many rows of a table that an operation changed.
+    /// Adds so many rows of a table that an operation changed. Once 65,536 tables are counted apart,
+    /// those of any other are added up together. Fails if memory is refused, and adds nothing then.
     pub fn add(
         &mut self,
         name: TableName,
@@ -138,11 +143,13 @@ impl Counts {
         Ok(())
     }
 
-    /// Writes the numbers as a table: a line for each table, in the order of their names, and a line of
-    /// sums. A line before that has the rows of the tables that aren't counted apart, if there are any.
-    pub fn print<O: Write>(&self, out: &mut O) -> io::Result<()>
-        ensures { OnOk result (Appends (O.contents out.old) (O.contents out.new)
+    /// Writes the numbers as a table, and flushes the output: a line of titles, one for each table, in
+    /// the order of their names, and one of sums. A line before that has the rows of the tables that
+    /// aren't counted apart, if there are any. Fails if the output fails or memory is refused.
+    pub fn print<O: WriteOnce>(&self, out: &mut O) -> io::Result<()>
+        ensures written { OnOk result (Appends (O.contents out.old) (O.contents out.new)
             (table_text self.now)) }
+        ensures flushed { OnOk result ((mid : O) × (u : Unit {0}) × O.flushes mid (Ok u) out.new) }
     {
         writeln!(out, "    inserted      updated      deleted  table")?;
         let mut sums = Changed::none();
@@ -156,6 +163,6 @@ impl Counts {
             self.others.print(out, "(tables beyond the first 65536)")?;
         }
         sums.print(out, "(all)")?;
-        out.flush()
+        out.flush_once()
     }
 }

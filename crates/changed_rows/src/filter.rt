@@ -13,8 +13,11 @@ use binlog_table::table_map::TableMapEvent;
 /// What became of a row.
 #[derive(Clone, Copy, Debug, PartialEq, Eq)]
 pub enum Operation {
+    /// It was inserted.
     Insert,
+    /// It was updated.
     Update,
+    /// It was deleted.
     Delete,
 }
 
@@ -50,8 +53,11 @@ impl Operation {
 /// The operations that are wanted.
 #[derive(Clone, Copy, Debug, PartialEq, Eq)]
 pub struct Operations {
+    /// Whether inserts are wanted.
     pub inserts: bool,
+    /// Whether updates are wanted.
     pub updates: bool,
+    /// Whether deletes are wanted.
     pub deletes: bool,
 }
 
@@ -155,7 +161,9 @@ impl<'a> TableNames<'a> {
 /// The positions from `start` on and before `stop`.
 #[derive(Clone, Copy, Debug, PartialEq, Eq)]
 pub struct Positions {
+    /// The first position; none is too low without it.
     pub start: Option<u64>,
+    /// The position after the last one; none is too high without it.
     pub stop: Option<u64>,
 }
 
@@ -180,8 +188,11 @@ impl Positions {
 /// positions.
 #[derive(Clone, Copy, Debug)]
 pub struct Filter<'a> {
+    /// The tables whose rows are wanted.
     pub tables: TableNames<'a>,
+    /// What became of the rows that are wanted.
     pub operations: Operations,
+    /// The positions at which the events of these rows begin.
     pub positions: Positions,
 }
 

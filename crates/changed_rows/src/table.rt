@@ -41,7 +41,7 @@ pub struct Table {
 }
 
 impl Table {
-    /// Finds out what there is to know of a table.
+    /// Finds out what there is to know of a table. Fails if memory is refused.
     pub fn new(alloc: Global, event: &TableMapEvent<'_>) -> Result<Table, AllocError>
         ensures columns { IfOk result (λ t. t.json ≡ columns_of event.now) }
         ensures database { IfOk result (λ t. string_bytes t.database ≡ utf8_lossy event.now.database) }

@@ -1,8 +1,8 @@
 //! What is kept of the tables that rows belong to.
 
-ghost use Rattle.std.specs.Prelude.{◌≡◌, ◌*◌, Some, IfOk, IsTrue, IsFalse, IsSome, OnOk};
+ghost use Rattle.std.specs.Prelude.{◌≡◌, ◌*◌, ◌↔◌, Some, IfOk, IsTrue, IsFalse, IsSome, OnOk};
 ghost use Rattle.binlog_kept.specs.Kept.{kept_at};
-ghost use Rattle.changed_rows.specs.Tables.{Tells, TellsIf};
+ghost use Rattle.changed_rows.specs.Tables.{Tells, TellsIf, TellsAlike};
 
 use crate::table::Table;
 use binlog_kept::generations::{Found, Generations, Weighed};
@@ -55,7 +55,10 @@ impl KeptTables {
     // Returns whether what is stored under a key is of the table that an event describes. It was used
     // lately then.
     fn is_stored(&mut self, key: u64, event: &TableMapEvent<'_>) -> Result<bool, AllocError>
-        ensures { IfOk result (λ is. IsTrue is → TellsIf (kept_at self.new.stored key) event.now) }
+        ensures is { IfOk result (λ is. IsTrue is ↔ TellsAlike (kept_at self.old.stored key) event.now) }
+        ensures tells { IfOk result (λ is. IsTrue is → TellsIf (kept_at self.new.stored key) event.now) }
+        ensures kept { OnOk result (kept_at self.new.stored key ≡ kept_at self.old.stored key) }
+        ensures last { self.new.last ≡ self.old.last }
     {
         let Some(Found { value, is_old }) = self.stored.get(key) else {
             return Ok(false);
@@ -71,7 +74,8 @@ impl KeptTables {
 
     // Returns whether the last table for which there was no room is the one that an event describes.
     fn is_last(&self, event: &TableMapEvent<'_>) -> bool
-        ensures { IsTrue result → TellsIf self.now.last event.now }
+        ensures is { IsTrue result ↔ TellsAlike self.now.last event.now }
+        ensures tells { IsTrue result → TellsIf self.now.last event.now }
     {
         match &self.last {
             Some(table) => table.is_of(event),
@@ -108,6 +112,11 @@ impl KeptTables {
     ) -> Result<bool, AllocError>
         ensures stored { IfOk result (λ is. IsTrue is → TellsIf (kept_at self.new.stored key) event.now) }
         ensures last { IfOk result (λ is. IsFalse is → TellsIf self.new.last event.now) }
+        // What is kept and serves is not found out again.
+        ensures stored_again { TellsAlike (kept_at self.old.stored key) event.now
+            → OnOk result (kept_at self.new.stored key ≡ kept_at self.old.stored key) }
+        ensures last_again { TellsAlike self.old.last event.now
+            → IfOk result (λ is. IsFalse is → self.new.last ≡ self.old.last) }
     {
         if self.is_stored(key, event)? {
             return Ok(true);
@@ -140,7 +149,8 @@ impl KeptTables {
         }
     }
 
-    /// Returns what there is to know of a table.
+    /// Returns what there is to know of a table: what is kept of it, or what is found out now and kept if
+    /// there is room for it. Fails if memory is refused.
     pub fn table(&mut self, alloc: Global, event: &TableMapEvent<'_>) -> Result<&Table, AllocError>
         ensures { IfOk result (λ t. Tells event.now t.now) }
     {

@@ -26,8 +26,8 @@ loop-name-preserved g c =
       c.add_all-in-loop-name.ensures ∙ ap (λ (s : Changed). plus s c.in-Some.changed.now) h.1 ∙ entry_summed c.args.self.now.others so_far e ∙ ap (λ (es : List (TableName × Changed)). sum_of (c.args.self.now.others ∷ values_of es)) more,
     )
 
-pub returns : goal.returns
-returns g c =
+pub returns-clause-written : goal.returns-clause-written
+returns-clause-written g c =
     let h = c.loop-name.invariant in
     let others = c.args.self.now.others in
     let all : map deref_pair c.loop-name.yielded ≡ c.args.self.now.tables.entries = search (rules, iter_end) in
@@ -41,4 +41,4 @@ returns g c =
           let same = subst (λ (n : Changed). false ≡ not (others.inserted == n.inserted && (others.updated == n.updated && others.deleted == n.deleted))) c.none.ensures w.if-ne.ensures in
           subst (λ o. Appends (g.O.Write.contents c.loop-name.out) (g.O.Write.contents o) (others_text others)) (sym w.out-is) (nothing_printed _ others (turned_true _ same))
     ] in
-    in_any_case c.flush.result _ (table_printed _ _ _ _ _ _ others c.loop-name.sums tables rest sums c.in_ok-print-3.ensures c.flush.ensures.bytes)
+    in_any_case c.flush_once.result _ (table_printed _ _ _ _ _ _ others c.loop-name.sums tables rest sums c.in_ok-print-3.ensures c.flush_once.ensures.bytes)

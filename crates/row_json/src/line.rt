@@ -1,6 +1,6 @@
 //! Pairs of rows as lines.
 
-ghost use Rattle.std.specs.Prelude.{◌≡◌, ◌≢◌, ◌++◌, ℕ, List, [], IfErr, OnOk, OnErr, codes};
+ghost use Rattle.std.specs.Prelude.{◌≡◌, ◌≢◌, ◌≤◌, ◌+◌, ◌*◌, ◌++◌, ℕ, List, [], length, IfErr, OnOk, OnErr, codes};
 ghost use Rattle.binlog_base.specs.declared.fault.Fault.TheVariants as Fault;
 ghost use Rattle.row_json.specs.Rows.{IsLine};
 ghost use Rattle.row_json.specs.Faults.{HasNone, IsFaultOfPair};
@@ -19,7 +19,8 @@ use std::mem;
 const LONG: usize = 64 * 1024;
 
 /// Room in which lines are made, kept from line to line. It takes no memory until it is used, and
-/// grows to the longest line.
+/// grows to the longest line. A line of 64 KiB or more goes to the lines with its memory, and the room
+/// keeps that of the lines before it.
 #[derive(Drop)]
 pub struct LineRoom {
     /// Room for the texts of values.
@@ -54,6 +55,9 @@ impl LineRoom {
         ensures added { OnOk result
             (lines.new.items ≡ lines.old.items ++ (self.old.line.items ++ codes "\n")) }
         ensures kept { OnErr result (lines.new.items ≡ lines.old.items) }
+        ensures given { OnOk result (64 * 1024 ≤ length self.old.line.items + 1
+            → length lines.old.items ≤ length self.old.line.items + 1
+            → self.new.line ≡ lines.old) }
     {
         self.line.push(b'\n')?;
         let len = self.line.len();
@@ -97,7 +101,8 @@ fn add_line<P: Images, M: Members>(
 /// line's end.
 ///
 /// `room` is kept from call to call: once it and `lines` have grown, a line takes memory only for
-/// documents of JSON and for diffs.
+/// documents of JSON and for diffs. A line of 64 KiB or more, if the lines before it are no longer,
+/// isn't copied: `lines` is then another buffer, and `room` keeps the one that it was.
 ///
 /// The error is the fault of the first document of JSON that has one, in the order of `write_pair`, or
 /// `Memory`. Then `lines` holds what it held.

@@ -193,7 +193,7 @@ fn write_own_images<P: Images>(
 ///   their diffs as arrays.
 ///
 /// `table` is of the table map event that is in force for the event. `text` is room for making texts.
-/// It takes no memory where it is kept from call to call.
+/// Once it has grown, it takes no memory where it is kept from call to call.
 ///
 /// The error is the fault of the first document of JSON that has one, or `Memory`: in the row before
 /// the change, then in the row after it, then in the diffs. Then what was written before stays, and a

@@ -3,7 +3,7 @@
 use binlog_file::error::FileError;
 use mysql_binlog_rows::row::LentRow;
 use mysql_binlog_rows::rows_event::LentPair;
-use mysql_binlog_rows::value::{LentCell, Timestamp};
+use mysql_binlog_rows::value::{LentCell, LentJson, Timestamp};
 
 /// How many changes, pairs of rows and cells there were, a sum over the cells, and the error with
 /// which the file ends.
@@ -90,9 +90,16 @@ fn number_of(cell: &LentCell<'_>) -> u64 {
             },
         ) => { u64::from(seconds.cast_unsigned()) ^ u64::from(microseconds.cast_unsigned()) << 32 }
         LentCell::Decimal(_) => 2,
-        LentCell::Json(json) => u64::from(json.value().element_count().unwrap_or(1)),
+        LentCell::Json(json) => number_of_json(json),
         LentCell::Diffs(_) => 3,
     }
+}
+
+// Returns how many elements a document has, or 1 if it is no container. Not inlined, so that other cells
+// need no room for its value.
+#[inline(never)]
+fn number_of_json(json: &LentJson<'_>) -> u64 {
+    u64::from(json.value().element_count().unwrap_or(1))
 }
 
 // Returns the number that a year, month and day form, or an hour, minute and second.

@@ -20,7 +20,7 @@ An edit is tried alone if it changes something else than functions, such as a ta
 function in a cycle of calls, whose proof is that of the cycle. `rt must-fail`'s own way is taken for an edit that isn't found refused so, and for all
 edits of a check in which a function fails that none of them changes. At the end the functions without edits must be proved over what the checks kept.
 
-The status is 0 if every edit is refused, 1 if one isn't.
+The status is 0 if every edit is refused, 1 if one isn't, and 2 if a name is that of no crate with edits.
 """
 import importlib.machinery
 import importlib.util
@@ -286,6 +286,10 @@ def main():
     jobs, folder = (int(words[1]), words[2]) if follows else (min(4, len(os.sched_getaffinity(0))), "must-fail")
     trials = [Trial(it, folder) for it in rt.rtlib.crates_below(ROOT)]
     trials = {it.crate.name: it for it in trials if it.edits}
+    unknown = [it for it in words if it not in trials and not follows]
+    if unknown:
+        print(f"{unknown[0]} is no crate with edits", file=sys.stderr)
+        return 2
     room = threading.Semaphore(min(BESIDE, jobs) if follows else jobs)
 
     def work(trial):

@@ -149,9 +149,9 @@ def own_failures(said):
     """Returns the functions of which a goal of their own isn't proved, each with the line that says so."""
     failed = {it[1]: it[0] for it in SEARCHED.finditer(said)}
     for it in ANSWERED.finditer(said):
-        error = re.search(OWN_ERROR.format(re.escape("/".join(it[1].split("::")[1:]))), said)
-        if error:
-            failed[it[1]] = error[0]
+        errors = re.findall(OWN_ERROR.format(re.escape("/".join(it[1].split("::")[1:]))), said)
+        if errors:
+            failed[it[1]] = min(errors, key=lambda error: bool(LOST_NAMES.search(error)))
     return failed
 
 

@@ -64,6 +64,7 @@ FUNCTION = re.compile(r"(?m)^( *)(?:pub(?:\([^)]*\))? )?(?:const )?(?:unsafe )?f
 OF_TYPE = re.compile(r"(?m)^impl(?:<.*?>)? (\w+)(?:<.*>)? (?:\{|where)")
 SEARCHED = re.compile(r"(?m)^fn (\S+): no proof: expected answers in .*; `search` did not prove ")
 ANSWERED = re.compile(r"(?m)^fn (\S+): not proved\b")
+UNPROVED = re.compile(r"(?m)^fn \S+: (?:no proof|not proved).*$")
 # What a function's own proof says of it. An error that only names what isn't proved is about another function.
 OWN_ERROR = r"(?m)^(?:\./)?proofs/{}/\w+\.antt:\d+:\d+: error: (?!.*was not admitted).*$"
 LOST_NAMES = re.compile(r"has no field|is not in scope|has no `")
@@ -204,17 +205,17 @@ class Trial:
                 edits.append(edit)
         return edits, texts
 
-    def failures(self, texts, edits, kept):
-        """Returns the functions of which a goal of their own isn't proved with these texts; none if the check didn't come so far."""
+    def refusal(self, texts, edits, kept):
+        """Returns what the prover says of these texts if it refuses them; nothing if it doesn't, or the check didn't come so far."""
         ran = self.check(texts, edits, kept)
         last = ran.stdout.rstrip().rpartition("\n")[2]
         if ran.returncode != 1 or not last.startswith(("logic=not-proved", "only=")) or any(rt.unread(it, texts) for it in ran.stdout.split("\n")):
-            return {}
-        return own_failures(ran.stdout)
+            return ""
+        return ran.stdout
 
     def try_together(self, edits, texts, kept):
         """Returns the edits that are refused beside one another, each with the line that says so; none if a function fails that none of them changes."""
-        failed, found, explained = self.failures(texts, edits, kept), {}, set()
+        failed, found, explained = own_failures(self.refusal(texts, edits, kept)), {}, set()
         for edit in edits:
             own = [it for it in failed if any(is_of(it, one, self.crate) for one in edit.functions)]
             if own:
@@ -223,11 +224,12 @@ class Trial:
         return found if explained == {*failed} else {}
 
     def alone(self, edit, kept):
-        """Tries an edit of something else than functions, or of a function of a cycle."""
+        """Tries an edit of something else than functions, or of a function of a cycle: one of the functions beside it must not be proved."""
         texts = edit.made_in({}, self.crate.folder)
-        failed = self.failures(texts, [edit], kept) if texts and self.named([edit]) else {}
-        if failed:
-            self.say(edit, True, refused(min(failed.values())))
+        said = self.refusal(texts, [edit], kept) if texts and self.named([edit]) else ""
+        line = UNPROVED.search(said)
+        if line:
+            self.say(edit, True, refused(line[0]))
         else:
             self.as_rt_does(edit, kept)
 

@@ -57,7 +57,7 @@ def fits():
     """Returns whether this kit's rt has what is called here, as it is called."""
     wanted = {"checked": 4, "must_fail": 4, "unread": 2, "handles_of": 1}
     has = lambda name, count: callable(getattr(rt, name, None)) and len(inspect.signature(getattr(rt, name)).parameters) == count
-    return all(has(*it) for it in wanted.items()) and hasattr(rt.rtlib, "crates_below") and hasattr(rt.rtlib, "guarded")
+    return sys.version_info >= (3, 9) and all(has(*it) for it in wanted.items()) and hasattr(rt.rtlib, "crates_below") and hasattr(rt.rtlib, "guarded")
 
 
 FUNCTION = re.compile(r"(?m)^( *)(?:pub(?:\([^)]*\))? )?(?:const )?(?:unsafe )?fn (\w+)")

@@ -153,6 +153,20 @@ word_in_tables k w =
     ∙ ap (bit_xor (after_bits n2 (w / 2 ^ 8 % 256))) (lowest_byte n1 n0 (w / 2 ^ 16) (w / 2 ^ 24) (omega arith) (sym (shr-shr w 16 8))))
     ∙ sym (xor_assoc (after_bits n3 (w % 256)) (after_bits n2 (w / 2 ^ 8 % 256)) (bit_xor (after_bits n1 (w / 2 ^ 16 % 256)) (after_bits n0 (w / 2 ^ 24))))
 
+-- the third byte of a word
+third_of_word : (p : ℕ) (xs : List ℕ) → ((k : ℕ) → slice_index xs k < 256) → little_number 4 (drop p xs) / 2 ^ 16 % 256 ≡ slice_index xs (p + 2)
+third_of_word p xs bytes =
+    let at : (k : ℕ) → slice_index (drop p xs) k ≡ slice_index xs (p + k) = λ k. get_or-drop p xs k 0 in
+    omega (arith, at 0, at 1, at 2, at 3, bytes (p + 0), bytes (p + 1), bytes (p + 2), bytes (p + 3))
+
+-- the word at a place by the tables, whose third byte is read by itself
+pub place_in_tables : (k p w b : ℕ) (xs : List ℕ) → ((j : ℕ) → slice_index xs j < 256) → w ≡ little_number 4 (drop p xs) → b ≡ slice_index xs (p + 2)
+    → after_bits (8 * (k + 4)) (little_number 4 (drop p xs)) ≡ bit_xor (bit_xor (after_bits (8 * (k + 3 + 1)) (w % 256)) (after_bits (8 * (k + 2 + 1)) (w / 2 ^ 8 % 256))) (bit_xor (after_bits (8 * (k + 1 + 1)) b) (after_bits (8 * (k + 1)) (w / 2 ^ 24)))
+place_in_tables k p w b xs bytes ew eb =
+    let third : w / 2 ^ 16 % 256 ≡ b = ap (λ (x : ℕ). x / 2 ^ 16 % 256) ew ∙ third_of_word p xs bytes ∙ sym eb in
+    ap (after_bits (8 * (k + 4))) (sym ew) ∙ word_in_tables k w
+    ∙ ap (λ (x : ℕ). bit_xor (bit_xor (after_bits (8 * (k + 3 + 1)) (w % 256)) (after_bits (8 * (k + 2 + 1)) (w / 2 ^ 8 % 256))) (bit_xor (after_bits (8 * (k + 1 + 1)) x) (after_bits (8 * (k + 1)) (w / 2 ^ 24)))) third
+
 -- the first word of these bytes apart from the n bits behind it
 first_word : (n r w : ℕ) (xs : List ℕ) → 4 ≤ length xs → 32 + n ≡ 8 * length xs → ((k : ℕ) → slice_index xs k < 256) → w ≡ bit_xor (little_number 4 xs) r
     → after_bytes r xs ≡ bit_xor (after_bytes 0 (drop 4 xs)) (after_bits (32 + n) w)

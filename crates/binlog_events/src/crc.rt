@@ -46,6 +46,21 @@ fn word_at(bytes: &[u8], place: usize) -> u32
     LittleEndian::read_u32(&bytes[place..])
 }
 
+// Returns the remainder of the word at this place after `level + 4` bytes. Its third byte is read by
+// itself: to take it out of the word takes two instructions more.
+#[inline(always)]
+#[tactic(auto, using(crate::proofs::Remainders::place_in_tables))]
+fn place_entry(level: usize, bytes: &[u8], place: usize) -> u32
+    requires level { level + 4 ≤ STEP }
+    requires place { place + 4 ≤ length bytes.now }
+    ensures { result ≡ after_bits (8 * (level + 4)) (little_number 4 (drop place bytes.now)) }
+{
+    let third = u32::from(bytes[place + 2]);
+    let word = word_at(bytes, place);
+    (entry(level + 3, word % 256) ^ entry(level + 2, (word >> 8) % 256))
+        ^ (entry(level + 1, third) ^ entry(level, word >> 24))
+}
+
 // Returns the remainder after so many bytes.
 #[inline(always)]
 #[tactic(auto, using(crate::proofs::Remainders::step_in_words))]
@@ -55,8 +70,7 @@ fn after_step(remainder: u32, bytes: &[u8]) -> u32
 {
     let first = word_at(bytes, 0) ^ remainder;
     // The first word comes last: only its look-ups wait for the step before.
-    ((word_entry(0, word_at(bytes, 12)) ^ word_entry(4, word_at(bytes, 8)))
-        ^ word_entry(8, word_at(bytes, 4)))
+    ((place_entry(0, bytes, 12) ^ place_entry(4, bytes, 8)) ^ place_entry(8, bytes, 4))
         ^ word_entry(12, first)
 }
 
@@ -68,7 +82,7 @@ fn after_pair(remainder: u32, bytes: &[u8]) -> u32
     ensures { result ≡ after_bytes remainder bytes.now }
 {
     let first = word_at(bytes, 0) ^ remainder;
-    word_entry(0, word_at(bytes, 4)) ^ word_entry(4, first)
+    place_entry(0, bytes, 4) ^ word_entry(4, first)
 }
 
 // Returns the remainder after whole pairs of words.

@@ -20,11 +20,6 @@ use Rattle.binlog_file.specs.Asked.{is_asked}
 abbrev pub other_of : Glance → OtherEvent
 other_of g = record { origin = g.origin; header = g.header; body = g.body }
 
--- a rows event that is wanted, or one that gives no change, which is given as it is
-abbrev pub RowsShow : Wanted → Tables → Glance → RowsEvent → LentEvent → Type 0
-RowsShow wanted ts g rows (lent.Rows c) = Opens wanted ts g.origin rows c
-RowsShow wanted ts g rows (lent.Other o) = RowsGive wanted ts g.origin rows None None × (o ≡ other_of g)
-
 -- With these tables in force, an event of which this is seen is a rows event that is wanted; or it gives
 -- no change, and is given as it is.
 abbrev pub Shows : Wanted → Tables → Glance → LentEvent → Type 0
@@ -101,10 +96,16 @@ GoesOnUnless Ends (Some (Err _)) old new = Ends
 
 -- ---- what the functions give
 
--- a rows event that is read with this table map event if it is wanted, else the event as it is
-abbrev pub IsChosen : Wanted → TableMap → Glance → RowsEvent → LentEvent → Type 0
-IsChosen wanted t g rows (lent.Rows c) = (wanted g.origin.position t rows.event_type ≡ true) × (c ≡ unread g.origin rows t)
-IsChosen wanted t g rows (lent.Other o) = (wanted g.origin.position t rows.event_type ≡ false) × (o ≡ other_of g)
+-- a rows event is read with this table map event if it is wanted, else with none
+abbrev pub IsChosen : Wanted → TableMap → Glance → RowsEvent → Option TableMap → Type 0
+IsChosen wanted t g rows (Some u) = (wanted g.origin.position t rows.event_type ≡ true) × (u ≡ t)
+IsChosen wanted t g rows None = wanted g.origin.position t rows.event_type ≡ false
+
+-- a rows event that is wanted is read with the table map event that is in force for it, and one that gives
+-- no change with none
+abbrev pub RowsOpen : Wanted → Tables → Glance → RowsEvent → Option TableMap → Type 0
+RowsOpen wanted ts g rows (Some t) = Opens wanted ts g.origin rows (unread g.origin rows t)
+RowsOpen wanted ts g rows None = RowsGive wanted ts g.origin rows None None
 
 -- ---- the owned changes
 

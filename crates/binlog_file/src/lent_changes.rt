@@ -1,10 +1,12 @@
 //! Events whose pairs of rows are lent one at a time.
 
-ghost use Rattle.std.specs.Prelude.{◌≡◌, ◌≢◌, ◌<◌, ◌⊎◌, None, Some, IfOk, IfErr, IsSome, length};
+ghost use Rattle.std.specs.Prelude.{◌≡◌, ◌≢◌, ◌<◌, ◌⊎◌, None, Some, IfOk, IfErr, IfSome, IsSome, length};
+ghost use Rattle.std.specs.Option.{option_map};
 ghost use Rattle.std.specs.Arc.{arc_value};
 ghost use Rattle.binlog_base.specs.declared.fault.Fault.TheVariants as Fault;
 ghost use Rattle.binlog_events.specs.declared.error.EventError.TheVariants as EventError;
 ghost use Rattle.binlog_file.specs.declared.lent_changes.LentEvent.TheVariants as lent;
+ghost use Rattle.mysql_binlog_rows.specs.Rows.{GivesPairsOf};
 ghost use Rattle.binlog_file.specs.TableMaps.{in_maps};
 ghost use Rattle.binlog_file.specs.Changes.{IsMemory, RowsGive, Gives, failure};
 ghost use Rattle.binlog_file.specs.LentChanges as Spec;
@@ -199,90 +201,95 @@ fn error_at(glance: &Glance<'_>, error: EventError) -> FileError
     }
 }
 
-// Returns a rows event whose pairs are read with this table, by the plan that is kept for it. Fails if
-// memory is refused.
+/// What a rows event that is wanted is read with: its table, and its pairs.
+#[derive(Drop)]
+struct Opened<'a> {
+    table: Arc<TableMapEvent<'static>>,
+    pairs: RowsEventRows<'a>,
+}
+
+// Opens a rows event with this table, by the plan that is kept for it. Fails if memory is refused.
 fn open<'a>(
     alloc: Global,
     plans: &mut KeptPlans,
     table: &Arc<TableMapEvent<'static>>,
-    origin: Origin,
-    rows: RowsEvent<'a>,
+    rows: &RowsEvent<'_>,
     rows_data: &'a [u8],
-) -> Result<LentChange<'a>, Fault>
-    requires { rows_data.now ≡ rows.rows_data }
-    ensures opened { IfOk result (λ c. c ≡ Spec.unread origin rows.entry (arc_value table.now)) }
+) -> Result<Opened<'a>, Fault>
+    requires { rows_data.now ≡ rows.now.rows_data }
+    ensures table { IfOk result (λ o. arc_value o.table ≡ arc_value table.now) }
+    ensures reads { IfOk result (λ o. GivesPairsOf (arc_value table.now) rows.now o.pairs) }
+    ensures left { IfOk result (λ o. o.pairs.left ≡ rows.now.rows_data) }
     ensures err { IfErr result (λ e. e ≡ Fault.Memory) }
     ensures most { plans.new.stored.most ≡ plans.old.stored.most }
 {
-    let pairs = plans.rows(alloc, table, &rows, rows_data)?;
+    let pairs = plans.rows(alloc, table, rows, rows_data)?;
     let table = Arc::try_clone(table)?;
-    Ok(LentChange {
-        origin,
-        rows,
-        table,
-        pairs,
-        count: 0,
-    })
+    Ok(Opened { table, pairs })
 }
 
-// Returns a rows event if it is wanted, else the event as it is.
+// Opens a rows event if it is wanted.
 fn open_if_wanted<'a, C: Choice>(
     alloc: Global,
     choice: &C,
     plans: &mut KeptPlans,
     table: &Arc<TableMapEvent<'static>>,
-    glance: Glance<'a>,
-    rows: RowsEvent<'a>,
+    glance: &Glance<'_>,
+    rows: &RowsEvent<'_>,
     rows_data: &'a [u8],
-) -> Result<LentEvent<'a>, FileError>
-    requires { rows_data.now ≡ rows.rows_data }
-    ensures ok { IfOk result (events.IsChosen (C.wanted choice.now) (arc_value table.now) glance.entry
-        rows.entry) }
-    ensures err { IfErr result (events.IsRefused glance.entry) }
+) -> Result<Option<Opened<'a>>, FileError>
+    requires { rows_data.now ≡ rows.now.rows_data }
+    ensures ok { IfOk result (λ o. events.IsChosen (C.wanted choice.now) (arc_value table.now)
+        glance.now rows.now (option_map (λ it. arc_value it.table) o)) }
+    ensures reads { IfOk result (λ o. IfSome o (λ it.
+        GivesPairsOf (arc_value it.table) rows.now it.pairs × (it.pairs.left ≡ rows.now.rows_data))) }
+    ensures err { IfErr result (events.IsRefused glance.now) }
     ensures most { plans.new.stored.most ≡ plans.old.stored.most }
 {
-    let origin = glance.origin();
-    if !choice.wants(origin.position, table, rows.event_type()) {
-        return Ok(other(glance));
+    if !choice.wants(glance.position, table, rows.event_type()) {
+        return Ok(None);
     }
-    match open(alloc, plans, table, origin, rows, rows_data) {
-        Ok(change) => Ok(LentEvent::Rows(change)),
-        Err(_) => Err(error_at(&glance, EventError::Memory)),
+    match open(alloc, plans, table, rows, rows_data) {
+        Ok(opened) => Ok(Some(opened)),
+        Err(_) => Err(error_at(glance, EventError::Memory)),
     }
 }
 
-// Returns a rows event that was read if it is wanted, else the event as it is.
-#[tactic(auto, using(crate::proofs::LentShown::other_shown, crate::proofs::LentShown::chosen_if, crate::proofs::LentShown::refused, crate::proofs::LentShown::no_table))]
-fn show_rows<'a, C: Choice>(
+// Opens a rows event that was read if it is wanted.
+#[tactic(auto, using(crate::proofs::LentShown::dummy_opened, crate::proofs::LentShown::chosen_if, crate::proofs::LentShown::refused, crate::proofs::LentShown::no_table))]
+fn open_rows<'a, C: Choice>(
     alloc: Global,
     choice: &C,
     plans: &mut KeptPlans,
     tables: &TableMaps,
-    glance: Glance<'a>,
-    rows: RowsEvent<'a>,
+    glance: &Glance<'_>,
+    rows: &RowsEvent<'_>,
     rows_data: &'a [u8],
-) -> Result<LentEvent<'a>, FileError>
-    requires { rows_data.now ≡ rows.rows_data }
-    ensures ok { IfOk result (events.RowsShow (C.wanted choice.now) (in_maps tables.now) glance.entry
-        rows.entry) }
-    ensures err { IfErr result (events.RowsFail (C.wanted choice.now) (in_maps tables.now) glance.entry
-        rows.entry) }
+) -> Result<Option<Opened<'a>>, FileError>
+    requires { rows_data.now ≡ rows.now.rows_data }
+    ensures ok { IfOk result (λ o. events.RowsOpen (C.wanted choice.now) (in_maps tables.now)
+        glance.now rows.now (option_map (λ it. arc_value it.table) o)) }
+    ensures reads { IfOk result (λ o. IfSome o (λ it.
+        GivesPairsOf (arc_value it.table) rows.now it.pairs × (it.pairs.left ≡ rows.now.rows_data))) }
+    ensures err { IfErr result (events.RowsFail (C.wanted choice.now) (in_maps tables.now) glance.now
+        rows.now) }
     ensures most { plans.new.stored.most ≡ plans.old.stored.most }
 {
-    if is_dummy(&rows) {
-        return Ok(other(glance));
+    if is_dummy(rows) {
+        return Ok(None);
     }
     let table_id = rows.table_id();
     match tables.shared_tme(table_id) {
-        None => Err(error_at(&glance, EventError::UnknownTable(table_id))),
+        None => Err(error_at(glance, EventError::UnknownTable(table_id))),
         Some(table) => open_if_wanted(alloc, choice, plans, table, glance, rows, rows_data),
     }
 }
 
 // Reads a rows event from its body, and returns it if it is wanted, else the event as it is. It isn't
 // inlined, so that an event of another type, of which there are most, needs no room for what is read here.
+// The rows event, which is large, is moved once: what looks at it before borrows it.
 #[inline(never)]
-#[tactic(auto, using(crate::proofs::LentShown::body_shown, crate::proofs::LentShown::rows_failed, crate::proofs::LentShown::body_failed))]
+#[tactic(auto, using(crate::proofs::LentShown::other_shown, crate::proofs::LentShown::change_shown, crate::proofs::LentShown::rows_failed, crate::proofs::LentShown::body_failed))]
 fn show_body<'a, C: Choice>(
     alloc: Global,
     choice: &C,
@@ -300,7 +307,17 @@ fn show_body<'a, C: Choice>(
     match RowsEvent::read_lent(ctx, &mut ParseBuf(glance.body)) {
         Err(fault) => Err(error_at(&glance, EventError::RowsEvent(fault))),
         Ok((rows, rows_data)) => {
-            show_rows(alloc, choice, plans, tables, glance, rows, rows_data)
+            match open_rows(alloc, choice, plans, tables, &glance, &rows, rows_data) {
+                Err(error) => Err(error),
+                Ok(None) => Ok(other(glance)),
+                Ok(Some(Opened { table, pairs })) => Ok(LentEvent::Rows(LentChange {
+                    origin: glance.origin(),
+                    rows,
+                    table,
+                    pairs,
+                    count: 0,
+                })),
+            }
         }
     }
 }

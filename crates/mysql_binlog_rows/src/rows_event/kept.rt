@@ -153,7 +153,9 @@ impl Planned {
         })
     }
 
-    // Returns whether the plan serves these events.
+    // Returns whether the plan serves these events. It isn't inlined: else what its caller answers where it
+    // doesn't serve would be made ready before each comparison.
+    #[inline(never)]
     fn serves(&self, table: &TableMapEvent<'_>, event: &RowsEvent<'_>) -> bool
         ensures { IsTrue result ↔ Serves self.now table.now event.now }
     {

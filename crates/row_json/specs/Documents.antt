@@ -12,7 +12,8 @@ use Rattle.binlog_values.specs.JsonbTrees.{TreeScalar, null, boolean, int, uint,
 use Rattle.binlog_values.specs.JsonbOpaques.{type_prefix}
 use Rattle.binlog_decimal.specs.DecimalText.{decimal_text}
 use Rattle.binlog_decimal.specs.declared.time.MysqlTime.{MysqlTime}
-use Rattle.binlog_decimal.specs.TimeText.{text_of}
+use Rattle.binlog_decimal.specs.declared.time.MysqlTimestampType.{MysqlTimestampType}
+use Rattle.binlog_decimal.specs.declared.time.MysqlTimestampType.TheVariants as kind
 use Rattle.binlog_values.specs.JsonDiffs.{Diff}
 use Rattle.binlog_values.specs.declared.jsondiff.JsonDiffOperation.{JsonDiffOperation}
 use Rattle.binlog_values.specs.declared.jsondiff.JsonDiffOperation.TheVariants as operation
@@ -22,6 +23,7 @@ use Rattle.json.specs.Json as json
 use Rattle.json.specs.Json.{Json}
 use Rattle.json.specs.Tree.{depth}
 use Rattle.row_json.specs.Floats.{IsFloatJson}
+use Rattle.row_json.specs.Times.{date_text, datetime_text, time_text}
 use Rattle.row_json.specs.Values.{number_or_string}
 use Rattle.row_json.specs.Wrote.{Named, items_of, members_of}
 
@@ -29,9 +31,16 @@ use Rattle.row_json.specs.Wrote.{Named, items_of, members_of}
 abbrev pub opaque_text : ColumnType → List ℕ → List ℕ
 opaque_text type bytes = (type_prefix ++ digits_of (column_number type) ++ 58 ∷ []) ++ encode_of standard bytes
 
--- a date or time, with six decimals where it has a fraction
-abbrev pub time_text : MysqlTime → List ℕ
-time_text t = text_of (if t.second_part == 0 then 0 else 6) t
+-- six decimals where it has a fraction
+abbrev pub decimals_of : MysqlTime → ℕ
+decimals_of t = if t.second_part == 0 then 0 else 6
+
+-- a date or time, as a column has it; a document has no other kind
+abbrev pub moment_text : MysqlTimestampType → MysqlTime → List ℕ
+moment_text kind.MYSQL_TIMESTAMP_DATE t = date_text t.year t.month t.day
+moment_text kind.MYSQL_TIMESTAMP_DATETIME t = datetime_text (decimals_of t) t.year t.month t.day 32 t.hour t.minute t.second t.second_part
+moment_text kind.MYSQL_TIMESTAMP_TIME t = time_text (decimals_of t) t.neg t.hour t.minute t.second t.second_part
+moment_text _ t = []
 
 abbrev pub IsScalarJson : TreeScalar → Json → Type 0
 IsScalarJson null j = j ≡ json.null
@@ -40,7 +49,7 @@ IsScalarJson (int z) j = j ≡ json.number (signed_decimal z)
 IsScalarJson (uint n) j = j ≡ json.number (digits_of n)
 IsScalarJson (double bits) j = IsFloatJson binary64 bits j
 IsScalarJson (decimal d) j = j ≡ number_or_string (decimal_text d)
-IsScalarJson (date_time t) j = j ≡ json.string (time_text t)
+IsScalarJson (date_time t) j = j ≡ json.string (moment_text t.time_type t)
 IsScalarJson (text bytes) j = j ≡ json.string bytes
 IsScalarJson (opaque type bytes) j = j ≡ json.string (opaque_text type bytes)
 

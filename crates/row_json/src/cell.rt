@@ -181,14 +181,14 @@ fn write_plain(
         Value::Double(bits) => write_double(out, *bits),
         Value::Date(year, month, day, hours, minutes, seconds, microseconds) => {
             let date = Day {
-                year: *year,
-                month: *month,
-                day: *day,
+                year: u32::from(*year),
+                month: u32::from(*month),
+                day: u32::from(*day),
             };
             let clock = Clock {
                 hours: u64::from(*hours),
-                minutes: *minutes,
-                seconds: *seconds,
+                minutes: u32::from(*minutes),
+                seconds: u32::from(*seconds),
                 microseconds: *microseconds,
             };
             write_date(out, column.kind(), date, clock)
@@ -196,8 +196,8 @@ fn write_plain(
         Value::Time(is_negative, days, hours, minutes, seconds, microseconds) => {
             let clock = Clock {
                 hours: u64::from(*days) * 24 + u64::from(*hours),
-                minutes: *minutes,
-                seconds: *seconds,
+                minutes: u32::from(*minutes),
+                seconds: u32::from(*seconds),
                 microseconds: *microseconds,
             };
             write_time(out, column.kind(), *is_negative, clock)

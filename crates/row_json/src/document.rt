@@ -1,7 +1,7 @@
 //! Documents of binary JSON, and their diffs, as JSON.
 #![tactic(auto, using(crate::proofs::Steps::stays))]
 
-ghost use Rattle.std.specs.Prelude.{◌≡◌, ◌≢◌, true, false, List, OnOk, IfOk, IfErr, ◌++◌};
+ghost use Rattle.std.specs.Prelude.{◌≡◌, ◌≢◌, true, false, List, [], OnOk, IfOk, IfErr, ◌++◌};
 ghost use Rattle.std.specs.String.{string_bytes};
 ghost use Rattle.std.specs.List.{flat_map};
 ghost use Rattle.std.specs.Option.{option_map};
@@ -9,6 +9,7 @@ ghost use Rattle.binlog_base.specs.Items.{result_map};
 ghost use Rattle.binlog_values.specs.JsonbElements.{elem_in};
 ghost use Rattle.std.specs.Str.Lossy.{utf8_lossy};
 ghost use Rattle.json.specs.Json.{string as json_string};
+ghost use Rattle.json.specs.Tree.{json_tokens};
 ghost use Rattle.binlog_base.specs.declared.fault.Fault.TheVariants as Fault;
 ghost use Rattle.binlog_values.specs.JsonbContainers.{IsScalar};
 ghost use Rattle.binlog_values.specs.JsonbDoms.{number_view, scalar_view, dom_view};
@@ -17,14 +18,15 @@ ghost use Rattle.binlog_values.specs.JsonbViews.{view_of};
 ghost use Rattle.row_json.specs.Faults.{HasNone, IsFaultOf, IsFaultOfValue, IsFaultOfDiffs};
 ghost use Rattle.row_json.specs.Wrote.{Wrote, Adds, Named, named_tokens, AddsSome};
 ghost use Rattle.row_json.specs.Workings.Walked.{OfValue, OfElement, OfEntries, OfKey, OfIndexed, Indexes, AreIndexed, WroteTree, WroteItems, WroteIndexed, IsMemory};
-ghost use Rattle.row_json.specs.Documents.{time_text, IsScalarJson, IsDocumentJson, operation_name, place_tokens, IsDiffValue, IsDiffJson, IsDiffsJson};
+ghost use Rattle.row_json.specs.Documents.{decimals_of, moment_text, IsScalarJson, IsDocumentJson, operation_name, place_tokens, IsDiffValue, IsDiffJson, IsDiffsJson};
 
 use crate::float::write_double;
 use crate::text::write_number_or_string;
+use crate::time::{Clock, Day, TimeText};
 use binlog_base::fault::Fault;
 use binlog_values::jsonb::{JsonDom, JsonNumber, JsonScalar, JsonbString, ObjectKey, Value};
 use binlog_values::jsondiff::{JsonDiff, JsonDiffOperation};
-use binlog_values::time::MysqlTime;
+use binlog_values::time::{MysqlTime, MysqlTimestampType};
 use json::Writer;
 use mysql_binlog_rows::value::{LentDiffs, LentJson};
 use std::alloc::{AllocError, Global};
@@ -49,15 +51,50 @@ fn write_number(text: &mut String, out: &mut Writer, number: &JsonNumber) -> Res
     }
 }
 
-// Appends a date or time, with six decimals if it has a fraction.
-fn push_time(text: &mut String, time: &MysqlTime) -> Result<(), AllocError>
-    ensures { OnOk result (string_bytes text.new ≡ string_bytes text.old ++ time_text time.now) }
+// Returns how many decimals a time has: six if it has a fraction, else none.
+fn decimals_of(time: &MysqlTime) -> u8
+    ensures { result ≡ decimals_of time.now }
 {
-    if time.second_part == 0 {
-        time.write_text(0, text)
-    } else {
-        time.write_text(6, text)
+    if time.second_part == 0 { 0 } else { 6 }
+}
+
+// Makes the text of a date or time.
+fn push_moment(text: &mut TimeText, time: &MysqlTime)
+    requires { text.old ≡ [] }
+    ensures { text.new ≡ moment_text time.now.time_type time.now }
+{
+    let day = Day {
+        year: time.year,
+        month: time.month,
+        day: time.day,
+    };
+    let clock = Clock {
+        hours: u64::from(time.hour),
+        minutes: time.minute,
+        seconds: time.second,
+        microseconds: time.second_part,
+    };
+    let decimals = decimals_of(time);
+    match time.time_type {
+        MysqlTimestampType::MYSQL_TIMESTAMP_DATE => text.push_date(day),
+        MysqlTimestampType::MYSQL_TIMESTAMP_DATETIME => {
+            text.push_datetime(decimals, day, b' ', clock);
+        }
+        MysqlTimestampType::MYSQL_TIMESTAMP_TIME => text.push_time(decimals, time.neg, clock),
+        _ => {}
     }
+}
+
+// Writes a date or time. Not inlined, so that other values need no room for its text.
+#[inline(never)]
+fn write_moment(out: &mut Writer, time: &MysqlTime) -> Result<(), AllocError>
+    ensures written { OnOk result (Adds out.old out.new
+        (json_tokens (json_string (moment_text time.now.time_type time.now)))) }
+    ensures stays { AddsSome out.old out.new }
+{
+    let mut text = TimeText::new();
+    push_moment(&mut text, time);
+    out.string(text.as_str())
 }
 
 fn write_scalar(text: &mut String, out: &mut Writer, scalar: &JsonScalar) -> Result<(), AllocError>
@@ -69,11 +106,7 @@ fn write_scalar(text: &mut String, out: &mut Writer, scalar: &JsonScalar) -> Res
         JsonScalar::Boolean(value) => out.boolean(*value),
         JsonScalar::Number(number) => write_number(text, out, number),
         JsonScalar::String(string) => out.string(string.as_str()),
-        JsonScalar::DateTime(time) => {
-            text.clear();
-            push_time(text, time)?;
-            out.string(text.as_str())
-        }
+        JsonScalar::DateTime(time) => write_moment(out, time),
         JsonScalar::Opaque(value) => {
             text.clear();
             value.write_text(text)?;

@@ -22,14 +22,14 @@ fn push_instant(text: &mut TimeText, decimals: u8, seconds: u32, microseconds: u
         unreachable!()
     };
     let day = Day {
-        year,
-        month: date.month,
-        day: date.day,
+        year: u32::from(year),
+        month: u32::from(date.month),
+        day: u32::from(date.day),
     };
     let clock = Clock {
         hours: u64::from(seconds / 3600 % 24),
-        minutes: (seconds / 60 % 60) as u8,
-        seconds: (seconds % 60) as u8,
+        minutes: seconds / 60 % 60,
+        seconds: seconds % 60,
         microseconds,
     };
     text.push_datetime(decimals, day, b'T', clock);

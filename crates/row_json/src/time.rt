@@ -14,17 +14,17 @@ use std::str;
 /// A day of a calendar. It may be one that no calendar has, such as a day 0.
 #[derive(Clone, Copy)]
 pub(crate) struct Day {
-    pub year: u16,
-    pub month: u8,
-    pub day: u8,
+    pub year: u32,
+    pub month: u32,
+    pub day: u32,
 }
 
 /// A time of day, or a span of time.
 #[derive(Clone, Copy)]
 pub(crate) struct Clock {
     pub hours: u64,
-    pub minutes: u8,
-    pub seconds: u8,
+    pub minutes: u32,
+    pub seconds: u32,
     pub microseconds: u32,
 }
 

@@ -198,10 +198,11 @@ const NUMBERS: &[Case] = &[
     (
         b"\x01\0\0\0\0\0\x01\0\x01d\0\x01t\0\x02\x10\x10\x04\0\x08\0\x09\0",
         b"\x01\0\0\0\0\0\x01\0\x02\0\x02\x03\0\xff\xff\xff\xff\xff\xff\xff\xff\x01\x01\x01\x01\
-            \x01\x01\x01\x01\x01\x02\x80\0\0\0\0\0\0\0",
+            \x01\x01\x01\x01\x01\x02\x80\0\0\0\0\0\0\0\x01\x80\0\0\0\0\0\0\0\xff",
         &[
             "{\"@0\":18446744073709551615,\"@1\":{\"base64\":\"AQEBAQEBAQEB\"}}",
             "{\"@0\":9223372036854775808,\"@1\":null}",
+            "{\"@0\":null,\"@1\":{\"base64\":\"gAAAAAAAAAD/\"}}",
         ],
     ),
     // FLOAT and DOUBLE.
@@ -257,11 +258,12 @@ const TIMES: &[Case] = &[
     (
         b"\x01\0\0\0\0\0\x01\0\x01d\0\x01t\0\x01\x0c\0\0",
         b"\x01\0\0\0\0\0\x01\0\x02\0\x01\x01\0e\xb4\xf5\x1c]\x12\0\0\0\0\0\0\0\0\0\0\0\0@\xe7j\
-            \xf7Fp\0\0",
+            \xf7Fp\0\0\x01",
         &[
             "{\"@0\":\"2019-11-27 12:30:45\"}",
             "{\"@0\":\"0000-00-00 00:00:00\"}",
             "{\"@0\":\"12345-01-01 00:00:00\"}",
+            "{\"@0\":null}",
         ],
     ),
     // DATETIME2 of 0, 3 and 6 decimals.
@@ -359,6 +361,16 @@ const NAMES: &[Case] = &[
             "{\"@0\":8,\"@1\":null}",
         ],
     ),
+    // SET of 72 bits, which no server has.
+    (
+        b"\x01\0\0\0\0\0\x01\0\x01d\0\x01t\0\x01\xfe\x02\xf8\x09\0",
+        b"\x01\0\0\0\0\0\x01\0\x02\0\x01\x01\0\x01\0\0\0\0\0\0\0\x80\0\0\0\0\0\0\0\0\0\0\x01",
+        &[
+            "{\"@0\":{\"base64\":\"AQAAAAAAAACA\"}}",
+            "{\"@0\":{\"base64\":\"AAAAAAAAAAAA\"}}",
+            "{\"@0\":null}",
+        ],
+    ),
 ];
 
 /// Tables, rows that are inserted, and what they are as JSON.
@@ -379,11 +391,12 @@ const TEXTS: &[Case] = &[
     (
         b"\x01\0\0\0\0\0\x01\0\x01d\0\x01t\0\x03\xfc\xfe\xff\x04\x02\xfe\x0a\x04\0\x03\x02!\0",
         b"\x01\0\0\0\0\0\x01\0\x02\0\x03\x07\0\x03\0\xe2\x82\xac\x02ab\x01\0\0\0\x07\x04\x04\0\
-            \xf0\x9f\x98\x80\x01\xfe\x01\0\0\0\0\0",
+            \xf0\x9f\x98\x80\x01\xfe\x01\0\0\0\0\0\x07",
         &[
             "{\"@0\":\"\u{20ac}\",\"@1\":\"ab\",\"@2\":{\"base64\":\"Bw==\"}}",
             "{\"@0\":{\"base64\":\"8J+YgA==\"},\"@1\":{\"base64\":\"/g==\"},\"@2\":null}",
             "{\"@0\":null,\"@1\":\"\",\"@2\":{\"base64\":\"\"}}",
+            "{\"@0\":null,\"@1\":null,\"@2\":null}",
         ],
     ),
     // BINARY(3), BINARY(2), and one of 300 bytes, which no server has.
@@ -398,13 +411,15 @@ const TEXTS: &[Case] = &[
             "{\"@0\":null,\"@1\":null,\"@2\":null}",
         ],
     ),
-    // escapes.
+    // escapes; no character set in the metadata, and bytes that aren't UTF-8.
     (
         b"\x01\0\0\0\0\0\x01\0\x01d\0\x01t\0\x01\x0f\x02P\0\0",
-        b"\x01\0\0\0\0\0\x01\0\x02\0\x01\x01\0\x0a\"\\\x08\x0c\x0a\x0d\x09\x1f\0/\0\x02\x7f ",
+        b"\x01\0\0\0\0\0\x01\0\x02\0\x01\x01\0\x0a\"\\\x08\x0c\x0a\x0d\x09\x1f\0/\0\x02\x7f \0\x01\xff\x01",
         &[
             "{\"@0\":\"\\\"\\\\\\b\\f\\n\\r\\t\\u001f\\u0000/\"}",
             "{\"@0\":\"\u{7f} \"}",
+            "{\"@0\":{\"base64\":\"/w==\"}}",
+            "{\"@0\":null}",
         ],
     ),
     // hostile names.
@@ -567,17 +582,18 @@ const DOCUMENTS: &[Case] = &[
             "{\"@0\":\"2019-11-27 12:30:00.250000\"}",
         ],
     ),
-    // A decimal, bytes of BLOB, a DATE and a TIME.
+    // A decimal, bytes of BLOB, a DATE, a TIME, and a DATETIME of a year that no server writes.
     (
         b"\x01\0\0\0\0\0\x01\0\x01d\0\x01t\0\x01\xf5\x01\x04\0",
         b"\x01\0\0\0\0\0\x01\0\x02\0\x01\x01\0\x07\0\0\0\x0f\xf6\x04\x04\x02\x7f\xcd\0\x05\0\0\0\x0f\xfc\
             \x02\xff\xfe\0\x0b\0\0\0\x0f\x0a\x08\0\0\0\0\0\xb6\xa4\x19\0\x0b\0\0\0\x0f\x0b\x08\x20\xa1\x07\
-            \x80\xc7\0\0\0",
+            \x80\xc7\0\0\0\0\x0b\0\0\0\x0f\x0c\x08\0\0\0\x051\x84\x04\x7f",
         &[
             "{\"@0\":-0.50}",
             "{\"@0\":\"base64:type252://4=\"}",
             "{\"@0\":\"2019-11-27\"}",
             "{\"@0\":\"12:30:00.500000\"}",
+            "{\"@0\":\"10005-01-02 03:04:05\"}",
         ],
     ),
     // Objects: their keys in the order of their bytes, of equal keys the last, a key that isn't UTF-8, an

@@ -19,7 +19,7 @@ use Rattle.row_json.specs.Columns.{Column}
 use Rattle.row_json.specs.Floats.{IsFloatJson, IsNumberOf, special_text}
 use Rattle.row_json.specs.Times.{timestamp_in, IsInstantText, IsTimestampText, two_digits, date_text, clock_text, datetime_text, time_text}
 use Rattle.row_json.specs.Values.{text_json, base64_json, padded, string_or, is_whole, number_or_bytes, string_or_number, set_of_bits, name_of, IsTimestampJson, IsTimestampOrText, IsBytesJson, IsIntJson, IsPlainJson, date_by, time_by}
-use Rattle.row_json.specs.Shown.{Shown, shown_instant, shown_timestamp, shown_bytes, shown_int, shown_float, shown_date, shown_time, shown_plain, shown, IsInRange, HasDigits, AreAlike, AreOfOneColumn}
+use Rattle.row_json.specs.Shown.{shown_instant, shown_timestamp, shown_bytes, shown_int, shown_float, shown_date, shown_time, shown_plain, IsInRange, HasDigits, AreAlike}
 use Rattle.row_json.specs.Shown as show
 use Rattle.row_json.proofs.Shown.Clocks.{AreShort, same_dates, same_datetimes, same_times}
 use Rattle.row_json.proofs.Shown.Floats.{same_floats, bits_back}

@@ -23,7 +23,7 @@ use Rattle.row_json.specs.Columns.{Column}
 use Rattle.row_json.specs.Floats.{IsFloatJson, IsNumberOf, special_text}
 use Rattle.row_json.specs.Times.{timestamp_in, IsInstantText, two_digits, date_text, clock_text, datetime_text, time_text}
 use Rattle.row_json.specs.Values.{base64_json, padded, text_json, number_or_bytes, number_json, string_or_number, set_of_bits, set_json, name_of, IsTimestampJson, IsTimestampOrText, IsBytesJson, IsIntJson, IsPlainJson, date_by, time_by}
-use Rattle.row_json.specs.Shown.{Shown, shown_fraction, shown_instant, shown_timestamp, shown_bytes, shown_year, shown_number, name_or_number, shown_enum, shown_set, shown_int, shown_float, shown_date, shown_time, shown_plain, shown, IsInRange, AreAlike, AreOfOneColumn}
+use Rattle.row_json.specs.Shown.{Shown, shown_fraction, shown_instant, shown_timestamp, shown_bytes, shown_number, name_or_number, shown_set, shown_int, shown_float, shown_date, shown_time, shown_plain, shown, AreAlike}
 use Rattle.row_json.specs.Shown as show
 
 -- ---- fractions

@@ -1,4 +1,4 @@
-use Rattle.std.proofs.Common.{◌≡◌, ap, subst, Ok}
+use Rattle.std.proofs.Common.{◌≡◌, subst, Ok}
 use Rattle.std.proofs.lemmas.Result.{err_from_is_err_and}
 use Rattle.binlog_base.specs.declared.fault.Fault.TheVariants.{Memory}
 use Rattle.binlog_values.specs.JsonbValues.{JsonbValue}

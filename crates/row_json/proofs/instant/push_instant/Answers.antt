@@ -21,8 +21,7 @@ returns c =
       civil = subst (λ (z : ℤ). IsCivilDate z d.month d.day) y (d.year_in, d.month_in, d.day_in);
       days = subst (λ (z : ℤ). days_from_civil z d.month d.day ≡ pos (a.seconds / 86400)) y day;
       is = c.push.ensures ∙ ap (λ (l : List ℕ). l ++ codes "Z") (c.push_datetime.ensures.text
-          ∙ (ap (λ (l : List ℕ). l ++ datetime_text a.decimals year d.month d.day 84 c.from-2.result (a.seconds / 60 % 60) (a.seconds % 60) a.microseconds) c.requires
-          ∙ ap (λ (h : ℕ). datetime_text a.decimals year d.month d.day 84 h (a.seconds / 60 % 60) (a.seconds % 60) a.microseconds) c.from-2.ensures));
+          ∙ (λ i. c.requires i ++ datetime_text a.decimals (c.from-2.ensures i) (c.from-3.ensures i) (c.from-4.ensures i) 84 (c.from-5.ensures i) (a.seconds / 60 % 60) (a.seconds % 60) a.microseconds));
     }
 
 pub unreachable-requires-in_default-try_from : goal.unreachable-requires-in_default-try_from

@@ -4,22 +4,23 @@
 # usage: scripts/memory.sh
 #
 # It preloads scripts/refuse.c, which it builds with `cc`, into the test programs and the program that `rt ci` leaves in the folders `out`
-# (`rt test` in crates/tests_tables, crates/tests_values, crates/tests_rows and crates/tests_json, and `rt run` in crates/rows, build them too). A test runs with
-# its request 1, 2, .. refused, until a run makes fewer requests; that run must pass. In each run before it the call that was refused memory
-# must say so: the test ends with its error. The requests that the program makes before it decodes are refused as `fault Memory` too. So no
-# run ends with an answer in place of a refusal.
+# (`rt test` in crates/tests_tables, crates/tests_values, crates/tests_rows, crates/tests_streams and crates/tests_json, and `rt run` in crates/rows,
+# build them too). A test runs with its request 1, 2, .. refused, until a run makes fewer requests; that run must pass. In each run before it
+# the call that was refused memory must say so: the test ends with its error. The requests that the program makes before it decodes are
+# refused as `fault Memory` too. So no run ends with an answer in place of a refusal.
 # The tests whose names begin with `nothing` make no more requests than the test `nothing` of tests_rows, which is empty. Every other run makes
 # more: a test more than that one, and the program more than without words. A decimal that is cut short makes one more, for its packed bytes.
-# A second row that is lent makes none, and no line of JSON after the first.
+# A second row that is lent makes none, of one event and of a file, and no line of JSON after the first.
 # The status is 0 if all of this holds, 1 if it doesn't, and 2 if a program or `cc` isn't there.
 set -eu
 here=$(cd "$(dirname "$0")/.." && pwd)
 tables=$here/crates/tests_tables/out/tests_tables_tests
 values=$here/crates/tests_values/out/tests_values_tests
 rows=$here/crates/tests_rows/out/tests_rows_tests
+streams=$here/crates/tests_streams/out/tests_streams_tests
 json=$here/crates/tests_json/out/tests_json_tests
 program=$here/crates/rows/out/rows
-for file in "$tables" "$values" "$rows" "$json" "$program"; do
+for file in "$tables" "$values" "$rows" "$streams" "$json" "$program"; do
     if [ ! -x "$file" ]; then
         echo "$file is not built: run 'rt ci' first" >&2
         exit 2
@@ -46,12 +47,13 @@ run() {
     [ -n "$requests" ] || fail "${*:2} told no count of its requests: status $status, $(cat "$folder/out" "$folder/err")"
 }
 
-# Whether the run ended as one that was refused memory: a test with the error, the program with the line of the fault and no other.
+# Whether the run ended as one that was refused memory: a test with the error, that of a file with its position, the program with the line of
+# the fault and no other.
 was_refused() {
     if [ "$1" = "$program" ]; then
         [ "$status" -eq 1 ] && [ "$(cat "$folder/out")" = 'fault Memory' ]
     else
-        [ "$status" -eq 101 ] && grep -qxE 'error: (Memory|AllocError|AllocFailed)' "$folder/err"
+        [ "$status" -eq 101 ] && grep -qxE 'error: (Memory|AllocError|AllocFailed|FileError \{ position: [0-9]+, error: Memory \})' "$folder/err"
     fi
 }
 
@@ -73,7 +75,7 @@ count=0
 run 0 "$rows" tests::memory::nothing
 [ "$status" -eq 0 ] || fail "nothing: status $status"
 least=$requests
-for tests in "$tables" "$values" "$rows" "$json"; do
+for tests in "$tables" "$values" "$rows" "$streams" "$json"; do
     "$tests" --list >"$folder/list"
     names=$(sed -n 's/^\(tests::memory::[A-Za-z0-9_]*\): test$/\1/p' "$folder/list")
     [ -n "$names" ] || fail "$tests has no tests of the module memory"
@@ -96,6 +98,10 @@ run 0 "$rows" tests::memory::lent_row
 made=$requests
 run 0 "$rows" tests::memory::two_lent_rows
 [ "$status" -eq 0 ] && [ "$requests" -eq "$made" ] || fail "a second lent row: status $status, $((requests - made)) requests"
+run 0 "$streams" tests::memory::lent_pair
+made=$requests
+run 0 "$streams" tests::memory::two_lent_pairs
+[ "$status" -eq 0 ] && [ "$requests" -eq "$made" ] || fail "a second lent row of a file: status $status, $((requests - made)) requests"
 run 0 "$json" tests::memory::line
 made=$requests
 run 0 "$json" tests::memory::three_lines

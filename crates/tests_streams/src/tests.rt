@@ -4,6 +4,7 @@
 mod file;
 mod kept;
 mod lent;
+mod memory;
 mod servers;
 mod threads;
 

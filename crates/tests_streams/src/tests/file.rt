@@ -385,7 +385,7 @@ fn a_choice(rt: HostRuntime) -> Result<(), Fail> {
 }
 
 /// How many pairs of rows a file in memory has, where so many bytes are kept at most.
-fn pairs_in_memory(alloc: Global, file: &[u8], most: usize) -> Result<usize, FileError> {
+pub(super) fn pairs_in_memory(alloc: Global, file: &[u8], most: usize) -> Result<usize, FileError> {
     let mut count: usize = 0;
     for change in FileChanges::with_kept_bytes(alloc, file, AllRows, most)? {
         count = count.saturating_add(change?.pairs().len());
@@ -394,7 +394,7 @@ fn pairs_in_memory(alloc: Global, file: &[u8], most: usize) -> Result<usize, Fil
 }
 
 /// How many pairs of rows the same file has over a reader.
-fn pairs_of_source(alloc: Global, file: &[u8], most: usize) -> Result<usize, FileError> {
+pub(super) fn pairs_of_source(alloc: Global, file: &[u8], most: usize) -> Result<usize, FileError> {
     let source = BinlogFile::new(alloc, Counted::new(file))?;
     pairs_left(&mut SourceChanges::with_kept_bytes(alloc, source, AllRows, most))
 }
@@ -558,7 +558,7 @@ fn leads_back(
 }
 
 /// Whether the checkpoint after so many events of a file leads back to the rest of it.
-fn resumed(alloc: Global, file: &[u8], after: usize) -> Result<bool, Fail> {
+pub(super) fn resumed(alloc: Global, file: &[u8], after: usize) -> Result<bool, Fail> {
     let mut reader = EventStreamReader::new(alloc);
     let mut left = file.get(4..).unwrap_or(&[]);
     if !reads(alloc, &mut reader, &mut left, after)? {

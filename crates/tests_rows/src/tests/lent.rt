@@ -217,6 +217,11 @@ const ONE_BY_ONE: &[(&[u8], &[u8], EventType)] = &[
         EventType::PARTIAL_UPDATE_ROWS_EVENT,
     ),
     (
+        partial::TABLE,
+        partial::NO_DIFFS,
+        EventType::PARTIAL_UPDATE_ROWS_EVENT,
+    ),
+    (
         TWO_COLUMNS,
         b"\x01\0\0\0\0\0\x01\0\x02\0\x02\0\x05",
         EventType::WRITE_ROWS_EVENT,

@@ -18,3 +18,6 @@ pub(super) const DIFF: &[u8] =
 
 /// A partial update of the second column, which has the whole document.
 pub(super) const WHOLE: &[u8] = b"\x01\0\0\0\0\0\x01\0\x02\0\x02\0\x02\0\0\x03\0\0\0\x05\x2a\0";
+
+/// A partial update of the second column, which has no diffs.
+pub(super) const NO_DIFFS: &[u8] = b"\x01\0\0\0\0\0\x01\0\x02\0\x02\0\x02\x01\x02\0\0\0\0\0";

@@ -2,19 +2,33 @@
 """Counts the instructions that decoding takes for a cell of each form, in built checkouts.
 
 usage: scripts/cells.py CHECKOUT..
+       scripts/cells.py owned CHECKOUT..
 
-The program is crates/rows/out/rows of each checkout, which `rt run` in crates/rows proves and builds. Decoding is the call of `run` without the
-calls in it of `hex_bytes`, which reads the hexadecimal digits, and of `push_image`, which makes the text of a row: cells are read, and lent. A row of
-one INT cell is read, and rows with one and two more cells of the form. A row is the difference of two events, of 330 and of 30 rows, divided by 300.
-Prints for each form and checkout what the first cell of the form costs, and what the second does. With two checkouts or more the last column is the
-second cell in the last checkout over that in the first.
+Without `owned` the cells are lent. The program is crates/rows/out/rows of each checkout, which `rt run` in crates/rows proves and builds.
+Decoding is the call of `run` without the calls in it of `hex_bytes`, which reads the hexadecimal digits, and of `push_image`, which makes the text
+of a row. That holds from commit 5301de0 on; before it the program owned its cells, and the script counted its calls of `decode_pairs`.
+
+With `owned` each cell has memory of its own. The program is crates/binlog_count/out/binlog_count, which reads a file with the two events. Decoding
+is the call of `collect`, which makes the list of an event's pairs; the memory is given back outside of it. The commit 05c4d77, with which
+docs/PERF.md compares, has no such program; its figures there are of the calls of `decode_pairs`.
+
+A row of one INT cell is read, and rows with one and two more cells of the form. A row is the difference of two events, of 330 and of 30 rows,
+divided by 300. Prints for each form and checkout what the first cell of the form costs, and what the second does. With two checkouts or more the
+last column is the second cell in the last checkout over that in the first.
 """
+import functools
 import subprocess
 import sys
+import tempfile
 from concurrent.futures import ThreadPoolExecutor
 from pathlib import Path
 
+import make_file
+
 LONG = (3, b"", b"\x2a\0\0\0")
+# The server of a file that is read, and the post-header lengths that it writes, from type 1 on.
+MYSQL = b"8.0.36"
+MYSQL_LENS = bytes.fromhex("000d0008000000000400040000006000041a08000000080808020000000a0a0a2a2a001234000a2800")
 
 
 def counted(text, len_bytes):
@@ -118,9 +132,8 @@ def partial_updates(columns, count, is_partial):
     return ["8", "27", "10", "10", table(columns).hex(), rows.hex()]
 
 
-def instructions(program, words):
-    """What decoding takes in a run of the program: the first function is where callgrind begins to count, and it doesn't count in the others."""
-    functions = ["rows::run::run", "hex_bytes", "push_image"]
+def instructions(program, words, functions):
+    """What a run of the program takes: the first function is where callgrind begins to count, and it doesn't count in the others."""
     call = ["--collect-atstart=no", *(f"--toggle-collect=*{function}*" for function in functions)]
     valgrind = ["valgrind", "--tool=callgrind", "--callgrind-out-file=/dev/null", *call]
     answer = subprocess.run([*valgrind, program, *words], capture_output=True, text=True)
@@ -129,14 +142,30 @@ def instructions(program, words):
     return int(answer.stderr.split("Collected : ")[1].split()[0])
 
 
-def row(program, words_of):
+def lent(checkout, words):
+    """What decoding takes with cells that are lent."""
+    return instructions(f"{checkout}/crates/rows/out/rows", words, ["rows::run::run", "hex_bytes", "push_image"])
+
+
+def owned(checkout, words):
+    """What decoding takes with cells that are owned."""
+    _, event_type, *_, table_map, rows = words
+    with tempfile.NamedTemporaryFile() as out:
+        file = make_file.File(out, None, MYSQL, MYSQL_LENS)
+        file.event(0x13, bytes.fromhex(table_map))
+        file.event(int(event_type, 16), bytes.fromhex(rows))
+        out.flush()
+        return instructions(f"{checkout}/crates/binlog_count/out/binlog_count", ["owned", "memory", out.name], ["decode::collect"])
+
+
+def row(decoding, words_of):
     """What a row takes."""
-    return (instructions(program, words_of(330)) - instructions(program, words_of(30))) / 300
+    return (decoding(words_of(330)) - decoding(words_of(30))) / 300
 
 
-def cells(program, words_of):
+def cells(decoding, words_of):
     """What the first and the second cell of a form take."""
-    none, one, two = (row(program, lambda count: words_of(more, count)) for more in (0, 1, 2))
+    none, one, two = (row(decoding, lambda count: words_of(more, count)) for more in (0, 1, 2))
     return one - none, two - one
 
 
@@ -150,12 +179,14 @@ def forms():
 
 
 def main():
-    if len(sys.argv) < 2:
+    is_owned = sys.argv[1:2] == ["owned"]
+    checkouts = [Path(word).resolve() for word in sys.argv[1 + is_owned :]]
+    if not checkouts:
         sys.exit(__doc__)
-    programs = [str(Path(word).resolve() / "crates/rows/out/rows") for word in sys.argv[1:]]
-    print(f"{'form':36}" + "".join(f"{'first':>8}{'second':>8}" for _ in programs))
+    ways = [functools.partial(owned if is_owned else lent, checkout) for checkout in checkouts]
+    print(f"{'form':36}" + "".join(f"{'first':>8}{'second':>8}" for _ in ways))
     with ThreadPoolExecutor(2) as pool:
-        jobs = [(name, [pool.submit(cells, program, words_of) for program in programs]) for name, words_of in forms()]
+        jobs = [(name, [pool.submit(cells, decoding, words_of) for decoding in ways]) for name, words_of in forms()]
         for name, answers in jobs:
             figures = [answer.result() for answer in answers]
             ratio = f"{figures[-1][1] / figures[0][1]:8.2f}" if len(figures) > 1 else ""

@@ -167,13 +167,12 @@ def row(key, random, shape):
 
 
 class File:
-    def __init__(self, out, shape):
+    def __init__(self, out, shape, version=VERSION, lens=LENS):
         self.out = out
         self.shape = shape
         self.position = 4
         out.write(b"\xfebin")
-        version = VERSION + bytes(50 - len(VERSION))
-        self.event(15, struct.pack("<H", 4) + version + struct.pack("<IB", TIME, 19) + LENS + b"\1")
+        self.event(15, struct.pack("<H", 4) + version.ljust(50, b"\0") + struct.pack("<IB", TIME, 19) + lens + b"\1")
 
     def event(self, event_type, body, flags=0):
         size = 19 + len(body) + 4

@@ -7,11 +7,11 @@ Input N of a seed is always the same, whatever COUNT is; FIRST is the first N, 0
 Some inputs are intact, and must end with status 0 and all their pairs. The others are damaged: cut, with flipped bits, with other counts and
 lengths, or with bytes that were taken out or put in.
 
-Of every input it checks: the status is 0, 1 or 2, and no signal ended the program; it took at most 2 seconds and 256 MiB; every line has a
-form of docs/PROGRAM.md; there is at most one fault line, the last, exactly with status 1, and it isn't `Memory`; there are at most as many
-lines of pairs as the rows data has bytes, so with the fault at most one line more. Where the rows event is cut before its rows data, this has
-no bytes. The script prints each input that breaks one of these, and then how many inputs ended with each status; its own status is 1 where
-one broke, and 2 where there is no program. Build the program with `rt run` in crates/rows first.
+Of every input it checks: the status is 0, 1 or 2, and no signal ended the program; it took at most 2 seconds and 256 MiB, with the memory of
+Python, which starts it; every line has a form of docs/PROGRAM.md; there is at most one fault line, the last, exactly with status 1, and it isn't
+`Memory`; there are at most as many lines of pairs as the rows data has bytes, so with the fault at most one line more. Where the rows event is cut
+before its rows data, this has no bytes. The script prints each input that breaks one of these, and then how many inputs ended with each status; its
+own status is 1 where one broke, and 2 where there is no program. Build the program with `rt run` in crates/rows first.
 """
 import os
 import random

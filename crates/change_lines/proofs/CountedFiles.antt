@@ -18,18 +18,20 @@ use Rattle.change_lines.specs.declared.error.Failure.{Failure}
 use Rattle.change_lines.specs.declared.error.Failure.TheVariants as failure
 use Rattle.changed_rows.specs.declared.filter.Operation.{Operation}
 use Rattle.changed_rows.specs.declared.filter.Filter.{Filter}
+use Rattle.changed_rows.specs.declared.filter.Positions.{Positions}
 use Rattle.change_lines.specs.declared.run.Settings.{Settings}
 use Rattle.changed_rows.specs.declared.count.Counts.{Counts}
 use Rattle.changed_rows.specs.Names.{is_before, up_to_most}
-use Rattle.changed_rows.specs.Filters.{operation_of, wanted_by}
+use Rattle.changed_rows.specs.Filters.{operation_of, wanted_by, start_after, IsUpTo}
 use Rattle.changed_rows.specs.Counted.{Name, Counted, AreCounts, CountsMore}
 use Rattle.change_lines.specs.CountedFiles.{counted_by, counted_in, AreEventRows, AreFirstEventRows, AreCounted, AreCountedToEnd, AreNextCounted, AreFirstCounted, CountsThese}
 use Rattle.change_lines.specs.Readings.{seen_types, Passes, SourceNext}
 use Rattle.change_lines.specs.Rows.{BeginsWith}
 use Rattle.change_lines.specs.Lines.{IsEnd}
-use Rattle.change_lines.specs.Failures.{IsOutput, IsNotOfFile, EndsAtRow}
-use Rattle.change_lines.proofs.Failures.{output_not_file, not_at_row, not_at_event, not_late, in_time_of}
-use Rattle.change_lines.proofs.Whole.{is_end_at, still_before}
+use Rattle.change_lines.specs.Failures.{IsOutput, IsNotOfFile, EndsAtRow, MissesNone, IsMissing}
+use Rattle.change_lines.proofs.Failures.{output_not_file, not_at_row, not_at_event, not_late, in_time_of, output_misses_none, nothing_missing}
+use Rattle.change_lines.proofs.Whole.{is_end_at, still_before, stays_at}
+use Rattle.change_lines.proofs.Begun.{IsUnseen, Missed, past_position, unseen_next, early_next, missing_ended}
 
 -- ---- counts
 
@@ -78,9 +80,17 @@ passed_counted : (wanted : Wanted) (from : Spot) (es : List Event) (xs : List Co
 passed_counted wanted from es xs mid true new counted same = (es, subst (λ (s : Spot). AreCounted wanted from es xs s) (sym same) counted)
 passed_counted wanted from es xs mid false new counted passes = over_counted wanted from es xs mid passes.0 new counted passes.1
 
+-- none is added where each is looked at
+passed_same : (wanted : Wanted) (from : Spot) (es : List Event) (xs : List Counted) (mid : Spot) (is_each : Bool) (new : Spot) (counted : AreCounted wanted from es xs mid) (passes : Passes is_each mid new)
+    → is_each ≡ true → (passed_counted wanted from es xs mid is_each new counted passes).0 ≡ es
+unfolding passed_counted
+passed_same wanted from es xs mid true new counted same each = refl
+passed_same wanted from es xs mid false new counted passes each = absurd cc
+
 -- The rows that were counted so far: those of the events from a spot on up to the place of a reading, which
--- finds these bytes.
-pub record CountedSoFar (wanted : Wanted) (from : Spot) (old : Counts) (source : Option (List ℕ)) (r : Reading) (pending : Option FileError) (new : Counts) : Type 0 where
+-- finds these bytes. None of them began at the start position, while an event is looked for there, or after it,
+-- nor at the stop position or after it.
+pub record CountedSoFar (wanted : Wanted) (from : Spot) (old : Counts) (source : Option (List ℕ)) (r : Reading) (pending : Option FileError) (new : Counts) (positions : Positions) (sought : Option ℕ) : Type 0 where
   pub goes_on : pending ≡ None
   pub bytes : List ℕ
   pub finds : Finds r source bytes
@@ -88,24 +98,35 @@ pub record CountedSoFar (wanted : Wanted) (from : Spot) (old : Counts) (source :
   pub rows : List Counted
   pub counted : AreCounted wanted from events rows (spot_at r.kept None bytes)
   pub more : CountsMore rows old new
+  pub unseen : IsUnseen sought events
+  pub early : IsUnseen positions.stop events
 
-module _ (wanted : Wanted) (from : Spot) (a b : Counts) (old : Option (List ℕ)) (r : Reading) (p : Option FileError) (h : CountedSoFar wanted from a old r p b) where
+module _ (wanted : Wanted) (from : Spot) (a b : Counts) (old : Option (List ℕ)) (r : Reading) (p : Option FileError) (positions : Positions) (sought : Option ℕ) (h : CountedSoFar wanted from a old r p b positions sought) where
   -- the events that were read and then those that were passed over
   passed : (is_each : Bool) (at : Spot) → Passes is_each (spot_at r.kept p h.bytes) at → (ds : List Event) × AreCounted wanted from ds h.rows at
   passed is_each at passes = passed_counted wanted from h.events h.rows (spot_at r.kept None h.bytes) is_each at h.counted (subst (λ (o : Option FileError). Passes is_each (spot_at r.kept o h.bytes) at) h.goes_on passes)
+
+  passed_are : (is_each : Bool) (at : Spot) (passes : Passes is_each (spot_at r.kept p h.bytes) at) → is_each ≡ true → (passed is_each at passes).0 ≡ h.events
+  unfolding passed
+  passed_are is_each at passes each = passed_same wanted from h.events h.rows (spot_at r.kept None h.bytes) is_each at h.counted (subst (λ (o : Option FileError). Passes is_each (spot_at r.kept o h.bytes) at) h.goes_on passes) each
 
   -- where events are passed over there is no stop position
   in_time : (is_each : Bool) (at : Spot) → Passes is_each (spot_at r.kept p h.bytes) at → (stop : Option ℕ) → is_before stop r.kept.at ≡ true → (is_each ≡ false → stop ≡ None) → is_before stop at.place.at ≡ true
   in_time is_each at passes stop early whole = still_before is_each stop (spot_at r.kept p h.bytes) at passes early whole
 
   -- one event more was read and counted
-  pub count_step : (is_each : Bool) (x : LentEvent) (source : Option (List ℕ)) (s : Reading) (q : Option FileError) (d : Counts) → SourceNext wanted is_each old r p (Some (Ok x)) source s q → CountsThese (AreEventRows x) b d → CountedSoFar wanted from a source s q d
-  count_step is_each x source s q d gives counts =
+  pub count_step : (is_each : Bool) (x : LentEvent) (source : Option (List ℕ)) (s : Reading) (q : Option FileError) (d : Counts) → SourceNext wanted is_each old r p (Some (Ok x)) source s q → CountsThese (AreEventRows x) b d
+      → (is_each ≡ false → sought ≡ None) → (is_each ≡ false → positions.stop ≡ None) → is_before positions.stop r.kept.at ≡ true → IsUpTo sought r.kept.at → (next : Option ℕ) → next ≡ start_after sought r.kept.at
+      → CountedSoFar wanted from a source s q d positions next
+  count_step is_each x source s q d gives counts free whole early up_to next goes =
       let m = gives h.bytes h.finds in
       let before = passed is_each m.2 m.3 in
       let e : Event = m.4.0 in
       let ended : q ≡ None = m.4.1.goes_on in
-      let past = subst (λ (o : Option FileError). GoesPast m.2 e (spot_at s.kept o m.0)) ended m.4.1 in record {
+      let past = subst (λ (o : Option FileError). GoesPast m.2 e (spot_at s.kept o m.0)) ended m.4.1 in
+      let there = stays_at is_each (spot_at r.kept None h.bytes) m.2 (subst (λ (o : Option FileError). Passes is_each (spot_at r.kept o h.bytes) m.2) h.goes_on m.3) in
+      let here = past_position m.2 (spot_at s.kept None m.0) e past in
+      let same = passed_are is_each m.2 m.3 in record {
         goes_on = ended;
         bytes = m.0;
         finds = m.1;
@@ -113,6 +134,8 @@ module _ (wanted : Wanted) (from : Spot) (a b : Counts) (old : Option (List ℕ)
         rows = h.rows ++ counts.0;
         counted = event_counted wanted from before.0 h.rows m.2 e (spot_at s.kept None m.0) x counts.0 before.1 past m.4.2 counts.1;
         more = counts_more h.rows counts.0 a b d h.more counts.2;
+        unseen = subst (λ (o : Option ℕ). IsUnseen o (before.0 ++ e ∷ [])) (sym goes) (unseen_next sought r.kept.at m.2.place.at h.events before.0 e is_each h.unseen up_to free there same here);
+        early = early_next positions.stop r.kept.at m.2.place.at h.events before.0 e is_each h.early whole there same here early;
       }
 
   -- no event is left
@@ -134,27 +157,36 @@ module _ (wanted : Wanted) (from : Spot) (a b : Counts) (old : Option (List ℕ)
       ]
 
   -- nothing more was read
-  pub count_failed : (why : Failure) (stop : Option ℕ) → IsNotOfFile why → CountsThese (AreFirstCounted why stop wanted from) a b
-  count_failed why stop not =
+  pub count_failed : (why : Failure) → IsNotOfFile why → IsMissing why h.events (spot_at r.kept None h.bytes) → CountsThese (AreFirstCounted why positions.stop wanted from) a b
+  count_failed why not missing =
       let at = spot_at r.kept None h.bytes in
-      (h.rows, record { events = h.events; front = h.rows; at = at; rows = []; counted = h.counted; next = inl (refl, not_at_event why wanted at not); in_time = not_late why stop at not; whole = sym (append-nil h.rows) }, h.more)
+      (h.rows, record { events = h.events; front = h.rows; at = at; rows = []; counted = h.counted; next = inl (refl, not_at_event why wanted at not); in_time = not_late why positions.stop at not; missing = missing; whole = sym (append-nil h.rows) }, h.more)
+
+  -- no event is left, and none begins at a position
+  pub count_missing : (is_each : Bool) (source : Option (List ℕ)) (s : Reading) (q : Option FileError) → SourceNext wanted is_each old r p None source s q → (is_each ≡ false → sought ≡ None) → (is_each ≡ false → positions.stop ≡ None)
+      → (why : Failure) → IsNotOfFile why → Missed why sought positions.stop r.kept.at → CountsThese (AreFirstCounted why positions.stop wanted from) a b
+  count_missing is_each source s q gives free whole why not missed =
+      let m = gives h.bytes h.finds in
+      let before = passed is_each m.2 m.3 in
+      let missing = missing_ended why positions.stop sought r.kept.at h.events before.0 m.2 is_each h.unseen h.early free whole (passed_are is_each m.2 m.3) m.4.1 missed in
+      (h.rows, record { events = before.0; front = h.rows; at = m.2; rows = []; counted = before.1; next = inl (refl, not_at_event why wanted m.2 not); in_time = not_late why positions.stop m.2 not; missing = missing; whole = sym (append-nil h.rows) }, h.more)
 
   -- the next event can't be read
   pub count_error : (is_each : Bool) (e : FileError) (source : Option (List ℕ)) (s : Reading) (q : Option FileError) → SourceNext wanted is_each old r p (Some (Err e)) source s q
-      → (stop : Option ℕ) → is_before stop r.kept.at ≡ true → (is_each ≡ false → stop ≡ None) → CountsThese (AreFirstCounted (failure.File e) stop wanted from) a b
-  count_error is_each e source s q gives stop early whole =
+      → is_before positions.stop r.kept.at ≡ true → (is_each ≡ false → positions.stop ≡ None) → CountsThese (AreFirstCounted (failure.File e) positions.stop wanted from) a b
+  count_error is_each e source s q gives early whole =
       let m = gives h.bytes h.finds in
       let before = passed is_each m.2 m.3 in
-      (h.rows, record { events = before.0; front = h.rows; at = m.2; rows = []; counted = before.1; next = inl (refl, m.4.1); in_time = in_time is_each m.2 m.3 stop early whole; whole = sym (append-nil h.rows) }, h.more)
+      (h.rows, record { events = before.0; front = h.rows; at = m.2; rows = []; counted = before.1; next = inl (refl, m.4.1); in_time = in_time is_each m.2 m.3 positions.stop early whole; missing = tt; whole = sym (append-nil h.rows) }, h.more)
 
   -- some first rows of the next event were counted
   pub count_first : (is_each : Bool) (x : LentEvent) (source : Option (List ℕ)) (s : Reading) (q : Option FileError) (d : Counts) (why : Failure) → SourceNext wanted is_each old r p (Some (Ok x)) source s q → CountsThese (AreFirstEventRows why x) b d
-      → (stop : Option ℕ) → is_before stop r.kept.at ≡ true → (is_each ≡ false → stop ≡ None) → CountsThese (AreFirstCounted why stop wanted from) a d
-  count_first is_each x source s q d why gives counts stop early whole =
+      → MissesNone why → is_before positions.stop r.kept.at ≡ true → (is_each ≡ false → positions.stop ≡ None) → CountsThese (AreFirstCounted why positions.stop wanted from) a d
+  count_first is_each x source s q d why gives counts none early whole =
       let m = gives h.bytes h.finds in
       let before = passed is_each m.2 m.3 in (
         h.rows ++ counts.0,
-        record { events = before.0; front = h.rows; at = m.2; rows = counts.0; counted = before.1; next = inr (m.4.0, spot_at s.kept q m.0, m.4.1, x, m.4.2, counts.1); in_time = in_time_of why stop m.2 (in_time is_each m.2 m.3 stop early whole); whole = refl },
+        record { events = before.0; front = h.rows; at = m.2; rows = counts.0; counted = before.1; next = inr (none, m.4.0, spot_at s.kept q m.0, m.4.1, x, m.4.2, counts.1); in_time = in_time_of why positions.stop m.2 (in_time is_each m.2 m.3 positions.stop early whole); missing = nothing_missing why before.0 m.2 none; whole = refl },
         counts_more h.rows counts.0 a b d h.more counts.2,
       )
 
@@ -167,17 +199,17 @@ event_but_output why g (lent.Rows c) xs is (inr h) = inr (h.0, h.1, h.2, h.3, no
 
 next_but_output : (why g : Failure) (wanted : Wanted) (at : Spot) (xs : List Counted) → IsOutput g → AreNextCounted why wanted at xs → AreNextCounted g wanted at xs
 next_but_output why g wanted at xs is (inl h) = inl (h.0, not_at_event g wanted at (output_not_file g is))
-next_but_output why g wanted at xs is (inr h) = inr (h.0, h.1, h.2, h.3, h.4, event_but_output why g h.3 xs is h.5)
+next_but_output why g wanted at xs is (inr h) = inr (output_misses_none g is, h.1, h.2, h.3, h.4, h.5, event_but_output why g h.4 xs is h.6)
 
 but_output : (why g : Failure) (stop : Option ℕ) (wanted : Wanted) (from : Spot) (xs : List Counted) → IsOutput g → AreFirstCounted why stop wanted from xs → AreFirstCounted g stop wanted from xs
-but_output why g stop wanted from xs is h = record { events = h.events; front = h.front; at = h.at; rows = h.rows; counted = h.counted; next = next_but_output why g wanted h.at h.rows is h.next; in_time = not_late g stop h.at (output_not_file g is); whole = h.whole }
+but_output why g stop wanted from xs is h = record { events = h.events; front = h.front; at = h.at; rows = h.rows; counted = h.counted; next = next_but_output why g wanted h.at h.rows is h.next; in_time = not_late g stop h.at (output_not_file g is); missing = nothing_missing g h.events h.at (output_misses_none g is); whole = h.whole }
 
 -- what was counted up to a failure: that of the reading, or of the output
 pub counted_of : (r : Result (Unit {0}) Failure) (g : Failure) (stop : Option ℕ) (wanted : Wanted) (from : Spot) (a b : Counts)
     → OnOk r (CountsThese (AreCountedToEnd stop wanted from) a b) → IfErr r (λ why. CountsThese (AreFirstCounted why stop wanted from) a b) → IsOutput g ⊎ (r ≡ Err g) → CountsThese (AreFirstCounted g stop wanted from) a b
 counted_of (Ok u) g stop wanted from a b all first (inl is) = (
   all.0,
-  record { events = all.1.events; front = all.0; at = all.1.end; rows = []; counted = all.1.counted; next = inl (refl, not_at_event g wanted all.1.end (output_not_file g is)); in_time = not_late g stop all.1.end (output_not_file g is); whole = sym (append-nil all.0) },
+  record { events = all.1.events; front = all.0; at = all.1.end; rows = []; counted = all.1.counted; next = inl (refl, not_at_event g wanted all.1.end (output_not_file g is)); in_time = not_late g stop all.1.end (output_not_file g is); missing = nothing_missing g all.1.events all.1.end (output_misses_none g is); whole = sym (append-nil all.0) },
   all.2,
 )
 counted_of (Ok u) g stop wanted from a b all first (inr same) = absurd cc

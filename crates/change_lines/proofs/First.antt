@@ -11,7 +11,7 @@ use Rattle.binlog_events.specs.declared.error.FileError.{FileError}
 use Rattle.binlog_events.specs.declared.origin.Origin.{Origin}
 use Rattle.binlog_file.specs.declared.lent_changes.LentEvent.{LentEvent}
 use Rattle.binlog_file.specs.declared.lent_changes.LentEvent.TheVariants as lent
-use Rattle.binlog_file.specs.Events.{Event, magic}
+use Rattle.binlog_file.specs.Events.{magic}
 use Rattle.binlog_file.specs.Changes.{Wanted, Spot}
 use Rattle.binlog_file.specs.Stream.{Kept, Reading, first_kept}
 use Rattle.binlog_file.specs.LentChanges.{LentChange, PairGives}

@@ -39,7 +39,7 @@ pub record SoFar (f : Form) (wanted : Wanted) (file : List ℕ) (from : Spot) (g
   pub unseen : IsUnseen sought events
   pub early : IsUnseen positions.stop events
 
-stays_at : (is_each : Bool) (old at : Spot) → Passes is_each old at → is_each ≡ true → at.place.at ≡ old.place.at
+pub stays_at : (is_each : Bool) (old at : Spot) → Passes is_each old at → is_each ≡ true → at.place.at ≡ old.place.at
 stays_at true old at same each = ap (λ (s : Spot). s.place.at) same
 stays_at false old at same each = absurd (let bad = each in cc)
 

@@ -17,7 +17,7 @@ use Rattle.changed_rows.specs.Filters.{operation_of, wanted_by}
 use Rattle.changed_rows.specs.Counted.{Name, Counted, CountsMore}
 use Rattle.change_lines.specs.Rows.{BeginsWith}
 use Rattle.change_lines.specs.Lines.{IsEnd}
-use Rattle.change_lines.specs.Failures.{IsNotOfFile, EndsAtRow, EndsAtEvent, EndsAtHeader, IsInTime}
+use Rattle.change_lines.specs.Failures.{IsNotOfFile, EndsAtRow, EndsAtEvent, EndsAtHeader, IsInTime, MissesNone, IsMissing}
 
 -- ---- the rows of an event
 
@@ -62,14 +62,16 @@ pub record AreCountedToEnd (stop : Option ℕ) (wanted : Wanted) (from : Spot) (
   pub counted : AreCounted wanted from events xs end
   pub is_end : IsEnd stop end
 
--- none, where the event at a spot fails; or the first rows of this event, up to the failure
+-- none, where the event at a spot fails, or no event begins at a position; or the first rows of this event, up
+-- to the failure
 abbrev pub AreNextCounted : Failure → Wanted → Spot → List Counted → Type 0
 AreNextCounted why wanted at xs =
     ((xs ≡ []) × EndsAtEvent why wanted at)
-    ⊎ ((e : Event) × (new : Spot) × GoesPast at e new × (x : LentEvent) × Shows wanted new.in_force.tables (glance_of e) x × AreFirstEventRows why x xs)
+    ⊎ (MissesNone why × (e : Event) × (new : Spot) × GoesPast at e new × (x : LentEvent) × Shows wanted new.in_force.tables (glance_of e) x × AreFirstEventRows why x xs)
 
 -- The rows of some events that are read one after the other from a spot on, and then some first rows of the
--- next one, up to a failure. If that is an error of the file, the next one begins before the stop position.
+-- next one, up to a failure. If that is an error of the file, the next one begins before the stop position. A
+-- position at which no event begins is missing in the file.
 pub record AreFirstCounted (why : Failure) (stop : Option ℕ) (wanted : Wanted) (from : Spot) (xs : List Counted) : Type 0 where
   pub events : List Event
   pub front : List Counted
@@ -78,6 +80,7 @@ pub record AreFirstCounted (why : Failure) (stop : Option ℕ) (wanted : Wanted)
   pub counted : AreCounted wanted from events front at
   pub next : AreNextCounted why wanted at rows
   pub in_time : IsInTime why stop at
+  pub missing : IsMissing why events at
   pub whole : xs ≡ front ++ rows
 
 -- ---- files

@@ -729,6 +729,8 @@ impl<'a> Printer<'a> {
         ensures cause { IfErr result (IsOfRun self.old.settings.now.filter.positions
             O.writes O.flushes) }
         ensures flushed { OnOk result ((mid : O) × (u : Unit {0}) × O.flushes mid (Ok u) out.new) }
+        ensures flushed_first { IfErr result (λ why. IsOutput why ⊎ ((out.new ≡ out.old)
+            ⊎ ((mid : O) × (u : Unit {0}) × O.flushes mid (Ok u) out.new))) }
     {
         let file = BinlogFile::new(self.alloc, Counted::new(reader))?;
         let mut changes = SourceChanges::new(self.alloc, file, self.settings.filter);
@@ -743,7 +745,8 @@ impl<'a> Printer<'a> {
 ///
 /// The run is `Whole` if all was read that was asked for and all lines were written; then it is told what the
 /// file can't show. It is `Closed` if the output failed because whoever read it went away, and nothing is told
-/// of that. Else it has `Failed`, and the error is told after all lines before it.
+/// of that. Else it has `Failed`, and the error is told after all lines before it. Unless the output failed,
+/// it is flushed before that too, if anything of the file was read past its first bytes.
 pub fn run<R: Read + Drop, O: WriteOnce, E: Write + Drop, K: Clock>(
     alloc: Global,
     settings: &Settings<'_>,
@@ -762,6 +765,8 @@ pub fn run<R: Read + Drop, O: WriteOnce, E: Write + Drop, K: Clock>(
         → CountsThese (AreAllCounted settings.now x) counts.old counts.new }
     ensures first { result ≢ Whole → (why : Failure) × EndsBy result why
         × IsOfRun settings.now.filter.positions O.writes O.flushes why
+        × (IsOutput why ⊎ ((out.new ≡ out.old)
+        ⊎ ((mid : O) × (u : Unit {0}) × O.flushes mid (Ok u) out.new)))
         × ((x : List ℕ) → R.remaining reader ≡ Some x → length x < 2 ^ 64
         → (text : List ℕ) × AreFirstLines why settings.now file.now x text
         × AppendsUpTo why (O.contents out.old) (O.contents out.new) text

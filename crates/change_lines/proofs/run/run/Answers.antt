@@ -14,6 +14,7 @@ returns-clause-first g c = λ not.
         | else-eq w ↦ subst (λ (e : Ended). EndsBy e why) (sym w.result-is) c.ended_by-ended.ensures
       ],
       of_error c.print.result why _ c.in-Err.is c.print.ensures.cause,
+      of_error c.print.result why _ c.in-Err.is c.print.ensures.flushed_first,
       λ x known small.
           let h = of_error c.print.result why _ c.in-Err.is c.print.ensures.first c.new-4.ensures c.new.ensures x known small in
           (h.0, h.1, h.2, λ same. of_error c.print.result why _ c.in-Err.is c.print.ensures.first_counts same x known small),

@@ -114,3 +114,9 @@ returns-clause-cause g c =
 
 pub returns-in_err-file-clause-cause : goal.returns-in_err-file-clause-cause
 returns-in_err-file-clause-cause g c = passed_on _ (failure.File c.in_err-file.field-0.0) _ c.from_residual.ensures.1 tt
+
+pub returns-clause-flushed_first : goal.returns-clause-flushed_first
+returns-clause-flushed_first g c = on_error c.finish.result _ _ (λ why is. elim is [ inl failed ↦ inl failed | inr flushed ↦ inr (inr flushed) ]) c.finish.ensures.flushed_first
+
+pub returns-in_err-file-clause-flushed_first : goal.returns-in_err-file-clause-flushed_first
+returns-in_err-file-clause-flushed_first g c = passed_on _ (failure.File c.in_err-file.field-0.0) _ c.from_residual.ensures.1 (inr (inl refl))

@@ -21,7 +21,7 @@ use Rattle.change_lines.proofs.Written.{on_ok, both_ok}
 use Rattle.change_lines.proofs.Whole.{step, ended, stopped}
 use Rattle.change_lines.proofs.Begun.{sought_after, nothing_unseen, Missed, missing_passed, missing_stopped, misses_none}
 use Rattle.change_lines.proofs.Causes.{of_missing, of_passed, of_event}
-use Rattle.change_lines.proofs.CountedFiles.{counts_nothing, count_step, count_ended, count_stopped, count_failed, count_error, count_first}
+use Rattle.change_lines.proofs.CountedFiles.{counts_nothing, count_step, count_ended, count_stopped, count_failed, count_missing, count_error, count_first}
 use Rattle.change_lines.proofs.run.Printer.print_events.Goals as goal
 
 pub loop-bounds-init : goal.loop-bounds-init
@@ -41,7 +41,7 @@ loop-bounds-init g c = (
     unseen = nothing_unseen _;
     early = nothing_unseen _;
   },
-  λ counted none x finds. record { goes_on = none; bytes = x; finds = finds; events = []; rows = []; counted = (refl, refl); more = counts_nothing c.args.counts.now },
+  λ counted none x finds. record { goes_on = none; bytes = x; finds = finds; events = []; rows = []; counted = (refl, refl); more = counts_nothing c.args.counts.now; unseen = nothing_unseen _; early = nothing_unseen _ },
   inl c.of-bounds.ensures.start,
 )
 
@@ -69,7 +69,7 @@ loop-bounds-preserved g c =
       stays.choice ∙ c.next_event.ensures.choice ∙ h.1,
       c.begin.ensures.stop ∙ h.2,
       λ none y finds. step _ _ _ _ _ _ _ _ _ _ _ _ _ _ _ (h.3 none y finds) _ x _ _ _ _ _ _ gives writes c.in_ok-rows.ensures.gtid (λ free. (c.are_given.ensures.0 free).0) (λ free. sym h.2 ∙ (c.are_given.ensures.0 free).1) before (subst (IsUpTo c.loop-bounds.bounds.start) place c.in_ok-begin.ensures.start.0) _ (c.in_ok-begin.ensures.start.1 ∙ ap (start_after c.loop-bounds.bounds.start) place),
-      λ counted none y finds. count_step _ _ _ _ _ _ _ (h.4 counted none y finds) _ x _ _ _ _ gives (c.in_ok-rows.ensures.counts (h.0.form ∙ counted)),
+      λ counted none y finds. count_step _ _ _ _ _ _ _ _ _ (h.4 counted none y finds) _ x _ _ _ _ gives (c.in_ok-rows.ensures.counts (h.0.form ∙ counted)) (λ free. (c.are_given.ensures.0 free).0) (λ free. sym h.2 ∙ (c.are_given.ensures.0 free).1) before (subst (IsUpTo c.loop-bounds.bounds.start) place c.in_ok-begin.ensures.start.0) _ (c.in_ok-begin.ensures.start.1 ∙ ap (start_after c.loop-bounds.bounds.start) place),
       sought_after _ c.loop-bounds.bounds.start _ _ h.5 c.in_ok-begin.ensures.start.1,
     )
 
@@ -108,12 +108,25 @@ returns-then-not-goes_on-clause-counts g c =
     let stopped : c.goes_on.result ≡ false = search rules in
     let past = subst (λ (n : ℕ). is_before c.loop-bounds.bounds.stop n ≡ false) place (sym c.goes_on.ensures ∙ stopped) in
     on_ok c.end.result _ _
-    (λ stops counted none x finds. count_stopped _ _ _ _ _ _ _ (h.4 counted none x finds) c.args.self.now.settings.now.filter.positions.stop (subst (λ (o : Option ℕ). is_before o (reading_in c.loop-bounds.changes.walk).kept.at ≡ false) h.2 past)
+    (λ stops counted none x finds. count_stopped _ _ _ _ _ _ _ _ _ (h.4 counted none x finds) c.args.self.now.settings.now.filter.positions.stop (subst (λ (o : Option ℕ). is_before o (reading_in c.loop-bounds.changes.walk).kept.at ≡ false) h.2 past)
     (elim stops [ inl without ↦ inl (sym h.2 ∙ without) | inr at ↦ inr (sym h.2 ∙ at ∙ ap (λ (n : ℕ). Some n) place) ]))
     c.end.ensures.stop
 
 pub returns-then-not-goes_on-clause-first_counts : goal.returns-then-not-goes_on-clause-first_counts
-returns-then-not-goes_on-clause-first_counts g c = on_error c.end.result _ _ (λ why not counted none x finds. count_failed _ _ _ _ _ _ _ (c.loop-bounds.invariant.4 counted none x finds) why _ not) c.end.ensures.failed
+returns-then-not-goes_on-clause-first_counts g c =
+    let h = c.loop-bounds.invariant in
+    let r = reading_in c.loop-bounds.changes.walk in
+    let positions = c.args.self.now.settings.now.filter.positions in
+    let place = c.position-position.ensures ∙ ap (λ (k : EventStreamReader). (kept_by k.kept).at) c.reader.ensures in
+    let stopped : c.goes_on.result ≡ false = search rules in
+    let past1 = subst (λ (n : ℕ). is_before c.loop-bounds.bounds.stop n ≡ false) place (sym c.goes_on.ensures ∙ stopped) in
+    let past = subst (λ (o : Option ℕ). is_before o r.kept.at ≡ false) h.2 past1 in
+    on_errors c.end.result _ _ _ (λ why not missed counted none x finds.
+    let s = h.4 counted none x finds in
+    let missed1 = subst (λ (n : ℕ). Missed why c.loop-bounds.bounds.start c.loop-bounds.bounds.stop n) place missed in
+    let missed2 = subst (λ (o : Option ℕ). Missed why c.loop-bounds.bounds.start o r.kept.at) h.2 missed1 in
+    count_failed _ _ _ _ _ _ _ _ _ s why not (missing_stopped why positions c.loop-bounds.bounds.start s.events (spot_at r.kept None s.bytes) s.unseen s.early h.5 past missed2))
+    c.end.ensures.failed c.end.ensures.missed
 
 pub returns-in-None-clause-counts : goal.returns-in-None-clause-counts
 returns-in-None-clause-counts g c =
@@ -124,22 +137,40 @@ returns-in-None-clause-counts g c =
     let gives = subst (λ (f : Filter). SourceNext (wanted_by f) is_each (g.S.Source.remaining w.source) (reading_in w.walk) w.walk.pending None (g.S.Source.remaining mid.source) (reading_in mid.walk) mid.walk.pending) h.1 c.in-None.ensures.event in
     let place = c.position-position.ensures ∙ ap (λ (r : EventStreamReader). (kept_by r.kept).at) c.reader.ensures in
     on_ok c.end-in-None.result _ _
-    (λ stops counted none x finds. count_ended _ _ _ _ _ _ _ (h.4 counted none x finds) is_each c.args.self.now.settings.now.filter.positions.stop (g.S.Source.remaining mid.source) (reading_in mid.walk) mid.walk.pending gives
+    (λ stops counted none x finds. count_ended _ _ _ _ _ _ _ _ _ (h.4 counted none x finds) is_each c.args.self.now.settings.now.filter.positions.stop (g.S.Source.remaining mid.source) (reading_in mid.walk) mid.walk.pending gives
     (λ free. sym h.2 ∙ (c.are_given.ensures.0 free).1)
     (elim stops [ inl without ↦ inl (sym h.2 ∙ without) | inr at ↦ inr (sym h.2 ∙ at ∙ ap (λ (n : ℕ). Some n) place) ]))
     c.end-in-None.ensures.stop
 
 pub returns-in-None-clause-first_counts : goal.returns-in-None-clause-first_counts
-returns-in-None-clause-first_counts g c = on_error c.end-in-None.result _ _ (λ why not counted none x finds. count_failed _ _ _ _ _ _ _ (c.loop-bounds.invariant.4 counted none x finds) why _ not) c.end-in-None.ensures.failed
+returns-in-None-clause-first_counts g c =
+    let h = c.loop-bounds.invariant in
+    let w = c.loop-bounds.changes in
+    let mid = c.next_event.new.changes in
+    let is_each = c.are_given.result in
+    let gives = subst (λ (f : Filter). SourceNext (wanted_by f) is_each (g.S.Source.remaining w.source) (reading_in w.walk) w.walk.pending None (g.S.Source.remaining mid.source) (reading_in mid.walk) mid.walk.pending) h.1 c.in-None.ensures.event in
+    let place = c.position-position.ensures ∙ ap (λ (k : EventStreamReader). (kept_by k.kept).at) c.reader.ensures in
+    on_errors c.end-in-None.result _ _ _ (λ why not missed counted none x finds.
+    let missed1 = subst (λ (n : ℕ). Missed why c.loop-bounds.bounds.start c.loop-bounds.bounds.stop n) place missed in
+    let missed2 = subst (λ (o : Option ℕ). Missed why c.loop-bounds.bounds.start o (reading_in w.walk).kept.at) h.2 missed1 in
+    count_missing _ _ _ _ _ _ _ _ _ (h.4 counted none x finds) is_each (g.S.Source.remaining mid.source) (reading_in mid.walk) mid.walk.pending gives
+    (λ free. (c.are_given.ensures.0 free).0) (λ free. sym h.2 ∙ (c.are_given.ensures.0 free).1) why not missed2)
+    c.end-in-None.ensures.failed c.end-in-None.ensures.missed
 
 pub returns-in_err-begin-clause-first_counts : goal.returns-in_err-begin-clause-first_counts
 returns-in_err-begin-clause-first_counts g c =
     let why = c.in_err-begin.field-0.0 in
-    passed_on _ why _ c.from_residual-in_err-begin.ensures.1 (λ counted none x finds. count_failed _ _ _ _ _ _ _ (c.loop-bounds.invariant.4 counted none x finds) why _ c.in_err-begin.ensures.failed)
+    let h = c.loop-bounds.invariant in
+    let r = reading_in c.loop-bounds.changes.walk in
+    let place = c.position-position.ensures ∙ ap (λ (k : EventStreamReader). (kept_by k.kept).at) c.reader.ensures in
+    let later = subst (λ (n : ℕ). (m : ℕ) × (c.loop-bounds.bounds.start ≡ Some m) × (m < n) × (why ≡ failure.NoEvent m)) place c.in_err-begin.ensures.passed in
+    passed_on _ why _ c.from_residual-in_err-begin.ensures.1 (λ counted none x finds.
+    let s = h.4 counted none x finds in
+    count_failed _ _ _ _ _ _ _ _ _ s why c.in_err-begin.ensures.failed (missing_passed why c.loop-bounds.bounds.start s.events (spot_at r.kept None s.bytes) s.unseen later))
 
 pub returns-in_err-see-clause-first_counts : goal.returns-in_err-see-clause-first_counts
 returns-in_err-see-clause-first_counts g c =
-    passed_on _ failure.Memory _ c.from_residual-in_err-see.ensures.1 (λ counted none x finds. count_failed _ _ _ _ _ _ _ (c.loop-bounds.invariant.4 counted none x finds) failure.Memory _ tt)
+    passed_on _ failure.Memory _ c.from_residual-in_err-see.ensures.1 (λ counted none x finds. count_failed _ _ _ _ _ _ _ _ _ (c.loop-bounds.invariant.4 counted none x finds) failure.Memory tt tt)
 
 pub returns-in-None-clause-all : goal.returns-in-None-clause-all
 returns-in-None-clause-all g c =
@@ -230,7 +261,7 @@ returns-in_err-event-in-Some-clause-first_counts g c =
     let on : c.goes_on.result ≡ true = search rules in
     let early = subst (λ (n : ℕ). is_before c.loop-bounds.bounds.stop n ≡ true) place (sym c.goes_on.ensures ∙ on) in
     let before = subst (λ (o : Option ℕ). is_before o (reading_in w.walk).kept.at ≡ true) h.2 early in
-    passed_on _ (failure.File error) _ c.from_residual.ensures.1 (λ counted none x finds. count_error _ _ _ _ _ _ _ (h.4 counted none x finds) _ error (g.S.Source.remaining mid.source) (reading_in mid.walk) mid.walk.pending gives _ before (λ free. sym h.2 ∙ (c.are_given.ensures.0 free).1))
+    passed_on _ (failure.File error) _ c.from_residual.ensures.1 (λ counted none x finds. count_error _ _ _ _ _ _ _ _ _ (h.4 counted none x finds) _ error (g.S.Source.remaining mid.source) (reading_in mid.walk) mid.walk.pending gives before (λ free. sym h.2 ∙ (c.are_given.ensures.0 free).1))
 
 pub returns-in_err-rows-clause-first_counts : goal.returns-in_err-rows-clause-first_counts
 returns-in_err-rows-clause-first_counts g c =
@@ -246,7 +277,7 @@ returns-in_err-rows-clause-first_counts g c =
     let early = subst (λ (n : ℕ). is_before c.loop-bounds.bounds.stop n ≡ true) place (sym c.goes_on.ensures ∙ on) in
     let before = subst (λ (o : Option ℕ). is_before o (reading_in w.walk).kept.at ≡ true) h.2 early in
     passed_on _ why _ c.from_residual-in_err-rows.ensures.1
-    (λ counted none y finds. count_first _ _ _ _ _ _ _ (h.4 counted none y finds) _ x (g.S.Source.remaining mid.source) (reading_in mid.walk) mid.walk.pending _ why gives (c.in_err-rows.ensures.first_counts (h.0.form ∙ counted)) _ before (λ free. sym h.2 ∙ (c.are_given.ensures.0 free).1))
+    (λ counted none y finds. count_first _ _ _ _ _ _ _ _ _ (h.4 counted none y finds) _ x (g.S.Source.remaining mid.source) (reading_in mid.walk) mid.walk.pending _ why gives (c.in_err-rows.ensures.first_counts (h.0.form ∙ counted)) (misses_none g.O.WriteOnce.writes g.O.WriteOnce.flushes why c.in_err-rows.ensures.cause) before (λ free. sym h.2 ∙ (c.are_given.ensures.0 free).1))
 
 -- ---- causes
 

@@ -18,7 +18,8 @@ invariant-loop-bounds g l =
     (g.S.Source.remaining l.changes.source) (reading_in l.changes.walk) l.changes.walk.pending l.self.gtid (g.O.Write.contents l.out) l.self.lines.bytes.items
     l.fn.self.settings.now.filter.positions l.bounds.start)
     × (l.fn.self.settings.now.form ≡ form.Count → l.fn.changes.walk.pending ≡ None → (x : List ℕ) → Finds (reading_in l.fn.changes.walk) (g.S.Source.remaining l.fn.changes.source) x
-    → CountedSoFar (wanted_by l.fn.changes.choice) (spot_at (kept_in l.fn.changes.walk) None x) l.fn.counts (g.S.Source.remaining l.changes.source) (reading_in l.changes.walk) l.changes.walk.pending l.counts)
+    → CountedSoFar (wanted_by l.fn.changes.choice) (spot_at (kept_in l.fn.changes.walk) None x) l.fn.counts (g.S.Source.remaining l.changes.source) (reading_in l.changes.walk) l.changes.walk.pending l.counts
+    l.fn.self.settings.now.filter.positions l.bounds.start)
     × ((l.bounds.start ≡ start_sought l.fn.self.settings.now.filter.positions) ⊎ (l.bounds.start ≡ None))
 
 abbrev pub decreases-loop-bounds : goal.decreases-loop-bounds

@@ -3,10 +3,12 @@
 #
 # usage: scripts/arguments.sh PROGRAM
 #
-# PROGRAM is the built program (crates/changes/out/changes). Each case has the status that is wanted, a text that must be in standard output or
-# standard error, and the words; some have the number of lines of standard output. The file `f` is the one in crates/changes/data, of 34 rows;
-# Python makes the others by scripts/make_file.py. Prints each case that fails, and last 'N passed, M failed'. The status is 0 if all passed, 1 if
-# not, and 2 if there is no program.
+# PROGRAM is the built program (crates/changes/out/changes). Each case has the status that is wanted, a text that must be in standard output, one
+# that must be in standard error, and the words; some have the number of lines of standard output. In place of a text, `-` wants nothing there at
+# all, and an empty word anything. So help and version must come on standard output alone, usage and wrong arguments on standard error alone, rows on
+# standard output, and errors and notes on standard error. The file `f` is the one in crates/changes/data, of 34 rows; Python makes the others by
+# scripts/make_file.py. Prints each case that fails, and last 'N passed, M failed'. The status is 0 if all passed, 1 if not, and 2 if there is no
+# program.
 set -u
 here=$(cd "$(dirname "$0")/.." && pwd)
 program=${1:-}
@@ -23,13 +25,23 @@ size=$(stat -c %s f)
 passed=0
 failed=0
 
-# Takes in what the last command did: its status is in `status`, what it wrote in the files out and err.
+# Whether a file is as it must be: has FILE TEXT
+has() {
+    case $2 in
+    '') ;;
+    -) [ ! -s "$1" ] ;;
+    *) grep -qF -- "$2" "$1" ;;
+    esac
+}
+
+# Takes in what the last command did: its status is in `status`, what it wrote in the files out and err. judge WHAT STATUS OUT ERR
 judge() {
-    local what=$1 wanted=$2 text=$3
-    if [ "$status" -ne "$wanted" ]; then
-        echo "$what: status $status, not $wanted"
-    elif [ -n "$text" ] && ! cat out err | grep -qF -- "$text"; then
-        echo "$what: nowhere '$text'"
+    if [ "$status" -ne "$2" ]; then
+        echo "$1: status $status, not $2"
+    elif ! has out "$3"; then
+        echo "$1: standard output isn't '$3': $(head -c 300 out)"
+    elif ! has err "$4"; then
+        echo "$1: standard error isn't '$4': $(head -c 300 err)"
     else
         passed=$((passed + 1))
         return
@@ -37,13 +49,13 @@ judge() {
     failed=$((failed + 1))
 }
 
-# Runs the program: case_of STATUS TEXT WORD..
+# Runs the program: case_of STATUS OUT ERR WORD..
 case_of() {
-    local wanted=$1 text=$2
-    shift 2
+    local wanted=$1 out=$2 err=$3
+    shift 3
     status=0
     "$program" "$@" >out 2>err </dev/null || status=$?
-    judge "$*" "$wanted" "$text"
+    judge "$*" "$wanted" "$out" "$err"
 }
 
 # Takes in that the case that passed last has failed after all.
@@ -53,90 +65,112 @@ take_back() {
     failed=$((failed + 1))
 }
 
-# The same, and standard output must have so many lines: lines_of STATUS LINES TEXT WORD..
+# The same, and standard output must have so many lines: lines_of STATUS LINES OUT ERR WORD..
 lines_of() {
-    local wanted=$1 lines=$2 text=$3 before=$failed
-    shift 3
-    case_of "$wanted" "$text" "$@"
+    local wanted=$1 lines=$2 out=$3 err=$4 before=$failed
+    shift 4
+    case_of "$wanted" "$out" "$err" "$@"
     if [ "$failed" -eq "$before" ] && [ "$(wc -l <out)" -ne "$lines" ]; then
         take_back "$*: $(wc -l <out) lines, not $lines"
     fi
 }
 
-# The same, and standard error must have so many lines with the text: notes_of LINES TEXT WORD..
+# Standard output must have so many lines, all of a pattern, and standard error nothing: all_of LINES PATTERN WORD..
+all_of() {
+    local lines=$1 pattern=$2 before=$failed
+    shift 2
+    lines_of 0 "$lines" '' - --quiet "$@"
+    if [ "$failed" -eq "$before" ] && grep -qvE -- "$pattern" out; then
+        take_back "$*: $(grep -vE -- "$pattern" out | head -n 1) isn't '$pattern'"
+    fi
+}
+
+# Standard error must have so many lines with the text: notes_of LINES TEXT WORD..
 notes_of() {
     local lines=$1 text=$2 before=$failed
     shift 2
-    case_of 0 '' "$@"
+    case_of 0 '' '' "$@"
     if [ "$failed" -eq "$before" ] && [ "$(grep -cF -- "$text" err)" -ne "$lines" ]; then
         take_back "$*: $(grep -cF -- "$text" err) lines with '$text', not $lines"
     fi
 }
 
-case_of 0 'Usage: changes' --help
-case_of 0 '--start-position' --help
-case_of 0 'changes 0.1.0' --version
-case_of 2 'Usage: changes'
-case_of 2 '--no-such-option' --no-such-option f
-case_of 2 "'x'" --op x f
-case_of 2 '[possible values: c, u, d]' --op c,x f
-case_of 2 "'x'" --start-position x f
-case_of 2 "'-1'" --start-position=-1 f
-case_of 2 '18446744073709551616' --stop-position 18446744073709551616 f
-case_of 2 '--count' --count --text f
-case_of 2 'UTF-8' --database $'\xff' f
-case_of 1 'changes: no/file: ' no/file
-case_of 1 'changes: .: ' .
-lines_of 0 34 '"op":"d"' f
-lines_of 0 12 '"op":"c"' --op c f
-lines_of 0 25 '"op":"u"' --op c,u f
-lines_of 0 25 '"op":"u"' --op c --op u f
-lines_of 0 7 'db_F.pk_auto' --text --table db_F.pk_auto f
-lines_of 0 34 'db_F.pk1' --text --database db_F f
-lines_of 0 34 'db_F.pk_auto' --text --database db_F --table db_F.pk1 f
-lines_of 0 7 'db_F.pk_auto' --text --database d --table db_F.pk_auto f
-case_of 2 'a name of --table is that of a database, a point' --table pk_auto --table db_F.pk_auto f
-lines_of 0 0 '' --database db_f f
-lines_of 0 3 '"pos":6224' --start-position 5982 --op d,c --op u --table db_F.pk_auto f
-lines_of 1 0 'no event begins at 5983' --start-position 5983 f
-case_of 1 'no event begins at 965' --stop-position 965 f
-lines_of 0 0 '' --stop-position 964 f
+case_of 0 'Usage: changes' - --help
+case_of 0 '--start-position' - --help
+case_of 0 'changes 0.1.0' - --version
+case_of 2 - 'Usage: changes'
+case_of 2 - '--no-such-option' --no-such-option f
+case_of 2 - "'x'" --op x f
+case_of 2 - '[possible values: c, u, d]' --op c,x f
+case_of 2 - "'x'" --start-position x f
+case_of 2 - "'-1'" --start-position=-1 f
+case_of 2 - '18446744073709551616' --stop-position 18446744073709551616 f
+case_of 2 - '--count' --count --text f
+case_of 2 - 'UTF-8' --database $'\xff' f
+case_of 1 - 'changes: no/file: ' no/file
+case_of 1 - 'changes: .: ' .
+lines_of 0 34 '"op":"d"' '' f
+lines_of 0 12 '"op":"c"' '' --op c f
+lines_of 0 25 '"op":"u"' '' --op c,u f
+lines_of 0 25 '"op":"u"' '' --op c --op u f
+lines_of 0 7 'db_F.pk_auto' '' --text --table db_F.pk_auto f
+lines_of 0 34 'db_F.pk1' '' --text --database db_F f
+lines_of 0 34 'db_F.pk_auto' '' --text --database db_F --table db_F.pk1 f
+lines_of 0 7 'db_F.pk_auto' '' --text --database d --table db_F.pk_auto f
+case_of 2 - 'a name of --table is that of a database, a point' --table pk_auto --table db_F.pk_auto f
+lines_of 0 0 - - --database db_f f
+lines_of 0 3 '"pos":6224' '' --start-position 5982 --op d,c --op u --table db_F.pk_auto f
+lines_of 1 0 - 'no event begins at 5983' --start-position 5983 f
+lines_of 1 1 '"pos":964' 'no event begins at 965' --stop-position 965 f
+lines_of 0 0 - - --stop-position 964 f
 # An event past the stop position isn't read: in `damaged`, the one that begins at 964 has a wrong byte.
 cp f damaged
 printf '\377' | dd of=damaged bs=1 seek=1000 conv=notrunc status=none
-lines_of 0 0 '' --stop-position 964 damaged
-lines_of 1 0 'changes: damaged at 964: ' damaged
-lines_of 0 0 '' --start-position 964 --stop-position 964 f
-case_of 1 'no event begins at 965' --start-position 965 --stop-position 965 f
-case_of 2 'the start position is after the stop position' --start-position 6224 --stop-position 964 f
-lines_of 0 1 '"pos":6224' --start-position 6224 --stop-position 964 f f
-lines_of 0 34 '"pos":964' --stop-position "$size" f
-case_of 1 "no event begins at $((size + 1))" --stop-position "$((size + 1))" f
-lines_of 0 68 '"pos":964' f f
-lines_of 0 35 '"pos":6224' --start-position 6224 f f
-lines_of 0 34 '"pos":964' --stop-position 964 f f
-lines_of 0 4 '           4            2            1  db_F.pk_auto' --count f
-lines_of 0 4 '          12           13            9  (all)' --count f
-lines_of 0 3 '           0            2            0  (all)' --count --op u --table db_F.pk_auto f
-lines_of 0 4 '          24           26           18  (all)' --count f f
-lines_of 1 0 'changes: no/file: ' no/file f
-lines_of 1 34 'changes: no/file: ' f no/file f
-lines_of 1 2 '           0            0            0  (all)' --count no/file f
+lines_of 0 0 - - --stop-position 964 damaged
+lines_of 1 0 - 'changes: damaged at 964: ' damaged
+lines_of 0 0 - - --start-position 964 --stop-position 964 f
+case_of 1 - 'no event begins at 965' --start-position 965 --stop-position 965 f
+case_of 2 - 'the start position is after the stop position' --start-position 6224 --stop-position 964 f
+lines_of 0 1 '"pos":6224' '' --start-position 6224 --stop-position 964 f f
+lines_of 0 34 '"pos":964' '' --stop-position "$size" f
+lines_of 1 34 '"pos":964' "no event begins at $((size + 1))" --stop-position "$((size + 1))" f
+lines_of 0 68 '"pos":964' '' f f
+lines_of 0 35 '"pos":6224' '' --start-position 6224 f f
+lines_of 0 34 '"pos":964' '' --stop-position 964 f f
+lines_of 0 4 '           4            2            1  db_F.pk_auto' - --count f
+lines_of 0 4 '          12           13            9  (all)' - --count f
+lines_of 0 3 '           0            2            0  (all)' - --count --op u --table db_F.pk_auto f
+lines_of 0 4 '          24           26           18  (all)' - --count f f
+lines_of 1 0 - 'changes: no/file: ' no/file f
+lines_of 1 34 '' 'changes: no/file: ' f no/file f
+lines_of 1 2 '           0            0            0  (all)' 'changes: no/file: ' --count no/file f
+# What is read and what is told don't mix: without notes standard error is empty, and each line is a row.
+all_of 34 '^\{"op":"[cud]","source":\{"file":"f","pos":[0-9]+,"row":[0-9],.*\}$' f
+all_of 34 '^f:[0-9]+ db_F\.pk(1|_auto) .* -> ' --text f
+# Of a path a line has the last part alone; an error has it all.
+mkdir -p sub/inner
+cp f sub/inner/g
+all_of 34 '^\{"op":"[cud]","source":\{"file":"g","pos":[0-9]+,"row":[0-9],' sub/inner/g
+all_of 34 '^\{"op":"[cud]","source":\{"file":"g","pos":' "$folder/sub/../sub/inner/g"
+all_of 34 '^g:[0-9]+ db_F\.pk(1|_auto) ' --text ./sub/inner/g
+all_of 68 '^\{"op":"[cud]","source":\{"file":"[fg]","pos":' f sub/inner/g
+head -c 700 f >sub/inner/cut
+case_of 1 - 'changes: sub/inner/cut at 595: the event is cut: 105 of 184 bytes are there' sub/inner/cut
 notes_of 2 'the server logged no signs' f
 notes_of 2 'the server logged no signs' f f
 notes_of 0 'changes:' --quiet f
 notes_of 0 'changes:' --count f
 
 head -c 700 f >cut
-case_of 1 'changes: cut at 595: the event is cut: 105 of 184 bytes are there' cut
+case_of 1 - 'changes: cut at 595: the event is cut: 105 of 184 bytes are there' cut
 head -c 600 f >cut
-case_of 1 'changes: cut at 595: the event is cut: 5 of the 19 bytes of its header are there' cut
+case_of 1 - 'changes: cut at 595: the event is cut: 5 of the 19 bytes of its header are there' cut
 status=0
 "$program" - <cut >out 2>err || status=$?
-judge 'a cut event of standard input' 1 'changes: - at 595: the event is cut: 14 bytes are missing'
+judge 'a cut event of standard input' 1 - 'changes: - at 595: the event is cut: 14 bytes are missing'
 status=0
 "$program" - <f >out 2>err || status=$?
-judge '- as standard input' 0 '{"op":"c","source":{"file":"-","pos":964,"row":0'
+judge '- as standard input' 0 '{"op":"c","source":{"file":"-","pos":964,"row":0' ''
 
 # An event with a statement begins with the thread, the seconds, the length of the database, an error, and the length of the status variables.
 python3 - "$here/scripts" <<'END' || exit 2
@@ -185,25 +219,25 @@ with open("two_descriptions", "wb") as out:
     for event in second:
         file.event(*event)
 END
-case_of 0 "rows aren't in the file (binlog_format): 4" statements
-case_of 0 'changes: statements: compressed statements, whose rows may not be in the file (log_bin_compress): 2' statements
+case_of 0 - "rows aren't in the file (binlog_format): 4" statements
+case_of 0 - 'changes: statements: compressed statements, whose rows may not be in the file (log_bin_compress): 2' statements
 notes_of 0 'changes:' --quiet statements
-case_of 0 'changes: ends: TRUNCATE statements, which have no rows: 2' ends
-case_of 0 'rows that they roll back are in a file all the same: 3' ends
-case_of 0 'whose rows are here whether they were committed or not: 1' ends
-case_of 0 'changes: ends: incidents, by which the server says that changes are missing: 1' ends
+case_of 0 - 'changes: ends: TRUNCATE statements, which have no rows: 2' ends
+case_of 0 - 'rows that they roll back are in a file all the same: 3' ends
+case_of 0 - 'whose rows are here whether they were committed or not: 1' ends
+case_of 0 - 'changes: ends: incidents, by which the server says that changes are missing: 1' ends
 notes_of 4 'changes:' --count ends
-lines_of 0 0 'changes: no_row: rows events without a row, as of inserts of defaults alone (binlog_row_image): 1' no_row
+lines_of 0 0 - 'changes: no_row: rows events without a row, as of inserts of defaults alone (binlog_row_image): 1' no_row
 notes_of 0 'changes:' --quiet no_row
 notes_of 1 'the server logged no names (binlog_row_metadata): columns are @0, @1, ..' signs
 notes_of 0 'logged as text' --start-position 4 --stop-position 4 statements
-case_of 1 'payload at 256: the transaction is compressed: turn off binlog_transaction_compression' payload
-case_of 1 'compressed at 256: the event is compressed: turn off log_bin_compress' compressed
-case_of 1 'encrypted_events at 256: the events are encrypted: have the server read them' encrypted_events
+case_of 1 - 'payload at 256: the transaction is compressed: turn off binlog_transaction_compression' payload
+case_of 1 - 'compressed at 256: the event is compressed: turn off log_bin_compress' compressed
+case_of 1 - 'encrypted_events at 256: the events are encrypted: have the server read them' encrypted_events
 printf '\xfdbin' >encrypted
-case_of 1 'encrypted at 0: the file is encrypted: have the server read it' encrypted
+case_of 1 - 'encrypted at 0: the file is encrypted: have the server read it' encrypted
 echo text >text
-case_of 1 'text at 0: this isn'"'"'t a binlog file' text
+case_of 1 - 'text at 0: this isn'"'"'t a binlog file' text
 notes_of 1 'shop.items: the server logged no signs' two_descriptions
 notes_of 1 'shop.items1: the server logged no signs' two_descriptions
 
@@ -212,51 +246,45 @@ python3 "$here/scripts/make_file.py" 2000 many single >/dev/null || exit 2
 status=0
 "$program" --progress many 2>err | { sleep 3; cat >out; }
 grep -E '^many [0-9,]+ of [0-9,]+ bytes, [0-9]+ %, [0-9,]+ rows/s$' err >line
-judge 'progress of a file' 0 ''
+judge 'progress of a file' 0 '"op":"c"' ''
 [ -s line ] || take_back "progress of a file: $(cat err)"
 "$program" --progress - <many 2>err | { sleep 3; cat >out; }
 grep -E '^- [0-9,]+ bytes, [0-9,]+ rows/s$' err >line
-judge 'progress of standard input' 0 ''
+judge 'progress of standard input' 0 '"op":"c"' ''
 [ -s line ] || take_back "progress of standard input: $(cat err)"
 mkfifo pipe
 cat many >pipe &
 "$program" --progress pipe 2>err | { sleep 3; cat >out; }
 grep -E '^pipe [0-9,]+ bytes, [0-9,]+ rows/s$' err >line
-judge 'progress of a pipe' 0 ''
+judge 'progress of a pipe' 0 '"op":"c"' ''
 [ -s line ] || take_back "progress of a pipe: $(cat err)"
 "$program" --progress --quiet many 2>err | { sleep 3; cat >out; }
-judge 'quiet progress' 0 ''
-[ ! -s err ] || take_back "quiet progress: $(cat err)"
+judge 'quiet progress' 0 '"op":"c"' -
 
 status=0
 { "$program" --quiet f f f f f f f f f 2>err; echo $? >status; } | head -n 1 >out
 status=$(cat status)
-judge 'a closed pipe' 0 '"row":0'
-if [ -s err ]; then
-    echo "a closed pipe: $(cat err)"
-    failed=$((failed + 1))
-fi
+judge 'a closed pipe' 0 '"row":0' -
 status=0
 "$program" f >/dev/full 2>err || status=$?
-: >out
-judge 'an output that is full' 1 "changes: the output can't be written"
+judge 'an output that is full' 1 '' "changes: the output can't be written"
 
 # Whoever reads the numbers went away, or nothing can be said on standard error: the status is what it would be.
 { sleep 1; "$program" --count no/file 2>err; echo $? >status; } | true
 status=$(cat status)
-judge 'numbers into a closed pipe after an error' 1 'changes: no/file: '
+judge 'numbers into a closed pipe after an error' 1 '' 'changes: no/file: '
 { sleep 1; "$program" --count f 2>err; echo $? >status; } | true
 status=$(cat status)
-judge 'numbers into a closed pipe' 0 ''
+judge 'numbers into a closed pipe' 0 '' -
 status=0
 "$program" no/file >out 2>/dev/full || status=$?
-judge 'an error that cannot be told' 1 ''
+judge 'an error that cannot be told' 1 - ''
 status=0
 "$program" --op x f >out 2>/dev/full || status=$?
-judge 'wrong arguments that cannot be told' 2 ''
+judge 'wrong arguments that cannot be told' 2 - ''
 status=0
 "$program" --database $'\xff' f >out 2>/dev/full || status=$?
-judge 'an argument that is not UTF-8, which cannot be told' 2 ''
+judge 'an argument that is not UTF-8, which cannot be told' 2 - ''
 
 echo "$passed passed, $failed failed"
 [ "$failed" -eq 0 ]

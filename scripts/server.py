@@ -6,9 +6,10 @@ usage: scripts/server.py PROGRAM
 PROGRAM is the built program (crates/changes/out/changes). Debian's mariadb-server has to be installed. A server is started on a socket in a
 temporary folder, once for each row image (FULL and MINIMAL) and each metadata (FULL and MINIMAL). It gets a table with a column of each type;
 rows are inserted, updated and deleted, a transaction is rolled back, and the binary log goes on in a new file in between. The lines that
-`changes` prints of the server's files are replayed, and each cell is compared with what SELECT shows of it: texts and bytes by HEX.
+`changes` prints of the server's files are replayed, and each cell is compared with what SELECT shows of it: texts and bytes by HEX. The server
+doesn't log a virtual column where the row image is MINIMAL: it must be in no line then.
 
-Prints a line for each of the four servers, and ends with status 1 if a cell differs or a row is missing.
+Prints a line for each of the four servers, and last how many cells were compared and differ. The status is 1 if a cell differs or a row is missing.
 """
 import base64
 import json
@@ -37,6 +38,9 @@ COLUMNS = [
     ("day", "DATE", "plain", ["'2026-11-27'", "'1000-01-01'", "NULL", "'9999-12-31'", "'0000-00-00'"]),
     ("moment", "DATETIME(3)", "plain", ["'2026-11-27 12:30:00.123'", "'1000-01-01'", "NULL", "'9999-12-31 23:59:59.999'", "'2026-01-02'"]),
     ("instant", "TIMESTAMP(2) NULL", "instant", ["'2026-11-27 12:30:00.25'", "'1970-01-01 00:00:01'", "NULL", "'2038-01-19 03:14:07'", "0"]),
+    ("moment_0", "DATETIME", "plain", ["'2026-11-27 12:30:59'", "'1000-01-01'", "NULL", "'9999-12-31 23:59:59'", "'0000-00-00'"]),
+    ("instant_0", "TIMESTAMP NULL", "instant", ["'2026-11-27 12:30:59'", "'1970-01-01 00:00:01'", "NULL", "'2038-01-19 03:14:07'", "0"]),
+    ("span_0", "TIME", "plain", ["'-838:59:59'", "'00:00:01'", "NULL", "'838:59:59'", "'-00:00:01'"]),
     ("span", "TIME(6)", "plain", ["'-838:59:59'", "'00:00:00.000001'", "NULL", "'838:59:59'", "'-00:00:01.5'"]),
     ("kind", "ENUM('a','b,c','\u00fc')", "enum", ["'a'", "'b,c'", "NULL", "'\u00fc'", "''"]),
     ("kinds", "SET('x','y','\u00e4')", "enum", ["'x,\u00e4'", "''", "NULL", "'x,y,\u00e4'", "'y'"]),
@@ -53,10 +57,14 @@ COLUMNS = [
     ("words", "TEXT CHARACTER SET utf8mb4", "text", ["REPEAT('\u0436', 1000)", "'x'", "NULL", "''", "'z'"]),
     ("blob_1", "BLOB", "bytes", ["x'00ff'", "REPEAT('x', 70000)", "NULL", "''", "'z'"]),
     ("doc", "JSON", "text", ["'{\"a\": [1, null, \"\u00fc\"]}'", "'1'", "NULL", "'[]'", "'{}'"]),
+    ("blob_0", "TINYBLOB", "bytes", ["x'00ff'", "REPEAT('x', 255)", "NULL", "''", "'z'"]),
+    ("blob_2", "MEDIUMBLOB", "bytes", ["x'00ff'", "REPEAT('x', 70000)", "NULL", "''", "'z'"]),
     ("place", "POINT", "bytes", ["POINT(1, 2)", "POINT(-1, 0.5)", "NULL", "POINT(0, 0)", "POINT(3, 3)"]),
     ("doubled", "INT AS (id * 2) STORED", "number", None),
+    ("tripled", "INT AS (id * 3) VIRTUAL", "number", None),
 ]
 NAMES = [name for name, _, _, _ in COLUMNS]
+VIRTUAL = {name for name, definition, _, _ in COLUMNS if definition.endswith(" VIRTUAL")}
 
 
 def expression(name, kind, has_names):
@@ -166,14 +174,15 @@ def replayed(lines):
 
 
 def compare(program, folder, image, metadata):
-    """Compares the rows of one server. Returns how many cells differ."""
+    """Compares the rows of one server. Returns how many rows and cells there are, and how many differ."""
     server = Server(folder, image, metadata)
     try:
         server.run("CREATE DATABASE d")
         for statement in statements():
             server.run(f"USE d; {statement}")
         has_names = metadata == "FULL"
-        columns = [(name, kind) for name, _, kind, _ in COLUMNS]
+        unlogged = VIRTUAL if image == "MINIMAL" else set()
+        columns = [(name, kind) for name, _, kind, _ in COLUMNS if name not in unlogged]
         select = ", ".join(expression(name, kind, has_names) for name, kind in columns)
         table = server.run(f"USE d; SELECT {select} FROM t ORDER BY id")
         files = sorted(server.data.glob("mysql-bin.0*"))
@@ -189,24 +198,30 @@ def compare(program, folder, image, metadata):
         differ += 1
     for shown_row in table:
         row = rows.get(int(shown_row[0]), {})
+        for name in unlogged & row.keys():
+            print(f"row {shown_row[0]}, {name}: {row[name]} where the server logs nothing")
+            differ += 1
         for (name, kind), expected in zip(columns, shown_row):
             found = shown(kind, row[name], has_names) if name in row else "nothing"
             if found == "nothing" or not same(kind, expected, found):
                 print(f"row {shown_row[0]}, {name}: {found[:60]} where the server shows {expected[:60]}")
                 differ += 1
-    print(f"image {image}, metadata {metadata}: {len(done.stdout.splitlines())} lines of {len(files)} files, {len(table)} rows of {len(columns)} columns, {differ} differ")
-    return differ
+    lines = len(done.stdout.splitlines())
+    print(f"image {image}, metadata {metadata}: {lines} lines of {len(files)} files, {len(table)} rows of {len(columns)} columns, {differ} differ")
+    return len(table), len(table) * len(columns), differ
 
 
 def main():
     """Compares the four servers."""
     if len(sys.argv) != 2:
         raise SystemExit(__doc__)
-    differ = 0
+    results = []
     for image in ("FULL", "MINIMAL"):
         for metadata in ("FULL", "MINIMAL"):
             with tempfile.TemporaryDirectory() as folder:
-                differ += compare(sys.argv[1], Path(folder), image, metadata)
+                results.append(compare(sys.argv[1], Path(folder), image, metadata))
+    rows, cells, differ = map(sum, zip(*results))
+    print(f"{rows} rows, {cells} cells, {differ} differ")
     raise SystemExit(1 if differ else 0)
 
 

@@ -8,4 +8,4 @@ pub mod Sequences
 pub mod Fractions
 pub mod Known
 pub mod Filled
-pub mod Cuts
+pub mod ColumnLists

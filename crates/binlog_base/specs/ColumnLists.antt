@@ -2,6 +2,7 @@
 -- schema's, the table's, and then those of the columns.
 use Rattle.std.specs.Prelude.{◌≤◌, ⊤, ℕ, List, [], ◌∷◌}
 use Rattle.binlog_base.specs.declared.below.columns.column_list.Listed.{Listed}
+use Rattle.binlog_base.specs.ColumnNames.{TableNames}
 use Rattle.binlog_base.specs.Cuts.{cut}
 use Rattle.binlog_base.specs.Values.{ColumnView}
 
@@ -11,15 +12,14 @@ pub record ColumnList : Type 0 where
   pub table : List ℕ
   pub columns : List ColumnView
 
--- a column, by where the names of the schema and of the table end in the text of all names; the
--- table's name is also that of the original table
-abbrev pub listed_column : ℕ → ℕ → List ℕ → Listed → ColumnView
-listed_column schema_end table_end text l = record {
+-- a column, by the names of its table
+abbrev pub listed_column : TableNames → Listed → ColumnView
+listed_column names l = record {
   column_type = l.column_type;
-  schema = cut 0 schema_end text;
-  table = cut schema_end table_end text;
-  org_table = cut schema_end table_end text;
-  name = cut l.start l.end text;
+  schema = names.schema;
+  table = names.table;
+  org_table = names.org_table;
+  name = cut l.start l.end names.text;
   flags = l.flags;
   character_set = l.character_set;
 }

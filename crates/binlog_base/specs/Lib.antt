@@ -17,6 +17,7 @@ pub mod Failures
 pub mod Sources
 pub mod Values
 pub mod Cuts
+pub mod ColumnNames
 pub mod ColumnLists
 pub mod Equality
 pub mod Laws

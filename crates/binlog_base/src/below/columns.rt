@@ -5,9 +5,9 @@ mod column_flags;
 mod column_list;
 mod column_type;
 mod geometry;
+mod names;
 mod row;
 mod server;
-mod shared_bytes;
 mod value;
 
 pub use column::Column;

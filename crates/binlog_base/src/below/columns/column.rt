@@ -5,21 +5,19 @@ ghost use Rattle.binlog_base.specs.Values.{ColumnView, no_flags};
 
 use super::column_flags::ColumnFlags;
 use super::column_type::ColumnType;
-use super::shared_bytes::SharedBytes;
+use super::names::ColumnNames;
 use bitflags::Flags;
 use std::alloc::{AllocError, Global};
+use std::fmt;
 use std::marker::Model;
 
 /// A column of a row: its type, names, flags and character set, as in MySQL's column definitions.
-#[derive(Debug, PartialEq, Eq, Drop)]
+#[derive(PartialEq, Eq, Drop)]
 pub struct Column {
     column_type: ColumnType,
-    schema: SharedBytes,
-    table: SharedBytes,
-    org_table: SharedBytes,
-    name: SharedBytes,
     flags: ColumnFlags,
     character_set: u16,
+    names: ColumnNames,
 }
 
 impl Model for Column {
@@ -29,22 +27,19 @@ impl Model for Column {
 
     ghost view = { λ c. record {
       column_type = c.column_type;
-      schema = c.schema;
-      table = c.table;
-      org_table = c.org_table;
-      name = c.name;
+      schema = c.names.schema;
+      table = c.names.table;
+      org_table = c.names.org_table;
+      name = c.names.name;
       flags = c.flags;
       character_set = c.character_set;
     } };
 
     ghost inverse = { λ c. record {
       column_type = c.column_type;
-      schema = c.schema;
-      table = c.table;
-      org_table = c.org_table;
-      name = c.name;
       flags = c.flags;
       character_set = c.character_set;
+      names = record { schema = c.schema; table = c.table; org_table = c.org_table; name = c.name };
     } };
 }
 
@@ -63,43 +58,34 @@ impl Column {
     {
         Column {
             column_type,
-            schema: SharedBytes::none(),
-            table: SharedBytes::none(),
-            org_table: SharedBytes::none(),
-            name: SharedBytes::none(),
             flags: ColumnFlags::empty(),
             character_set: 0,
+            names: ColumnNames::none(),
         }
     }
 
     // Makes a column of these parts.
     pub(super) fn of_parts(
         column_type: ColumnType,
-        schema: SharedBytes,
-        table: SharedBytes,
-        org_table: SharedBytes,
-        name: SharedBytes,
+        names: ColumnNames,
         flags: ColumnFlags,
         character_set: u16,
     ) -> Self
         ensures { result ≡ record {
           column_type = column_type;
-          schema = schema;
-          table = table;
-          org_table = org_table;
-          name = name;
+          schema = names.schema;
+          table = names.table;
+          org_table = names.org_table;
+          name = names.name;
           flags = flags;
           character_set = character_set;
         } }
     {
         Column {
             column_type,
-            schema,
-            table,
-            org_table,
-            name,
             flags,
             character_set,
+            names,
         }
     }
 
@@ -108,7 +94,8 @@ impl Column {
     pub fn with_schema(mut self, alloc: Global, schema: &[u8]) -> Result<Self, AllocError>
         ensures { IfOk result (λ c. c ≡ record self { schema = schema.now }) }
     {
-        self.schema = SharedBytes::copy(alloc, schema)?;
+        let old = &self.names;
+        self.names = ColumnNames::new(alloc, schema, old.table(), old.org_table(), old.name())?;
         Ok(self)
     }
 
@@ -117,7 +104,8 @@ impl Column {
     pub fn with_table(mut self, alloc: Global, table: &[u8]) -> Result<Self, AllocError>
         ensures { IfOk result (λ c. c ≡ record self { table = table.now }) }
     {
-        self.table = SharedBytes::copy(alloc, table)?;
+        let old = &self.names;
+        self.names = ColumnNames::new(alloc, old.schema(), table, old.org_table(), old.name())?;
         Ok(self)
     }
 
@@ -126,7 +114,8 @@ impl Column {
     pub fn with_org_table(mut self, alloc: Global, org_table: &[u8]) -> Result<Self, AllocError>
         ensures { IfOk result (λ c. c ≡ record self { org_table = org_table.now }) }
     {
-        self.org_table = SharedBytes::copy(alloc, org_table)?;
+        let old = &self.names;
+        self.names = ColumnNames::new(alloc, old.schema(), old.table(), org_table, old.name())?;
         Ok(self)
     }
 
@@ -134,7 +123,8 @@ impl Column {
     pub fn with_name(mut self, alloc: Global, name: &[u8]) -> Result<Self, AllocError>
         ensures { IfOk result (λ c. c ≡ record self { name = name.now }) }
     {
-        self.name = SharedBytes::copy(alloc, name)?;
+        let old = &self.names;
+        self.names = ColumnNames::new(alloc, old.schema(), old.table(), old.org_table(), name)?;
         Ok(self)
     }
 
@@ -165,28 +155,28 @@ impl Column {
     pub fn schema_ref(&self) -> &[u8]
         ensures { result.now ≡ self.now.schema }
     {
-        self.schema.as_bytes()
+        self.names.schema()
     }
 
     /// Returns the bytes of the table's name, which may be an alias.
     pub fn table_ref(&self) -> &[u8]
         ensures { result.now ≡ self.now.table }
     {
-        self.table.as_bytes()
+        self.names.table()
     }
 
     /// Returns the bytes of the original table's name.
     pub fn org_table_ref(&self) -> &[u8]
         ensures { result.now ≡ self.now.org_table }
     {
-        self.org_table.as_bytes()
+        self.names.org_table()
     }
 
     /// Returns the bytes of the column's name.
     pub fn name_ref(&self) -> &[u8]
         ensures { result.now ≡ self.now.name }
     {
-        self.name.as_bytes()
+        self.names.name()
     }
 
     /// Returns the column's flags.
@@ -201,5 +191,19 @@ impl Column {
         ensures { result ≡ self.now.character_set }
     {
         self.character_set
+    }
+}
+
+impl fmt::Debug for Column {
+    fn fmt<W: fmt::Write>(&self, f: &mut fmt::Formatter<W>) -> fmt::Result {
+        f.debug_struct("Column")
+            .field("column_type", &self.column_type)
+            .field("schema", &self.schema_ref())
+            .field("table", &self.table_ref())
+            .field("org_table", &self.org_table_ref())
+            .field("name", &self.name_ref())
+            .field("flags", &self.flags)
+            .field("character_set", &self.character_set)
+            .finish()
     }
 }

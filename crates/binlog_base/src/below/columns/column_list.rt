@@ -1,16 +1,16 @@
 //! The columns of a table, as they are listed one after another.
 
-ghost use Rattle.std.specs.Prelude.{◌≡◌, ◌≤◌, ◌++◌, ◌∷◌, [], length, map, IfOk};
-ghost use Rattle.std.specs.Rc.{rc_slice_items};
+ghost use Rattle.std.specs.Prelude.{◌≡◌, ◌++◌, ◌∷◌, [], length, map, IfOk};
+ghost use Rattle.std.specs.Rc.{rc_value, rc_slice_items};
 ghost use Rattle.binlog_base.specs.ColumnLists.{listed_column, IsInside, AreInside};
 
 use super::column::Column;
 use super::column_flags::ColumnFlags;
 use super::column_type::ColumnType;
-use super::shared_bytes::SharedBytes;
+use super::names::{ColumnNames, TableNames};
 use std::alloc::{AllocError, Global};
 use std::marker::Model;
-use std::rc::RcSlice;
+use std::rc::{Rc, RcSlice};
 
 /// How many bytes are reserved for the name of a column.
 const USUAL_NAME: usize = 12;
@@ -30,52 +30,37 @@ struct Listed {
 /// the names of the schema and of the table, and the columns so far.
 #[derive(Drop)]
 pub struct ColumnList {
-    text: Vec<u8>,
-    schema_end: usize,
-    table_end: usize,
+    names: TableNames,
     columns: Vec<Listed>,
 }
 
 impl Model for ColumnList {
-    ghost use Rattle.std.specs.Prelude.{◌≤◌, length, map};
-    ghost use Rattle.binlog_base.specs.Cuts.{cut};
+    ghost use Rattle.std.specs.Prelude.{◌≡◌, length, map};
     ghost use Rattle.binlog_base.specs.ColumnLists as Spec;
 
     ghost Value = { Spec.ColumnList };
 
     ghost view = { λ l. record {
-      schema = cut 0 l.schema_end l.text.items;
-      table = cut l.schema_end l.table_end l.text.items;
-      columns = map (Spec.listed_column l.schema_end l.table_end l.text.items) l.columns.items;
+      schema = l.names.schema;
+      table = l.names.table;
+      columns = map (Spec.listed_column l.names) l.columns.items;
     } };
 
-    ghost invariant = { λ l. (l.schema_end ≤ l.table_end) × (l.table_end ≤ length l.text.items)
-        × Spec.AreInside (length l.text.items) l.columns.items };
+    ghost invariant = { λ l. (l.names.org_table ≡ l.names.table)
+        × Spec.AreInside (length l.names.text) l.columns.items };
 }
 
 impl ColumnList {
     /// Begins the list of the columns of a table, by the names of its schema and of the table.
     /// `count` says how many columns are expected; memory for them is reserved. Fails if memory is
     /// refused.
-    #[tactic(auto, using(crate::proofs::Cuts::cut_front, crate::proofs::Cuts::cut_last))]
     pub fn new(alloc: Global, schema: &[u8], table: &[u8], count: usize) -> Result<Self, AllocError>
         ensures { IfOk result
             (λ l. l ≡ record { schema = schema.now; table = table.now; columns = [] }) }
     {
-        let names = count.saturating_mul(USUAL_NAME);
-        let room = schema
-            .len()
-            .saturating_add(table.len())
-            .saturating_add(names);
-        let mut text = Vec::with_capacity(alloc, room)?;
-        text.extend_from_slice(schema)?;
-        let schema_end = text.len();
-        text.extend_from_slice(table)?;
-        let table_end = text.len();
+        let room = count.saturating_mul(USUAL_NAME);
         Ok(ColumnList {
-            text,
-            schema_end,
-            table_end,
+            names: TableNames::new(alloc, schema, table, room)?,
             columns: Vec::with_capacity(alloc, count)?,
         })
     }
@@ -101,9 +86,9 @@ impl ColumnList {
           } ∷ [];
         }) }
     {
-        let start = self.text.len();
-        self.text.extend_from_slice(name)?;
-        let end = self.text.len();
+        let start = self.names.len();
+        self.names.add(name)?;
+        let end = self.names.len();
         self.columns.push(Listed {
             column_type,
             flags,
@@ -118,54 +103,37 @@ impl ColumnList {
     pub fn into_columns(self, alloc: Global) -> Result<RcSlice<Column>, AllocError>
         ensures { IfOk result (λ columns. rc_slice_items columns ≡ self.columns) }
     {
-        let text = RcSlice::from_vec(self.text)?;
-        let columns = columns_of(alloc, &text, self.schema_end, self.table_end, &self.columns)?;
-        RcSlice::from_vec(columns)
+        let names = Rc::new(alloc, self.names)?;
+        RcSlice::from_vec(columns_of(alloc, &names, &self.columns)?)
     }
 }
 
-// Makes a column, by the text of all names, and where those of the schema and the table end.
-fn column_of(
-    text: &RcSlice<u8>,
-    schema_end: usize,
-    table_end: usize,
-    listed: &Listed,
-) -> Result<Column, AllocError>
-    requires order { schema_end ≤ table_end }
-    requires inside { table_end ≤ length (rc_slice_items text.now) }
-    requires name { IsInside (length (rc_slice_items text.now)) listed.now }
-    ensures { IfOk result
-        (λ c. c ≡ listed_column schema_end table_end (rc_slice_items text.now) listed.now) }
+// Makes a column, by the names of its table.
+fn column_of(names: &Rc<TableNames>, listed: &Listed) -> Result<Column, AllocError>
+    requires { IsInside (length (rc_value names.now).text) listed.now }
+    ensures { IfOk result (λ c. c ≡ listed_column (rc_value names.now) listed.now) }
 {
-    let table = SharedBytes::part(text, schema_end, table_end)?;
     Ok(Column::of_parts(
         listed.column_type,
-        SharedBytes::part(text, 0, schema_end)?,
-        table.share()?,
-        table,
-        SharedBytes::part(text, listed.start, listed.end)?,
+        ColumnNames::shared(names, listed.start, listed.end)?,
         listed.flags,
         listed.character_set,
     ))
 }
 
-// Makes the columns, by the text of all names, and where those of the schema and the table end.
+// Makes the columns, by the names of their table.
 fn columns_of(
     alloc: Global,
-    text: &RcSlice<u8>,
-    schema_end: usize,
-    table_end: usize,
+    names: &Rc<TableNames>,
     listed: &[Listed],
 ) -> Result<Vec<Column>, AllocError>
-    requires order { schema_end ≤ table_end }
-    requires inside { table_end ≤ length (rc_slice_items text.now) }
-    requires names { AreInside (length (rc_slice_items text.now)) listed.now }
+    requires { AreInside (length (rc_value names.now).text) listed.now }
     ensures { IfOk result (λ cs. cs.items
-        ≡ map (listed_column schema_end table_end (rc_slice_items text.now)) listed.now) }
+        ≡ map (listed_column (rc_value names.now)) listed.now) }
 {
     let mut columns = Vec::with_capacity(alloc, listed.len())?;
     for column in listed {
-        columns.push(column_of(text, schema_end, table_end, column)?)?;
+        columns.push(column_of(names, column)?)?;
     }
     Ok(columns)
 }

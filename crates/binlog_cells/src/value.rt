@@ -168,7 +168,7 @@ pub fn read_plain(alloc: Global, form: PlainForm, buf: &mut ParseBuf<'_>) -> Res
             Ok(Value::Bytes(read_decimal(alloc, precision, scale, buf)?))
         }
         PlainForm::Fixed(len) => {
-            let bytes = read_fixed(len, buf)?;
+            let bytes = read_fixed(usize::from(len), buf)?;
             Ok(Value::Bytes(Vec::from_slice(alloc, bytes)?))
         }
         PlainForm::Text(width) => {

@@ -53,7 +53,7 @@ pub enum PlainForm {
     /// A decimal of this precision and scale, in the packed DECIMAL format.
     Decimal(u8, u8),
     /// That many bytes.
-    Fixed(usize),
+    Fixed(u16),
     /// A length, written in that many bytes, and then as many bytes as it says.
     Text(Width),
     /// The number of an ENUM value, written in that many bytes.
@@ -117,10 +117,10 @@ fn string_length(m0: u8, m1: u8) -> u32
 }
 
 // Returns how many bytes a BIT cell of `m1` bytes and `m0` further bits takes.
-fn bit_bytes(m0: u8, m1: u8) -> usize
+fn bit_bytes(m0: u8, m1: u8) -> u16
     ensures { result ≡ bit_bytes m0 m1 }
 {
-    (usize::from(m1) * 8 + usize::from(m0) + 7) / 8
+    (u16::from(m1) * 8 + u16::from(m0) + 7) / 8
 }
 
 // Returns how BLOB, GEOMETRY and VECTOR cells are read, whose length is written in `width` bytes.
@@ -190,7 +190,7 @@ fn two_form(column_type: ColumnType, metadata: &[u8]) -> Result<PlainForm, Fault
             let (m0, m1) = first_two(metadata)?;
             Ok(PlainForm::Fixed(bit_bytes(m0, m1)))
         }
-        ColumnType::MYSQL_TYPE_SET => Ok(PlainForm::Fixed(usize::from(first_two(metadata)?.1))),
+        ColumnType::MYSQL_TYPE_SET => Ok(PlainForm::Fixed(u16::from(first_two(metadata)?.1))),
         ColumnType::MYSQL_TYPE_ENUM => variant_form(first_two(metadata)?.1),
         ColumnType::MYSQL_TYPE_VARCHAR | ColumnType::MYSQL_TYPE_VAR_STRING => {
             let (m0, m1) = first_two(metadata)?;

@@ -308,7 +308,7 @@ pub fn put_plain<'a>(
             Ok(())
         }
         PlainForm::Fixed(len) => {
-            let bytes = read_fixed(len, buf)?;
+            let bytes = read_fixed(usize::from(len), buf)?;
             Ok(put_cell(cells, LentCell::Bytes(bytes)))
         }
         PlainForm::Text(width) => {

@@ -13,6 +13,9 @@ use Rattle.binlog_table.specs.ColumnTypes.{json_count}
 use Rattle.binlog_table.specs.Extracted.{field_fault}
 use Rattle.binlog_table.specs.TableColumns.{Column, table_columns}
 use Rattle.binlog_cells.specs.declared.value.form.Form.{Form}
+use Rattle.binlog_cells.specs.declared.value.form.Form.TheVariants as form
+use Rattle.mysql_binlog_rows.specs.declared.row.plan.Way.{Way}
+use Rattle.mysql_binlog_rows.specs.declared.row.plan.Way.TheVariants as way
 use Rattle.mysql_binlog_rows.specs.RowsEvent.{RowsEvent, image_columns, same_columns, has_options}
 use Rattle.binlog_cells.specs.Cells.{Cell, PlainCell}
 use Rattle.binlog_cells.specs.Forms.{form_of, cell_by}
@@ -25,6 +28,13 @@ use Rattle.mysql_binlog_rows.specs.Images.{BinlogRow, Pair, default_name, row_fl
 pub record Slot : Type 0 where
   pub form : Result Form Fault
   pub json_place : Option ℕ
+
+-- the same, by what the code keeps
+abbrev pub slot_in : Way → Slot
+slot_in (way.Plain f) = record { form = Ok (form.Plain f); json_place = None }
+slot_in (way.Json place) = record { form = Ok form.Json; json_place = Some place }
+slot_in way.JsonElement = record { form = Ok form.Json; json_place = None }
+slot_in (way.Fault e) = record { form = Err e; json_place = None }
 
 -- Of the columns of an event up to the first with a fault: how the cells of those in the image are
 -- read; those in the image as rows have them; how many columns there are; and the fault.

@@ -1,6 +1,6 @@
 //! Reads the images of rows, by a plan that is made once for an event.
 
-ghost use Rattle.std.specs.Prelude.{◌≡◌, ◌≤◌, ◌<◌, ◌+◌, ◌^◌, ◌++◌, ◌∷◌, ℕ, suc, [], true, false, IfOk, IfErr, OnOk, map, drop, length, slice_index_or, vec_len, vec_capacity, Some};
+ghost use Rattle.std.specs.Prelude.{◌≡◌, ◌≤◌, ◌<◌, ◌+◌, ◌^◌, ◌++◌, ◌∷◌, ℕ, suc, [], true, false, IfOk, IfErr, OnOk, map, drop, length, slice_index_or, vec_len, vec_capacity, Some, None};
 ghost use Rattle.std.specs.Option.{option_map};
 ghost use Rattle.binlog_base.specs.declared.fault.Fault.TheVariants as Fault;
 ghost use Rattle.binlog_base.specs.Format.{Parses, ParsesAs, OrMemory};
@@ -13,7 +13,7 @@ ghost use Rattle.binlog_cells.specs.LentCells.{lent_values};
 ghost use Rattle.binlog_base.specs.Values.{column_flags_of};
 ghost use Rattle.mysql_binlog_rows.specs.Images.{default_name, row_flags};
 ghost use Rattle.mysql_binlog_rows.specs.Memory.{in_usize, names_bytes, plan_bytes};
-ghost use Rattle.mysql_binlog_rows.specs.Workings.Plans.{column_in, json_place_of, slot_of, first_column, after_first, planned_from, plan_of, planned_options, planned_image, is_partial_slot, slot_cell, slot_cells};
+ghost use Rattle.mysql_binlog_rows.specs.Workings.Plans.{column_in, slot_in, slot_of, first_column, after_first, planned_from, plan_of, planned_options, planned_image, is_partial_slot, slot_cell, slot_cells};
 
 use super::binlog_row::BinlogRow;
 use super::lent_row::LentRow;
@@ -23,7 +23,8 @@ use binlog_base::below::{
 use binlog_base::bits::{BitIter, BitOrder, BitView};
 use binlog_base::fault::Fault;
 use binlog_cells::value::{
-    BinlogValue, Form, LentCell, form_of, put_cell, put_json, put_plain, read_json, read_plain,
+    BinlogValue, Form, LentCell, PlainForm, form_of, put_cell, put_json, put_plain, read_json,
+    read_plain,
 };
 use binlog_consts::consts::Flags;
 use binlog_table::table_map::TableMapEvent;
@@ -34,12 +35,22 @@ use std::marker::Model;
 use std::mem::size_of;
 use std::rc::RcSlice;
 
-/// A column in the image, as a plan keeps it: how its cells are read, and the index of a JSON
-/// column among the JSON columns of the table.
+/// How the cells of a column are read, or why they can't be.
+#[derive(Clone, Copy)]
+enum Way {
+    Plain(PlainForm),
+    /// As JSON, by the index of the column among the JSON columns of the table.
+    Json(usize),
+    /// As JSON that is never partial.
+    JsonElement,
+    Fault(Fault),
+}
+
+/// A column in the image, as a plan keeps it. Contracts see how its cells are read, and the index
+/// of a JSON column among the JSON columns of the table.
 #[derive(Drop)]
 struct Slot {
-    form: Result<Form, Fault>,
-    json_place: Option<usize>,
+    way: Way,
 }
 
 impl Model for Slot {
@@ -47,7 +58,7 @@ impl Model for Slot {
 
     ghost Value = { Spec.Slot };
 
-    ghost view = { λ s. record { form = s.form; json_place = s.json_place } };
+    ghost view = { λ s. Spec.slot_in s.way };
 }
 
 /// Of the columns of an event up to the first with a fault: how the cells of those in the image are
@@ -185,14 +196,14 @@ fn next_column<'a>(walk: &mut TableColumns<'a>) -> Result<TableColumn<'a>, Fault
     }
 }
 
-// Returns the index of a JSON column among the JSON columns of the table; `None` for any other
-// column.
-fn json_place_of(column: &TableColumn<'_>) -> Option<usize>
-    ensures { result ≡ json_place_of (seen_column column.now) }
+// Returns how the cells of a column are read that isn't a JSON column, by their form.
+fn way_of(form: Result<Form, Fault>) -> Way
+    ensures { slot_in result ≡ record { form = form; json_place = None } }
 {
-    match column.column_type {
-        ColumnType::MYSQL_TYPE_JSON => Some(column.json_place),
-        _ => None,
+    match form {
+        Ok(Form::Plain(form)) => Way::Plain(form),
+        Ok(Form::Json) => Way::JsonElement,
+        Err(fault) => Way::Fault(fault),
     }
 }
 
@@ -200,10 +211,15 @@ fn json_place_of(column: &TableColumn<'_>) -> Option<usize>
 fn slot_of(column: &TableColumn<'_>) -> Slot
     ensures { result ≡ slot_of (seen_column column.now) }
 {
-    let metadata = column.metadata.unwrap_or(&[]);
-    Slot {
-        form: form_of(column.column_type, metadata, column.unsigned),
-        json_place: json_place_of(column),
+    match column.column_type {
+        ColumnType::MYSQL_TYPE_JSON => Slot {
+            way: Way::Json(column.json_place),
+        },
+        _ => {
+            let metadata = column.metadata.unwrap_or(&[]);
+            let form = form_of(column.column_type, metadata, column.unsigned);
+            Slot { way: way_of(form) }
+        }
     }
 }
 
@@ -446,9 +462,9 @@ fn is_set(bits: &BitView<'_>, place: usize) -> bool
 fn is_partial(slot: &Slot, partials: &BitView<'_>) -> bool
     ensures { result ≡ is_partial_slot partials.now slot.now }
 {
-    match slot.json_place {
-        Some(place) => is_set(partials, place),
-        None => false,
+    match slot.way {
+        Way::Json(place) => is_set(partials, place),
+        _ => false,
     }
 }
 
@@ -507,12 +523,15 @@ fn add_nullable_cell(
         add_value(values, BinlogValue::Value(Value::NULL));
         return Ok(());
     }
-    match slot.form? {
-        Form::Plain(form) => {
+    match slot.way {
+        Way::Plain(form) => {
             let value = read_plain(alloc, form, buf)?;
             add_value(values, BinlogValue::Value(value));
         }
-        Form::Json => add_json(alloc, is_partial(slot, partials), values, buf)?,
+        Way::Json(_) | Way::JsonElement => {
+            add_json(alloc, is_partial(slot, partials), values, buf)?
+        }
+        Way::Fault(fault) => return Err(fault),
     }
     Ok(())
 }
@@ -564,11 +583,12 @@ fn put_lent_cell<'b>(
     if is_null {
         return Ok(put_cell(cells, LentCell::Null));
     }
-    match slot.form? {
-        Form::Plain(form) => put_plain(form, cells, buf),
-        Form::Json => {
+    match slot.way {
+        Way::Plain(form) => put_plain(form, cells, buf),
+        Way::Json(_) | Way::JsonElement => {
             put_json(is_partial(slot, partials), cells, buf)?;
             Ok(())
         }
+        Way::Fault(fault) => Err(fault),
     }
 }

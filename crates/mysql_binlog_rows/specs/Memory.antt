@@ -12,10 +12,10 @@ in_usize n = min n (2 ^ 64 - 1)
 abbrev pub names_bytes : List ColumnView → ℕ
 names_bytes columns = sum_by (λ c. length c.name) columns
 
--- The plan of an image: for each column in it 208 bytes, of which 12 are room for its name, and the
+-- The plan of an image: for each column in it 68 bytes, of which 12 are room for its name, and the
 -- names twice, since the room for their text doubles when it grows.
 abbrev pub plan_bytes : Plan → ℕ
-plan_bytes p = 192 + 208 * p.count + 2 * names_bytes p.planned.columns
+plan_bytes p = 192 + 68 * p.count + 2 * names_bytes p.planned.columns
 
 -- the plan, if there is one
 abbrev pub maybe_bytes : Option Plan → ℕ

@@ -119,7 +119,7 @@ impl Model for Plan {
 const PLAN_BYTES: usize = 192;
 
 /// How many bytes a column takes at most: a slot, the column, and the room for a name of 12 bytes.
-const COLUMN_BYTES: usize = 208;
+const COLUMN_BYTES: usize = 68;
 
 const _: () = prove!(size_of::<Slot>() + size_of::<Column>() + 12 <= COLUMN_BYTES);
 

@@ -301,7 +301,7 @@ fn table_shared(rt: HostRuntime) -> Result<(), Fail> {
     let empty = kept.bytes();
     let read = read_shared(rt.alloc(), &mut kept)?;
     // Room for two columns, the names a and b, d and t, and a bitmap of one byte.
-    let bytes = 512 + 1 + 4 * 2 + 192 + 2 * 208 + 2 * 2;
+    let bytes = 512 + 1 + 4 * 2 + 192 + 2 * 68 + 2 * 2;
     assert!(rt; (read, empty, kept.bytes()) == ((true, 0), 0, bytes));
     Ok(())
 }

@@ -3,10 +3,11 @@
 use super::{all, has_text};
 use binlog_base::below::{
     BareBytes, BeI16, BeI24, BeI32, BeU16, BeU24, BeU32, BeU40, BeU48, BytesRepr, Column,
-    ColumnFlags, ColumnType, Const, EofBytes, Failed, GeometryType, I8, IntRepr, LeI16, LeI24,
-    LeI32, LeI48, LeI64, LeU16, LeU24, LeU32, LeU48, LeU64, LenEnc, MyDeserialize, MySerialize,
-    ParseBuf, RawBytes, RawFlags, RawInt, Row, Skip, Source, U8, U8Bytes, UnknownColumnType,
-    UnknownGeometryType, Value, VarLen, lenenc_int_len, new_row_raw, write_bytes,
+    ColumnFlags, ColumnList, ColumnType, Const, EofBytes, Failed, GeometryType, I8, IntRepr, LeI16,
+    LeI24, LeI32, LeI48, LeI64, LeU16, LeU24, LeU32, LeU48, LeU64, LenEnc, MyDeserialize,
+    MySerialize, ParseBuf, RawBytes, RawFlags, RawInt, Row, Skip, Source, U8, U8Bytes,
+    UnknownColumnType, UnknownGeometryType, Value, VarLen, lenenc_int_len, new_row_raw,
+    write_bytes,
 };
 use binlog_base::bits::{BitOrder, BitView, bitmap_len};
 use binlog_base::fault::{Fault, FaultKind, JsonbError};
@@ -650,6 +651,37 @@ fn has_one_value(row: &Row) -> bool {
         row.as_ref(1).is_none(),
         row.as_ref(2).is_none(),
     ])
+}
+
+/// Returns the same column as one of a table, whose original table has the table's name.
+fn listed_columns(alloc: Global) -> Result<RcSlice<Column>, AllocError> {
+    let mut list = ColumnList::new(alloc, b"d", b"t", 1)?;
+    let flags = ColumnFlags::PRI_KEY_FLAG;
+    list.add(ColumnType::MYSQL_TYPE_LONG, b"@0", flags, 45)?;
+    list.into_columns(alloc)
+}
+
+#[test]
+fn columns_shown_and_compared(rt: HostRuntime) -> Result<(), Fail> {
+    let alloc: Global = rt.alloc();
+    let column = key_column(alloc)?;
+    let text = format!(in alloc; "{column:?}")?;
+    assert!(rt;
+        text.as_str()
+            == "Column { column_type: MYSQL_TYPE_LONG, schema: [100], table: [116], org_table: [111], name: [64, 48], flags: ColumnFlags(2), character_set: 45 }"
+    );
+    let bare = Column::new(ColumnType::MYSQL_TYPE_LONG);
+    let text = format!(in alloc; "{bare:?}")?;
+    assert!(rt;
+        text.as_str()
+            == "Column { column_type: MYSQL_TYPE_LONG, schema: [], table: [], org_table: [], name: [], flags: ColumnFlags(0), character_set: 0 }"
+    );
+    let listed = listed_columns(alloc)?;
+    let others = vec![in alloc; column]?;
+    assert!(rt; listed.as_slice() != others.as_slice());
+    let same = vec![in alloc; key_column(alloc)?.with_org_table(alloc, b"t")?]?;
+    assert!(rt; listed.as_slice() == same.as_slice());
+    Ok(())
 }
 
 #[test]

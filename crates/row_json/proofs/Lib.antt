@@ -17,4 +17,5 @@ pub mod Digits
 pub mod Timestamps
 pub mod Objects
 pub mod Lines
+pub mod Drafts
 pub mod Shown

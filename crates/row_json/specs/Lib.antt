@@ -6,6 +6,7 @@ pub mod Columns
 pub mod Floats
 pub mod Values
 pub mod Wrote
+pub mod LongLines
 pub mod Documents
 pub mod Workings
 pub mod Faults

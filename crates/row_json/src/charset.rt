@@ -87,7 +87,7 @@ const WINDOWS: [char; 32] = [
     '\u{2DC}', '\u{2122}', '\u{161}', '\u{203A}', '\u{153}', '\u{9D}', '\u{17E}', '\u{178}',
 ];
 
-fn latin1_character(byte: u8) -> char
+pub(crate) fn latin1_character(byte: u8) -> char
     ensures { result ≡ latin1_character byte }
 {
     if 128 <= byte && byte < 160 {

@@ -38,6 +38,11 @@ impl LineRoom {
         }
     }
 
+    /// Returns the room for the texts of values.
+    pub(crate) fn text(&mut self) -> &mut String {
+        &mut self.text
+    }
+
     // Takes the buffer of the line, which is emptied: behind a buffer that holds something the writer
     // makes room ready that a line seldom needs.
     fn begin(&mut self, alloc: Global) -> Writer

@@ -23,7 +23,7 @@ use mysql_binlog_rows::rows_event::{LentPair, RowPair, RowsEvent};
 use std::alloc::{AllocError, Global};
 
 // Returns the columns of an image: none if the event has no such image.
-fn present_in(present: Option<BitView<'_>>) -> BitView<'_>
+pub(crate) fn present_in(present: Option<BitView<'_>>) -> BitView<'_>
     ensures { result ≡ present_in present.entry }
 {
     match present {
@@ -68,7 +68,7 @@ fn has_diffs_in<R: Row>(row: &R) -> bool
 }
 
 // Writes the member `diffs`, if a value of the image is diffs.
-fn write_diffs_of<R: Row>(
+pub(crate) fn write_diffs_of<R: Row>(
     alloc: Global,
     text: &mut String,
     out: &mut Writer,
@@ -106,7 +106,7 @@ fn operation_of<P: Images>(pair: &P) -> &'static str
 }
 
 // Begins the object of a pair with `op`.
-fn begin_pair<P: Images>(out: &mut Writer, pair: &P) -> Result<(), AllocError>
+pub(crate) fn begin_pair<P: Images>(out: &mut Writer, pair: &P) -> Result<(), AllocError>
     ensures written { OnOk result (Adds out.old out.new
         (begin_object ∷ named_tokens (codes "op", string (operation_of (P.pair pair.now))))) }
     ensures stays { AddsSome out.old out.new }

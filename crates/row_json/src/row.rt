@@ -129,7 +129,7 @@ fn write_diffs_member(
 }
 
 // Returns whether a column is in an image.
-fn is_present(present: &BitView<'_>, index: usize) -> bool
+pub(crate) fn is_present(present: &BitView<'_>, index: usize) -> bool
     ensures { result ≡ slice_index_or present.now index false }
 {
     present.get(index).unwrap_or(false)

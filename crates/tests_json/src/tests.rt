@@ -3,6 +3,7 @@
 //! on.
 
 mod filter;
+mod long;
 mod memory;
 mod partial;
 mod trees;
@@ -14,8 +15,8 @@ use binlog_table::table_map::TableMapEvent;
 use json::Writer;
 use mysql_binlog_rows::rows_event::{LentPair, RowsEvent, RowsEventCtx, RowsEventRows};
 use row_json::{
-    Charset, ColumnJson, Kind, LineRoom, Members, NoMembers, TableJson, charset_of, write_line,
-    write_line_with, write_owned_line,
+    Charset, ColumnJson, EscapeRoom, Kind, LineRoom, LongLine, Members, NoMembers, TableJson,
+    charset_of, write_line, write_line_with, write_owned_line,
 };
 use std::alloc::{AllocError, Global};
 use std::fmt::{Display, InlineText, Write};
@@ -826,6 +827,8 @@ fn types_cross_threads(_rt: HostRuntime) {
     crosses_threads::<Kind>();
     crosses_threads::<Charset>();
     crosses_threads::<LineRoom>();
+    crosses_threads::<LongLine<'static>>();
+    crosses_threads::<EscapeRoom>();
     crosses_threads::<NoMembers>();
 }
 

@@ -6,6 +6,7 @@
 
 ghost use Rattle.std.specs.Prelude.{◌≤◌};
 
+use super::long::{self, CASES};
 use super::trees::{self, OBJECT};
 use super::{Case, DOCUMENTS, NAMES, PARTIAL, TEXTS, TIMES, are_json, are_pairs, read};
 use binlog_base::below::ParseBuf;
@@ -87,6 +88,12 @@ fn line(rt: HostRuntime) -> Result<(), Fail> {
 #[test]
 fn three_lines(rt: HostRuntime) -> Result<(), Fail> {
     assert!(rt; is_written(rt.alloc(), TIMES[2], 3)?);
+    Ok(())
+}
+
+#[test]
+fn long_texts(rt: HostRuntime) -> Result<(), Fail> {
+    assert!(rt; long::is_right(rt.alloc(), &CASES[0])?);
     Ok(())
 }
 

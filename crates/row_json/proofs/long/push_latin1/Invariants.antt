@@ -1,0 +1,11 @@
+use Rattle.std.proofs.Common.{◌≡◌, ◌≤◌, ◌+◌, ◌*◌, ◌++◌, take}
+use Rattle.std.specs.Prelude.{vec_len, vec_capacity}
+use Rattle.json.specs.Print.{escape}
+use Rattle.row_json.specs.Charsets.{latin1_text}
+use Rattle.row_json.proofs.long.push_latin1.Given as goal
+
+abbrev pub invariant-loop-byte : goal.invariant-loop-byte
+invariant-loop-byte l =
+    (l.out.items ≡ l.initial.out.items ++ escape (latin1_text (take l.byte-index l.bytes)))
+    × (vec_len l.out ≤ vec_len l.initial.out + 24 * l.byte-index)
+    × (vec_capacity l.initial.out ≤ vec_capacity l.out)

@@ -67,6 +67,30 @@ output_failed f a b held left is h none = (
   output_loss f h.1 is,
 )
 
+-- the output failed before a line
+pub failed_before : (f : Failure) (a b : Option (List ℕ)) (held line left : List ℕ) → IsOutput f → AppendsFirst a b held → left ≡ [] → OutputsUpTo f a held line b left
+failed_before f a b held line left is h none = (
+  h.0,
+  h.1 ++ line,
+  h.2,
+  ap (λ (t : List ℕ). t ++ line) h.3 ∙ append_assoc h.0 h.1 line ∙ ap (λ (t : List ℕ). h.0 ++ (t ++ (h.1 ++ line))) (sym none),
+  output_loss f (h.1 ++ line) is,
+)
+
+-- the output failed within a line
+pub failed_within : (f : Failure) (a b d : Option (List ℕ)) (held line left : List ℕ) → IsOutput f → Appends a b held → AppendsFirst b d line → left ≡ [] → OutputsUpTo f a held line d left
+failed_within f a b d held line left is h k none = (
+  held ++ k.0,
+  k.1,
+  Appends-trans a b d held k.0 h k.2,
+  ap (λ (t : List ℕ). held ++ t) k.3 ∙ sym (append_assoc held k.0 k.1) ∙ ap (λ (t : List ℕ). (held ++ k.0) ++ (t ++ k.1)) (sym none),
+  output_loss f k.1 is,
+)
+
+-- nothing was written, and all is held back as it was
+pub up_to_same : (f : Failure) (a : Option (List ℕ)) (held left : List ℕ) → left ≡ held → OutputsUpTo f a held [] a left
+up_to_same f a held left same = subst (λ (t : List ℕ). OutputsUpTo f a held [] a t) (sym same) (up_to_nothing f a held)
+
 -- ---- at the end
 
 pub nothing_appended : (why : Failure) (a : Option (List ℕ)) → AppendsUpTo why a a []

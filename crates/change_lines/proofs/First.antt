@@ -30,7 +30,7 @@ use Rattle.changed_rows.specs.Names.{up_to_most, is_before}
 use Rattle.change_lines.specs.Rows.{BeginsWith, AreLinesBy}
 use Rattle.change_lines.specs.Readings.{Passes, SourceNext}
 use Rattle.change_lines.specs.Lines.{IsRowLine, Writes}
-use Rattle.change_lines.specs.Failures.{IsOutput, IsNotOfFile, IsErrorOfRow, EndsAtRow, IsLineFailure, AreFirstOfEvent, AreFirstOfNext, MissesNone, IsMissing, AreFirst, IsLostBy, WritesFirstRows, WritesFirstOfEvent, WritesFirst}
+use Rattle.change_lines.specs.Failures.{OutputsUpTo, IsOutput, IsNotOfFile, IsErrorOfRow, EndsAtRow, IsLineFailure, AreFirstOfEvent, AreFirstOfNext, MissesNone, IsMissing, AreFirst, IsLostBy, WritesFirstRows, WritesFirstOfEvent, WritesFirst}
 use Rattle.change_lines.specs.Runs.{AreFirstLines}
 use Rattle.change_lines.proofs.Pairs.{nothing_read}
 use Rattle.change_lines.proofs.Rows.{lines_weaker, no_lines}
@@ -83,6 +83,19 @@ rows_so_far why Is c a b held mid left ps rest text begins lines outputs same en
   lines = lines;
   ends = ends;
   outputs = up_to_here why a b held text mid left outputs same;
+}
+
+-- some rows were read and written, and of the next nothing
+pub rows_up_to : (why : Failure) (Is : ℕ → Pair → List ℕ → Type 0) (c : LentChange) (a b d : Option (List ℕ)) (held mid left : List ℕ) (ps : List Pair) (rest text : List ℕ)
+    → BeginsWith (pair c.table c.rows) c.left ps rest → AreLinesBy Is 0 ps text → Outputs a held text b mid → OutputsUpTo why b mid [] d left → EndsAtRow why c (length ps) rest → WritesFirstRows why Is c a held d left
+rows_up_to why Is c a b d held mid left ps rest text begins lines outputs nothing ends = record {
+  pairs = ps;
+  rest = rest;
+  text = text;
+  begins = begins;
+  lines = lines;
+  ends = ends;
+  outputs = subst (λ (t : List ℕ). OutputsUpTo why a held t d left) (append-nil text) (up_to_more why a b d held mid left text [] outputs nothing);
 }
 
 -- no row was read

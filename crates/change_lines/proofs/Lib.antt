@@ -13,3 +13,4 @@ pub mod Whole
 pub mod CountedFiles
 pub mod First
 pub mod Causes
+pub mod Pieces

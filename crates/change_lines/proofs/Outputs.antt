@@ -1,6 +1,7 @@
 -- Lemmas on what is written to an output.
 use Rattle.std.proofs.Common.{◌≡◌, ℕ, List, [], ◌++◌, Option, sym, ap, ◌∙◌, append_assoc, append-nil}
 use Rattle.std.proofs.KnownBytes.{Appends-nil, Appends-trans}
+use Rattle.std.specs.Io.KnownBytes.{Appends}
 use Rattle.change_lines.specs.Outputs.{Outputs}
 
 pub outputs_nothing : (out : Option (List ℕ)) (held : List ℕ) → Outputs out held [] out held
@@ -19,3 +20,7 @@ outputs_more a b d held mid left first more h k = (
 -- a line was held back, and then perhaps written
 pub outputs_line : (a b : Option (List ℕ)) (held line mid left : List ℕ) → mid ≡ held ++ line → Outputs a mid [] b left → Outputs a held line b left
 outputs_line a b held line mid left is h = (h.0, h.1, sym is ∙ sym (append-nil mid) ∙ h.2)
+
+-- what was held back was written, and then a line
+pub outputs_both : (a b d : Option (List ℕ)) (held line left : List ℕ) → Appends a b held → Appends b d line → left ≡ [] → Outputs a held line d left
+outputs_both a b d held line left h k none = (held ++ line, Appends-trans a b d held line h k, sym (append-nil (held ++ line)) ∙ ap (λ (t : List ℕ). (held ++ line) ++ t) (sym none))

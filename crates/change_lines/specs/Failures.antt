@@ -180,6 +180,13 @@ WritesFirstOfEvent why f file gtid x old held new left = (text : List ℕ) × Ar
 abbrev pub WritesFirst : Failure → Form → Option ℕ → Wanted → List ℕ → Spot → Option (List ℕ) → Option (List ℕ) → List ℕ → Option (List ℕ) → List ℕ → Type 0
 WritesFirst why f stop wanted file from gtid old held new left = (text : List ℕ) × AreFirst why f stop wanted file from gtid text × OutputsUpTo why old held text new left
 
+-- A row wasn't put out: a beginning of its line was written, where the output failed; or its line can't be made,
+-- and nothing was written.
+abbrev pub FailsAtLine : (List ℕ → Type 0) → (Failure → Type 0) → Failure → Option (List ℕ) → List ℕ → Option (List ℕ) → List ℕ → Type 0
+FailsAtLine Is IsFault why old held new left =
+    ((line : List ℕ) × Is line × IsOutput why × OutputsUpTo why old held line new left)
+    ⊎ (IsFault why × OutputsUpTo why old held [] new left)
+
 -- ---- what the functions give
 
 -- the failure at a row with a fault

@@ -4,6 +4,7 @@ ghost use Rattle.std.specs.IoError.{error_kind};
 ghost use Rattle.std.specs.Prelude.{◌≡◌, ◌≢◌, ◌⊎◌, ◌↔◌, IsTrue, ℕ, List, [], ◌++◌, OnOk, OnErr, IfOk, IfErr};
 ghost use Rattle.std.specs.String.{string_bytes};
 ghost use Rattle.std.specs.Io.KnownBytes.{Appends};
+ghost use Rattle.row_json.specs.LongLines.{line_bytes};
 ghost use Rattle.row_json.specs.Rows.{IsLine};
 ghost use Rattle.row_json.specs.Columns.{columns_of};
 ghost use Rattle.row_lines.specs.Lines.{signed_line_text};
@@ -25,7 +26,7 @@ ghost use Rattle.change_lines.specs.Lines.{place_text, IsRowLine, gtid_past, gap
 ghost use Rattle.change_lines.specs.declared.error.Failure.{Failure};
 ghost use Rattle.change_lines.specs.Failures.{IsOutput, IsErrorOfRow, EndsAtRow, IsRowFailure, IsLineFailure};
 ghost use Rattle.change_lines.specs.Failures.{IsOfReading, IsOfEvent, IsOfRun};
-ghost use Rattle.change_lines.specs.Failures.{IsLostBy, OutputsUpTo, AppendsUpTo};
+ghost use Rattle.change_lines.specs.Failures.{IsLostBy, OutputsUpTo, AppendsUpTo, FailsAtLine};
 ghost use Rattle.change_lines.specs.Failures.{WritesFirstRows, WritesFirstOfEvent, WritesFirst};
 ghost use Rattle.changed_rows.specs.Names.{up_to_most};
 ghost use Rattle.changed_rows.specs.Counted.{name_of, CountsMore, table_text};
@@ -38,7 +39,7 @@ ghost use Rattle.change_lines.specs.Runs.{AreAllLines, AreFirstLines, EndsBy, st
 use crate::bounds::Bounds;
 use crate::error::Failure;
 use crate::notes::Notes;
-use crate::output::write_whole;
+use crate::output::{write_long_line, write_whole};
 use binlog_base::below::{Counted, Source as Bytes, WriteOnce};
 use binlog_base::fault::Fault;
 use binlog_file::error::{EventError, FileError};
@@ -58,7 +59,7 @@ use changed_rows::gtid::Gtid;
 use changed_rows::source::Source;
 use changed_rows::tables::KeptTables;
 use mysql_binlog_rows::rows_event::{LentPair, RowsEvent};
-use row_json::{LineRoom, TableJson, write_line_with};
+use row_json::{EscapeRoom, LineRoom, LongLine, TableJson, long_line_with, write_line_with};
 use row_lines::push_signed_line;
 use std::alloc::{AllocError, Global};
 use std::io::{self, ErrorKind, Read, Write};
@@ -69,6 +70,9 @@ const FULL: usize = 32 * 1024;
 
 /// How many bytes of memory lines keep at most once they are written out.
 const MOST_KEPT: usize = 1024 * 1024;
+
+/// From how many bytes of rows data on the lines of an event are made one by one, with long texts apart.
+const LARGE: usize = 1024 * 1024;
 
 /// The form of what is printed.
 #[derive(Clone, Copy, Debug, PartialEq, Eq)]
@@ -269,6 +273,105 @@ impl Lines {
         }
     }
 
+    // Writes the lines out, and then a line whose long texts stand apart.
+    fn write_long<O: WriteOnce>(
+        &mut self,
+        line: &LongLine<'_>,
+        room: &mut EscapeRoom,
+        out: &mut O,
+    ) -> Result<(), Failure>
+        ensures all { OnOk result (Outputs (O.contents out.old) self.old.bytes.items
+            (line_bytes line.now) (O.contents out.new) self.new.bytes.items) }
+        ensures first { IfErr result (λ why. OutputsUpTo why (O.contents out.old)
+            self.old.bytes.items (line_bytes line.now) (O.contents out.new) self.new.bytes.items) }
+        ensures failed { IfErr result IsOutput }
+        ensures cause { IfErr result (IsOfEvent O.writes O.flushes) }
+        ensures left { self.new.bytes.items ≡ [] }
+    {
+        self.write_out(out)?;
+        match write_long_line(out, line, room) {
+            Ok(()) => Ok(()),
+            Err(error) => Err(Failure::Output(error)),
+        }
+    }
+
+    // Makes the line of JSON of a row of an event, whose long texts stand apart.
+    fn long_line<'b>(
+        &mut self,
+        table: &TableJson,
+        event: &RowsEvent<'_>,
+        pair: &LentPair<'b>,
+        source: &Source<'_>,
+    ) -> Result<LongLine<'b>, Failure>
+        ensures line { IfOk result (λ l. IsLine table.now event.now (members_in source.now) pair.now
+            (line_bytes l)) }
+        ensures kept { self.new.bytes.items ≡ self.old.bytes.items }
+        ensures failed { IfErr result (IsLineFailure table.now event.now source.now.origin.position
+            source.now.row pair.now) }
+        ensures cause { IfErr result IsOfReading }
+    {
+        match long_line_with(self.alloc, &mut self.room, table, event, pair, source) {
+            Ok(line) => Ok(line),
+            Err(reason) => Err(row_failure(source.origin.position, source.row, reason)),
+        }
+    }
+
+    // Writes a row of an event out as a line of JSON, after the lines before it.
+    fn put_long<O: WriteOnce>(
+        &mut self,
+        table: &TableJson,
+        event: &RowsEvent<'_>,
+        pair: &LentPair<'_>,
+        source: &Source<'_>,
+        out: &mut O,
+    ) -> Result<(), Failure>
+        ensures line { OnOk result ((line : List ℕ)
+            × IsLine table.now event.now (members_in source.now) pair.now line
+            × Outputs (O.contents out.old) self.old.bytes.items line (O.contents out.new)
+            self.new.bytes.items) }
+        ensures first { IfErr result (λ why. FailsAtLine
+            (IsLine table.now event.now (members_in source.now) pair.now)
+            (IsLineFailure table.now event.now source.now.origin.position source.now.row pair.now)
+            why (O.contents out.old) self.old.bytes.items (O.contents out.new)
+            self.new.bytes.items) }
+        ensures cause { IfErr result (IsOfEvent O.writes O.flushes) }
+        ensures few { OnOk result (length self.new.bytes.items < 32 * 1024) }
+    {
+        let line = self.long_line(table, event, pair, source)?;
+        let mut room = EscapeRoom::new(self.alloc)?;
+        self.write_long(&line, &mut room, out)
+    }
+
+    // Adds a row of an event as a line of JSON, and writes the lines out if there are many. A row of a large
+    // event is written out by itself.
+    fn put_json<O: WriteOnce>(
+        &mut self,
+        table: &TableJson,
+        event: &RowsEvent<'_>,
+        pair: &LentPair<'_>,
+        source: &Source<'_>,
+        out: &mut O,
+    ) -> Result<(), Failure>
+        ensures line { OnOk result ((line : List ℕ)
+            × IsLine table.now event.now (members_in source.now) pair.now line
+            × Outputs (O.contents out.old) self.old.bytes.items line (O.contents out.new)
+            self.new.bytes.items) }
+        ensures first { IfErr result (λ why. FailsAtLine
+            (IsLine table.now event.now (members_in source.now) pair.now)
+            (IsLineFailure table.now event.now source.now.origin.position source.now.row pair.now)
+            why (O.contents out.old) self.old.bytes.items (O.contents out.new)
+            self.new.bytes.items) }
+        ensures cause { IfErr result (IsOfEvent O.writes O.flushes) }
+        ensures few { OnOk result (length self.old.bytes.items < 32 * 1024
+            → length self.new.bytes.items < 32 * 1024) }
+    {
+        if event.rows_data().len() >= LARGE {
+            return self.put_long(table, event, pair, source, out);
+        }
+        self.add_json(table, event, pair, source)?;
+        self.write_if_full(out)
+    }
+
     // Adds a row of an event as a line of text, which begins with this text.
     fn add_text(&mut self, place: &str, pair: &LentPair<'_>) -> Result<(), AllocError>
         ensures line { OnOk result (self.new.bytes.items
@@ -312,8 +415,7 @@ fn write_json_rows<'f, 'b, S: Bytes + Drop, O: WriteOnce>(
     let mut row: u64 = 0;
     while let Some(read) = changes.next_pair(change, buffer) {
         read?;
-        lines.add_json(table, change.rows(), buffer, &source.at(row))?;
-        lines.write_if_full(out)?;
+        lines.put_json(table, change.rows(), buffer, &source.at(row), out)?;
         row = row.saturating_add(1);
     }
     Ok(row)

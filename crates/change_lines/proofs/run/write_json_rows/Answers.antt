@@ -1,4 +1,4 @@
-use Rattle.std.proofs.Common.{◌≡◌, ℕ, List, [], ◌∷◌, ◌++◌, length, refl, ◌∙◌, subst, arith, length-append, ap}
+use Rattle.std.proofs.Common.{◌≡◌, ℕ, List, [], ◌∷◌, ◌++◌, length, inl, inr, refl, ◌∙◌, subst, arith, length-append, ap}
 use Rattle.mysql_binlog_rows.specs.RowsEvent.{RowsEvent}
 use Rattle.row_json.specs.Columns.{Column, columns_of}
 use Rattle.row_json.specs.Rows.{IsLine}
@@ -11,10 +11,9 @@ use Rattle.change_lines.specs.Failures.{IsLineFailure}
 use Rattle.change_lines.proofs.Pairs.{nothing_read, pair_read, ok_gives, stays, same_table, same_rows, same_origin, counted_more}
 use Rattle.change_lines.proofs.Rows.{line_more}
 use Rattle.change_lines.proofs.Errors.{passed_on}
-use Rattle.change_lines.proofs.Failures.{up_to_more, up_to_line, not_at_row, output_not_file}
-use Rattle.change_lines.proofs.First.{rows_so_far, err_gives, row_error, line_error}
-use Rattle.change_lines.proofs.Outputs.{outputs_nothing, outputs_line, outputs_more}
-use Rattle.change_lines.proofs.Causes.{of_reading}
+use Rattle.change_lines.proofs.Failures.{up_to_more, not_at_row, output_not_file}
+use Rattle.change_lines.proofs.First.{rows_so_far, rows_up_to, err_gives, row_error, line_error}
+use Rattle.change_lines.proofs.Outputs.{outputs_nothing, outputs_more}
 use Rattle.change_lines.proofs.run.write_json_rows.Goals as goal
 
 pub loop-read-init : goal.loop-read-init
@@ -31,14 +30,13 @@ loop-read-preserved g c =
     let p = c.next_pair.new.pair in
     let u = c.in_ok-read.field-0 in
     let gives = ok_gives old new p c.in-Some.read u c.in_ok-read.was c.in-Some.ensures.pair in
-    let added = c.in_ok-add_json.ensures.line in
-    let line = added.0 in
+    let put = c.in_ok-put_json.ensures.line in
+    let line = put.0 in
     let cs = c.args.table.now in
     let source = c.args.source.now in
     let is = subst (λ (x : RowsEvent). IsLine cs x (members_in (source_at source (up_to_most (length h.3)))) p line) (c.rows.ensures ∙ same_rows old new p u gives ∙ h.2)
     (subst (λ (n : ℕ). IsLine cs c.rows.result.now (members_in (source_at source n)) p line) h.7
-    (subst (λ (s : Source). IsLine cs c.rows.result.now (members_in s) p line) c.at.ensures added.1)) in
-    let out = outputs_line (g.O.Write.contents c.loop-read.out) (g.O.Write.contents c.write_if_full.new.out) c.loop-read.lines.bytes.items line c.add_json.new.self.bytes.items c.write_if_full.new.self.bytes.items added.2 c.in_ok-write_if_full.ensures.all in (
+    (subst (λ (s : Source). IsLine cs c.rows.result.now (members_in s) p line) c.at.ensures put.1)) in (
       record {
         walk = stays _ c.in-Some.read u _ _ c.in_ok-read.was c.in-Some.ensures.reading ∙ h.0.walk;
         source = c.in-Some.ensures.source ∙ h.0.source;
@@ -51,10 +49,10 @@ loop-read-preserved g c =
       pair_read e.table e.rows e.left h.3 old new p u h.1 h.2 h.5 gives,
       line_more _ 0 h.3 h.4 p line (length h.3) h.6 (omega arith) is,
       omega (arith, c.saturating_add-row.ensures, h.7, length-append h.3 (p ∷ [])),
-      outputs_more _ _ _ _ c.loop-read.lines.bytes.items _ h.4 line h.8 out,
+      outputs_more _ _ _ _ c.loop-read.lines.bytes.items _ h.4 line h.8 put.2,
       same_origin old new p u gives ∙ h.9,
       counted_more e old new h.3 p u gives h.10,
-      λ few. c.in_ok-write_if_full.ensures.few,
+      λ few. c.in_ok-put_json.ensures.few (h.11 few),
     )
 
 pub returns-in_err-read-clause-first : goal.returns-in_err-read-clause-first
@@ -68,8 +66,8 @@ returns-in_err-read-clause-first g c =
     let fails = row_error e old c.next_pair.new.change (length h.3) p error h.1 h.2 h.9 h.10 gives in
     λ same columns. passed_on _ (failure.File error) _ c.from_residual.ensures.1 (rows_so_far (failure.File error) _ e _ _ _ c.loop-read.lines.bytes.items _ h.3 old.left h.4 h.5 h.6 h.8 refl fails)
 
-pub returns-in_err-add_json-clause-first : goal.returns-in_err-add_json-clause-first
-returns-in_err-add_json-clause-first g c =
+pub returns-in_err-put_json-clause-first : goal.returns-in_err-put_json-clause-first
+returns-in_err-put_json-clause-first g c =
     let h = c.loop-read.invariant in
     let e = c.args.change.now in
     let old = c.loop-read.change in
@@ -77,51 +75,36 @@ returns-in_err-add_json-clause-first g c =
     let p = c.next_pair.new.pair in
     let u = c.in_ok-read.field-0 in
     let gives = ok_gives old new p c.in-Some.read u c.in_ok-read.was c.in-Some.ensures.pair in
-    let why = c.in_err-add_json.field-0.0 in λ same columns.
-    let origin : c.at.result.origin ≡ e.origin = ap (λ (s : Source). s.origin) c.at.ensures ∙ same in
-    let cs = c.args.table.now in
-    let rows = c.rows.ensures ∙ same_rows old new p u gives ∙ h.2 in
-    let number : c.at.result.row ≡ up_to_most (length h.3) = ap (λ (s : Source). s.row) c.at.ensures ∙ h.7 in
-    let failed1 = subst (λ (o : Origin). IsLineFailure cs c.rows.result.now o.position c.at.result.row p why) origin c.in_err-add_json.ensures.failed in
-    let failed2 = subst (λ (d : RowsEvent). IsLineFailure cs d e.origin.position c.at.result.row p why) rows failed1 in
-    let failed3 = subst (λ (k : List Column). IsLineFailure k e.rows e.origin.position c.at.result.row p why) columns failed2 in
-    let failed = subst (λ (n : ℕ). IsLineFailure (columns_of e.table) e.rows e.origin.position n p why) number failed3 in
-    let fails = line_error e old new (length h.3) p u why h.1 h.2 gives failed in
-    passed_on _ why _ c.from_residual-in_err-add_json.ensures.1 (rows_so_far why _ e _ _ _ c.loop-read.lines.bytes.items _ h.3 old.left h.4 h.5 h.6 h.8 c.in_err-add_json.ensures.kept fails)
-
-pub returns-in_err-write_if_full-clause-first : goal.returns-in_err-write_if_full-clause-first
-returns-in_err-write_if_full-clause-first g c =
-    let h = c.loop-read.invariant in
-    let e = c.args.change.now in
-    let old = c.loop-read.change in
-    let new = c.next_pair.new.change in
-    let p = c.next_pair.new.pair in
-    let u = c.in_ok-read.field-0 in
-    let gives = ok_gives old new p c.in-Some.read u c.in_ok-read.was c.in-Some.ensures.pair in
-    let added = c.in_ok-add_json.ensures.line in
-    let line = added.0 in
+    let why = c.in_err-put_json.field-0.0 in
     let cs = c.args.table.now in
     let source = c.args.source.now in
-    let is = subst (λ (x : RowsEvent). IsLine cs x (members_in (source_at source (up_to_most (length h.3)))) p line) (c.rows.ensures ∙ same_rows old new p u gives ∙ h.2)
-    (subst (λ (n : ℕ). IsLine cs c.rows.result.now (members_in (source_at source n)) p line) h.7
-    (subst (λ (s : Source). IsLine cs c.rows.result.now (members_in s) p line) c.at.ensures added.1)) in
-    let why = c.in_err-write_if_full.field-0.0 in
-    let out = up_to_line why _ _ c.loop-read.lines.bytes.items line c.add_json.new.self.bytes.items c.write_if_full.new.self.bytes.items added.2 c.in_err-write_if_full.ensures.first in
-    λ same columns. passed_on _ why _ c.from_residual-in_err-write_if_full.ensures.1 (record {
-      pairs = h.3 ++ p ∷ [];
-      rest = new.left;
-      text = h.4 ++ line;
-      begins = pair_read e.table e.rows e.left h.3 old new p u h.1 h.2 h.5 gives;
-      lines = line_more _ 0 h.3 h.4 p line (length h.3) h.6 (omega arith) is;
-      ends = not_at_row why e (length (h.3 ++ p ∷ [])) new.left (output_not_file why c.in_err-write_if_full.ensures.failed);
-      outputs = up_to_more why _ _ _ _ c.loop-read.lines.bytes.items _ h.4 line h.8 out;
-    })
+    let rows = c.rows.ensures ∙ same_rows old new p u gives ∙ h.2 in λ same columns. passed_on _ why _ c.from_residual-in_err-put_json.ensures.1 (elim c.in_err-put_json.ensures.first [
+      | inl cut ↦
+          let is = subst (λ (x : RowsEvent). IsLine cs x (members_in (source_at source (up_to_most (length h.3)))) p cut.0) rows
+          (subst (λ (n : ℕ). IsLine cs c.rows.result.now (members_in (source_at source n)) p cut.0) h.7
+          (subst (λ (s : Source). IsLine cs c.rows.result.now (members_in s) p cut.0) c.at.ensures cut.1)) in
+          record {
+            pairs = h.3 ++ p ∷ [];
+            rest = new.left;
+            text = h.4 ++ cut.0;
+            begins = pair_read e.table e.rows e.left h.3 old new p u h.1 h.2 h.5 gives;
+            lines = line_more _ 0 h.3 h.4 p cut.0 (length h.3) h.6 (omega arith) is;
+            ends = not_at_row why e (length (h.3 ++ p ∷ [])) new.left (output_not_file why cut.2);
+            outputs = up_to_more why _ _ _ _ c.loop-read.lines.bytes.items _ h.4 cut.0 h.8 cut.3;
+          }
+      | inr none ↦
+          let origin : c.at.result.origin ≡ e.origin = ap (λ (s : Source). s.origin) c.at.ensures ∙ same in
+          let number : c.at.result.row ≡ up_to_most (length h.3) = ap (λ (s : Source). s.row) c.at.ensures ∙ h.7 in
+          let failed1 = subst (λ (o : Origin). IsLineFailure cs c.rows.result.now o.position c.at.result.row p why) origin none.0 in
+          let failed2 = subst (λ (d : RowsEvent). IsLineFailure cs d e.origin.position c.at.result.row p why) rows failed1 in
+          let failed3 = subst (λ (k : List Column). IsLineFailure k e.rows e.origin.position c.at.result.row p why) columns failed2 in
+          let failed = subst (λ (n : ℕ). IsLineFailure (columns_of e.table) e.rows e.origin.position n p why) number failed3 in
+          let fails = line_error e old new (length h.3) p u why h.1 h.2 gives failed in
+          rows_up_to why _ e _ _ _ _ c.loop-read.lines.bytes.items _ h.3 old.left h.4 h.5 h.6 h.8 none.1 fails
+    ])
 
 pub returns-in_err-read-clause-cause : goal.returns-in_err-read-clause-cause
 returns-in_err-read-clause-cause g c = passed_on _ (failure.File c.in_err-read.field-0.0) _ c.from_residual.ensures.1 tt
 
-pub returns-in_err-add_json-clause-cause : goal.returns-in_err-add_json-clause-cause
-returns-in_err-add_json-clause-cause g c = let why = c.in_err-add_json.field-0.0 in passed_on _ why _ c.from_residual-in_err-add_json.ensures.1 (of_reading g.O.WriteOnce.writes g.O.WriteOnce.flushes why c.in_err-add_json.ensures.cause)
-
-pub returns-in_err-write_if_full-clause-cause : goal.returns-in_err-write_if_full-clause-cause
-returns-in_err-write_if_full-clause-cause g c = passed_on _ c.in_err-write_if_full.field-0.0 _ c.from_residual-in_err-write_if_full.ensures.1 c.in_err-write_if_full.ensures.cause
+pub returns-in_err-put_json-clause-cause : goal.returns-in_err-put_json-clause-cause
+returns-in_err-put_json-clause-cause g c = passed_on _ c.in_err-put_json.field-0.0 _ c.from_residual-in_err-put_json.ensures.1 c.in_err-put_json.ensures.cause

@@ -106,6 +106,7 @@ impl<'a> Source<'a> {
     }
 
     // Writes the members of the object.
+    #[inline(always)]
     fn write_members(&self, out: &mut Writer) -> Result<(), AllocError>
         ensures written { OnOk result
             (WroteMembers (λ ms. ms ≡ fields_of self.now) out.old out.new) }
@@ -131,6 +132,7 @@ impl<'a> Members for Source<'a> {
 
     ghost fits = { members_fit };
 
+    #[inline(always)]
     fn write(&self, out: &mut Writer) -> Result<(), AllocError> {
         out.key("source")?;
         out.begin_object()?;

@@ -91,6 +91,7 @@ fn write_bytes(
 
 // Writes a signed number by the kind of its column. The numbers of timestamps and of ENUM values have
 // no sign.
+#[inline(always)]
 fn write_int(out: &mut Writer, column: &ColumnJson, number: i64) -> Result<(), AllocError>
     ensures written { OnOk result (Wrote
         (IsIntJson column.now column.now.kind number) out.old out.new) }
@@ -307,7 +308,7 @@ fn write_decimal(
 }
 
 /// Writes a cell of a column; null for diffs. `text` is room for making texts.
-pub(crate) fn write_cell(
+pub(crate) fn write_cell<const APART: bool>(
     alloc: Global,
     text: &mut String,
     out: &mut Writer,

@@ -89,7 +89,7 @@ impl<'a> Row for LentRow<'a> {
         part: Part,
         column: &ColumnJson,
     ) -> Result<(), Fault> {
-        write_member_of(alloc, text, out, part, column, self.as_ref(index))
+        write_member_of::<false>(alloc, text, out, part, column, self.as_ref(index))
     }
 }
 
@@ -131,10 +131,10 @@ impl Row for BinlogRow {
         column: &ColumnJson,
     ) -> Result<(), Fault> {
         match self.as_ref(index) {
-            None => write_member_of(alloc, text, out, part, column, None),
+            None => write_member_of::<false>(alloc, text, out, part, column, None),
             Some(value) => {
                 let cell = value.lent();
-                write_member_of(alloc, text, out, part, column, Some(&cell))
+                write_member_of::<false>(alloc, text, out, part, column, Some(&cell))
             }
         }
     }

@@ -380,7 +380,7 @@ fn write_member<'a>(
             draft.write_apart(alloc, apart)?;
             Ok(())
         }
-        None => write_member_of(alloc, text, &mut draft.out, Part::Row, column, cell),
+        None => { write_member_of::<true>(alloc, text, &mut draft.out, Part::Row, column, cell) }
     }
 }
 

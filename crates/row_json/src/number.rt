@@ -44,6 +44,7 @@ fn name_of(names: &[Option<String>], number: u64) -> Option<&str>
 }
 
 /// Writes a value of an ENUM: its name, `""` for 0, or else its number.
+#[inline(always)]
 pub(crate) fn write_enum(
     out: &mut Writer,
     names: &[Option<String>],

@@ -106,6 +106,7 @@ fn operation_of<P: Images>(pair: &P) -> &'static str
 }
 
 // Begins the object of a pair with `op`.
+#[inline(always)]
 pub(crate) fn begin_pair<P: Images>(out: &mut Writer, pair: &P) -> Result<(), AllocError>
     ensures written { OnOk result (Adds out.old out.new
         (begin_object ∷ named_tokens (codes "op", string (operation_of (P.pair pair.now))))) }

@@ -31,7 +31,7 @@ pub(crate) enum Part {
 }
 
 // Writes the member of a value; none for diffs.
-fn write_member_of_value(
+fn write_member_of_value<const APART: bool>(
     alloc: Global,
     text: &mut String,
     out: &mut Writer,
@@ -49,14 +49,14 @@ fn write_member_of_value(
         LentCell::Diffs(_) => Ok(()),
         _ => {
             out.key(column.name())?;
-            write_cell(alloc, text, out, column, value)?;
+            write_cell::<APART>(alloc, text, out, column, value)?;
             Ok(())
         }
     }
 }
 
 // Writes the member of a cell; none for diffs. A value that was taken from its row is null.
-fn write_member(
+fn write_member<const APART: bool>(
     alloc: Global,
     text: &mut String,
     out: &mut Writer,
@@ -77,7 +77,7 @@ fn write_member(
             out.null()?;
             Ok(())
         }
-        Some(value) => write_member_of_value(alloc, text, out, column, value),
+        Some(value) => write_member_of_value::<APART>(alloc, text, out, column, value),
     }
 }
 
@@ -135,8 +135,9 @@ pub(crate) fn is_present(present: &BitView<'_>, index: usize) -> bool
     present.get(index).unwrap_or(false)
 }
 
-/// Writes the member of a cell in its row, or in `diffs`.
-pub(crate) fn write_member_of(
+/// Writes the member of a cell in its row, or in `diffs`. `APART` is whether long texts stand apart from
+/// the line: so rows of either kind have code of their own, in which this is inlined.
+pub(crate) fn write_member_of<const APART: bool>(
     alloc: Global,
     text: &mut String,
     out: &mut Writer,
@@ -153,7 +154,7 @@ pub(crate) fn write_member_of(
     ensures stays { AddsSome out.old out.new }
 {
     match part {
-        Part::Row => write_member(alloc, text, out, column, cell),
+        Part::Row => write_member::<APART>(alloc, text, out, column, cell),
         Part::Diffs => write_diffs_member(alloc, text, out, column, cell),
     }
 }

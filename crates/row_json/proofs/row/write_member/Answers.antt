@@ -7,7 +7,7 @@ use Rattle.row_json.proofs.Columns.{one_member}
 use Rattle.row_json.proofs.row.write_member.Goals as goal
 
 pub returns-in_ok-null-in-None-clause-written : goal.returns-in_ok-null-in-None-clause-written
-returns-in_ok-null-in-None-clause-written c =
+returns-in_ok-null-in-None-clause-written g c =
     let name = c.args.column.now.name in
     let key : Adds c.args.out.now c.key.new.self (token.key c.name.result.now ∷ []) = record { before = c.key.ensures.room.0; tokens = c.in_ok-key-in-None.ensures.ok } in
     let value : Adds c.key.new.self c.null.new.self (json_tokens json.null) = record { before = c.null.ensures.room.0; tokens = c.in_ok-null-in-None.ensures.ok } in

@@ -5,7 +5,7 @@ use Rattle.row_json.proofs.Columns.{one_member, member_of_cell}
 use Rattle.row_json.proofs.row.write_member_of_value.Goals as goal
 
 pub returns-in_ok-write_cell-in_default-clause-written : goal.returns-in_ok-write_cell-in_default-clause-written
-returns-in_ok-write_cell-in_default-clause-written c =
+returns-in_ok-write_cell-in_default-clause-written g c =
     let name = c.args.column.now.name in
     let key : Adds c.args.out.now c.key.new.self (token.key c.name.result.now ∷ []) = record { before = c.key.ensures.room.0; tokens = c.in_ok-key-in_default.ensures.ok } in
     let w = c.in_ok-write_cell-in_default.ensures.written in

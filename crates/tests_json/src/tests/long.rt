@@ -61,20 +61,29 @@ fn is_line(
     Ok(line.parts().len() == count && bytes_of(alloc, &line)? == expected)
 }
 
-/// Appends a cell of a TEXT column: some bytes, again and again.
-fn push_cell(
-    alloc: Global,
-    rows: &mut Vec<u8>,
-    bytes: &[u8],
-    times: usize,
-) -> Result<(), AllocError> {
-    let mut cell = Vec::new(alloc);
-    for _ in 0..times {
-        cell.extend_from_slice(bytes)?;
+/// These bytes, one after the other.
+fn joined(alloc: Global, parts: &[&[u8]]) -> Result<Vec<u8>, AllocError> {
+    let mut bytes = Vec::new(alloc);
+    for part in parts {
+        bytes.extend_from_slice(part)?;
     }
-    let len = u16::try_from(cell.len()).unwrap_or(0);
-    rows.extend_from_slice(&len.to_le_bytes())?;
-    rows.extend_from_slice(&cell)
+    Ok(bytes)
+}
+
+/// Some bytes, again and again.
+fn repeated(alloc: Global, bytes: &[u8], times: usize) -> Result<Vec<u8>, AllocError> {
+    let mut all = Vec::new(alloc);
+    for _ in 0..times {
+        all.extend_from_slice(bytes)?;
+    }
+    Ok(all)
+}
+
+/// A cell of a TEXT column: its length in two bytes, and some bytes, again and again.
+fn cell_of(alloc: Global, bytes: &[u8], times: usize) -> Result<Vec<u8>, AllocError> {
+    let text = repeated(alloc, bytes, times)?;
+    let len = u16::try_from(text.len()).unwrap_or(0).to_le_bytes();
+    joined(alloc, &[&len, &text])
 }
 
 /// Two TEXT columns with a TINY one between them: the collations, the bytes of both texts, how often each
@@ -86,27 +95,54 @@ pub(super) struct Case {
     apart: usize,
 }
 
-/// Whether the line of a row of a case is right, and that of the update from this row to one with a NULL.
+/// The cells of the row of a case.
+fn cells_of(alloc: Global, case: &Case) -> Result<Vec<u8>, AllocError> {
+    let first = cell_of(alloc, case.texts[0], case.times[0])?;
+    let second = cell_of(alloc, case.texts[1], case.times[1])?;
+    joined(alloc, &[&first, b"\xff", &second])
+}
+
+/// Whether the line of an insert of these cells is right, of which so many texts stand apart.
+fn is_inserted(
+    alloc: Global,
+    table: &TableMapEvent<'_>,
+    cells: &[u8],
+    count: usize,
+) -> Result<bool, Fault> {
+    let rows = joined(alloc, &[b"\x01\0\0\0\0\0\x01\0\x02\0\x03\x07\0", cells])?;
+    let event = read(&rows, EventType::WRITE_ROWS_EVENT)?;
+    is_line(alloc, table, &event, count)
+}
+
+/// The same of an update from a row of these cells to one with two NULLs.
+fn is_updated(
+    alloc: Global,
+    table: &TableMapEvent<'_>,
+    cells: &[u8],
+    count: usize,
+) -> Result<bool, Fault> {
+    let rows = joined(
+        alloc,
+        &[
+            b"\x01\0\0\0\0\0\x01\0\x02\0\x03\x07\x07\0",
+            cells,
+            b"\x05\x07",
+        ],
+    )?;
+    let event = read(&rows, EventType::UPDATE_ROWS_EVENT)?;
+    is_line(alloc, table, &event, count)
+}
+
+/// The table map event of the three columns, up to the collations of the TEXT columns.
+const TABLE: &[u8] = b"\x01\0\0\0\0\0\x01\0\x01d\0\x01t\0\x03\xfc\x01\xfc\x02\x02\x02\x07\x03\x02";
+
+/// Whether the lines of a case are right.
 pub(super) fn is_right(alloc: Global, case: &Case) -> Result<bool, Fault> {
-    let mut table =
-        b"\x01\0\0\0\0\0\x01\0\x01d\0\x01t\0\x03\xfc\x01\xfc\x02\x02\x02\x07\x03\x02".to_vec(
-            alloc,
-        )?;
-    table.extend_from_slice(&case.collations)?;
-    let table: TableMapEvent<'_> = ParseBuf(table.as_slice()).parse(8)?;
-    let mut cells = Vec::new(alloc);
-    push_cell(alloc, &mut cells, case.texts[0], case.times[0])?;
-    cells.push(0xff)?;
-    push_cell(alloc, &mut cells, case.texts[1], case.times[1])?;
-    let mut rows = b"\x01\0\0\0\0\0\x01\0\x02\0\x03\x07\0".to_vec(alloc)?;
-    rows.extend_from_slice(&cells)?;
-    let inserted = read(&rows, EventType::WRITE_ROWS_EVENT)?;
-    let is_inserted = is_line(alloc, &table, &inserted, case.apart)?;
-    let mut rows = b"\x01\0\0\0\0\0\x01\0\x02\0\x03\x07\x07\0".to_vec(alloc)?;
-    rows.extend_from_slice(&cells)?;
-    rows.extend_from_slice(b"\x05\x07")?;
-    let updated = read(&rows, EventType::UPDATE_ROWS_EVENT)?;
-    Ok(is_inserted && is_line(alloc, &table, &updated, case.apart)?)
+    let table = joined(alloc, &[TABLE, &case.collations])?;
+    let table: TableMapEvent<'_> = ParseBuf(&table).parse(8)?;
+    let cells = cells_of(alloc, case)?;
+    let is_right = is_inserted(alloc, &table, &cells, case.apart)?;
+    Ok(is_right && is_updated(alloc, &table, &cells, case.apart)?)
 }
 
 /// All bytes from 0 to 31, and those that have another escape.

@@ -6,8 +6,8 @@ usage: scripts/edits.py [NAME..]
        scripts/edits.py --fits
 
 It tries those of the crates that are named, or of all. The crates' libraries are those that `rt ci` leaves in crates/NAME/out. With --follow the
-output of `rt ci` comes on standard input, and the edits of a crate, which are in its folder FOLDER, are tried once it is proved: those of two crates
-side by side as long as `rt ci` runs, and then of JOBS; else of as many as there are processors, up to four. With --fits nothing is tried: the status
+output of `rt ci` comes on standard input, and the edits of a crate, which are in its folder FOLDER, are tried once it is proved or its proof was kept:
+those of two crates side by side as long as `rt ci` runs, and then of JOBS; else of as many as there are processors, up to four. With --fits nothing is tried: the status
 is 0 if the kit is one that this script knows, else 1.
 
 `rt must-fail` checks the whole crate for each edit, and most of such a check is the same each time. Here the edits of a crate that change different
@@ -270,9 +270,9 @@ def followed(lines, trials):
         function = re.fullmatch(r"fn ((\w+)::\S+): proved", line)
         if function and function[2] in trials:
             trials[function[2]].known.append(function[1])
-        elif re.match(r"rt: .*(proved|NOT PROVED)$", line):
+        elif re.match(r"rt: .*(proved|NOT PROVED|is kept: .*)$", line):
             print(line, flush=True)
-        found = re.fullmatch(r"rt: (\w+) proved", line)
+        found = re.fullmatch(r"rt: (\w+) (?:proved|is kept: .*)", line)
         if found and found[1] in trials:
             yield found[1]
 
@@ -309,8 +309,12 @@ def main():
     for trial, ran in tried:
         ran.result()
         print("\n".join(trial.lines))
-    failed = sum(trial.failed for trial, _ in tried)
-    print(f"{sum(len(trial.edits) for trial, _ in tried) - failed} passed, {failed} failed")
+    untried = [it for it in trials if follows and trials[it] not in [trial for trial, _ in tried]]
+    for name in untried:
+        print(f"{name}: its must-fail edits were not tried, because it was not proved")
+    failed = sum(trial.failed for trial, _ in tried) + len(untried)
+    passed = sum(len(trial.edits) - trial.failed for trial, _ in tried)
+    print(f"{passed} passed, {failed} failed")
     return 1 if failed else 0
 
 

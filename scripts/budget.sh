@@ -19,7 +19,7 @@ budget=$here/bench/budget.txt
 # Writes the figures of a line into the file NAME.figures, or what is wrong with its run into NAME.failed. The arguments are its name, PROGRAM,
 # PROGRAM:FUNCTION or PROGRAM:FUNCTION-OTHER.., and its words.
 count() {
-    local name=$1 program=${2%%:*} call=() words=() status=0
+    local name=$1 program=${2%%:*} call=() words=() status=0 input=/dev/null
     if [ "$program" != "$2" ]; then
         IFS=- read -ra call <<<"${2#*:}"
         call=("${call[@]/#/--toggle-collect=*}")
@@ -28,16 +28,17 @@ count() {
     for word in "${@:3}"; do
         case $word in
         @*) mapfile -t -O ${#words[@]} words <"${word#@}" ;;
+        \<*) input=${word#<} ;;
         *) words+=("$word") ;;
         esac
     done
     local run=("$here/crates/$program/out/$program" "${words[@]}")
-    FAIL_SHOW=1 LD_PRELOAD=./refuse.so "${run[@]}" >"$name.out" 2>"$name.err" || status=$?
+    FAIL_SHOW=1 LD_PRELOAD=./refuse.so "${run[@]}" <"$input" >"$name.out" 2>"$name.err" || status=$?
     if [ "$status" -ne 0 ] || grep -qE "^(usage|$program )" "$name.out"; then
         echo "status $status, $(cat "$name.out" "$name.err" | head -c 500)" >"$name.failed"
         return
     fi
-    valgrind --tool=callgrind --callgrind-out-file=/dev/null "${call[@]}" "${run[@]}" >/dev/null 2>"$name.log"
+    valgrind --tool=callgrind --callgrind-out-file=/dev/null "${call[@]}" "${run[@]}" <"$input" >/dev/null 2>"$name.log"
     local instructions requests
     instructions=$(sed -n 's/^==[0-9]*== Collected : //p' "$name.log")
     requests=$(sed -n 's/^requests //p' "$name.err")

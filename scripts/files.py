@@ -15,7 +15,8 @@ Then copies of each file of at most 20,000 bytes are read:
   the in-use flag of the description, or one of its version by which the server is another; without checksums, no more than that the program
   goes on;
 - with two events swapped: the same events are read, unless a rows event comes before its table;
-- with an event's size set to 0, 18, 19 and 2^32-1: an error at that event.
+- with an event's size set to 0, 18, 19 and 2^32-1: an error at that event; with 19, by which an event of a file without checksums has no body, the
+  changes before it, and no error before it.
 
 The caller is written into a copy of the repository in place of the program `rows`, proved and built by `rt run`; the gate doesn't run it. It
 reads each file four times, which have to give the same: from memory and from a source, with rows that are owned and with rows that are lent. It
@@ -358,7 +359,7 @@ def run(program, files):
             answer = subprocess.run([program, "lines", *names], capture_output=True)
             if answer.returncode != 0:
                 sys.exit(f"status {answer.returncode}: {answer.stderr[-2000:]}")
-            given += parse(answer.stdout.decode())
+            given += parse(answer.stdout.decode(errors="surrogateescape"))
     if len(given) != 2 * len(files):
         sys.exit(f"{len(given)} of {2 * len(files)} readings")
     for number, (memory, source) in enumerate(zip(given[::2], given[1::2])):
@@ -369,7 +370,8 @@ def run(program, files):
 
 def parse(text):
     given, changes, error = [], [], None
-    for line in text.splitlines():
+    # (a damaged name may have any character at which `splitlines` ends a line)
+    for line in text.removesuffix("\n").split("\n"):
         words = line.split(" ")
         if line == "end":
             given.append((changes, error))
@@ -422,7 +424,7 @@ def damaged(data):
         for size in (0, 18, 19, 2**32 - 1):
             copy = bytearray(data)
             struct.pack_into("<I", copy, at + 9, size)
-            yield "size", bytes(copy), at
+            yield "no body" if size == 19 else "size", bytes(copy), at
 
 
 def check_damaged(program, name, data, whole, has_checksums):
@@ -435,8 +437,10 @@ def check_damaged(program, name, data, whole, has_checksums):
             size = struct.unpack_from("<I", data, at + 9)[0]
             missing = at + (19 if len(copy) < at + 19 else size) - len(copy)
             fine = error == (at, f"Cut({missing})") and changes == before
-        elif what == "size" or what == "bit" and has_checksums:
+        elif what == "size" or what in ("bit", "no body") and has_checksums:
             fine = error is not None and error[0] == at and changes == before
+        elif what == "no body":
+            fine = changes[: len(before)] == before and (error is None or error[0] >= at)
         elif what == "swap":
             fine = error is None or "UnknownTable" in error[1] or error[0] >= at
         if not fine:

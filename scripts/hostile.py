@@ -1,7 +1,8 @@
 #!/usr/bin/env python3
-"""Runs the built program on COUNT made-up inputs, and checks what must hold of every input.
+"""Runs the built program on COUNT made-up inputs, and checks what must hold of every input. Or runs `changes` on files that could be slow.
 
 usage: scripts/hostile.py SEED COUNT [FIRST]
+       scripts/hostile.py --slow PROGRAM
 
 Input N of a seed is always the same, whatever COUNT is; FIRST is the first N, 0 if left out. With COUNT 1 the words of the input are printed too.
 Some inputs are intact, and must end with status 0 and all their pairs. The others are damaged: cut, with flipped bits, with other counts and
@@ -12,6 +13,12 @@ Python, which starts it; every line has a form of docs/PROGRAM.md; there is at m
 `Memory`; there are at most as many lines of pairs as the rows data has bytes, so with the fault at most one line more. Where the rows event is cut
 before its rows data, this has no bytes. The script prints each input that breaks one of these, and then how many inputs ended with each status; its
 own status is 1 where one broke, and 2 where there is no program. Build the program with `rt run` in crates/rows first.
+
+With --slow PROGRAM is the built `changes` (crates/changes/out/changes). scripts/hostile_files.py makes files of at most 128 KiB and of at most 1 MiB,
+on which it could take much longer than their length says: tables of which hardly a column is in an image, images that alternate, many events beside a
+large table map event. `changes` reads each as JSON, as text and with `--count`. No file of 128 KiB may take more than 2 seconds of the processor, and
+none of 1 MiB more than 4, beside a second for each 100 MB that is printed. What is slow still stands in a list there, with the reason: it is told, and
+is no failure. It prints a line for each run, and last how many there were and how many went wrong. That takes two minutes.
 """
 import os
 import random
@@ -20,6 +27,8 @@ import resource
 import subprocess
 import sys
 import time
+
+import hostile_files
 
 PROGRAM = os.path.join(os.path.dirname(os.path.abspath(__file__)), "..", "crates", "rows", "out", "rows")
 MOST_SECONDS = 2
@@ -534,12 +543,19 @@ def make(seed, number):
     return words, rows_data_len(rows, event_type, lengths), pairs
 
 
+def need(program, crate):
+    if not os.access(program, os.X_OK):
+        print(f"{program} is not built: run 'rt run' in crates/{crate} first", file=sys.stderr)
+        sys.exit(2)
+
+
 def main():
     if len(sys.argv) not in (3, 4):
         sys.exit(__doc__)
-    if not os.access(PROGRAM, os.X_OK):
-        print(f"{PROGRAM} is not built: run 'rt run' in crates/rows first", file=sys.stderr)
-        sys.exit(2)
+    if sys.argv[1] == "--slow":
+        need(sys.argv[2], "changes")
+        sys.exit(1 if hostile_files.main(sys.argv[2]) else 0)
+    need(PROGRAM, "rows")
     seed, count, first = int(sys.argv[1]), int(sys.argv[2]), int(sys.argv[3]) if sys.argv[3:] else 0
     ended, broken, slowest = {}, 0, 0.0
     for number in range(first, first + count):

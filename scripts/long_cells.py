@@ -53,7 +53,7 @@ def write_file(path, collation, cell, count):
     with open(path, "wb") as out:
         file = make_file.File(out, None)
         file.event(0x13, head + table)
-        file.event(0x17, head + make_file.number(count) + make_file.first_bits(count, count) + row)
+        file.event(0x17, head + make_file.number(count) + make_file.bits(range(count), count) + row)
 
 
 def main():

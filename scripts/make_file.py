@@ -1,7 +1,7 @@
 #!/usr/bin/env python3
-"""Writes a binlog file of ROWS inserted rows of twelve columns, as a MariaDB server writes it, with checksums.
+"""Writes a binlog file of ROWS inserted or updated rows of twelve columns, as a MariaDB server writes it, with checksums.
 
-usage: scripts/make_file.py ROWS OUT [single [TABLES [random]]] [--columns COUNT] [--width COUNT] [--present COUNT] [--plain] [--once]
+usage: scripts/make_file.py ROWS OUT [single [TABLES [random]]] [--columns COUNT] [--width COUNT] [--present COUNT] [--updates] [--plain] [--once]
        scripts/make_file.py ROWS OUT --event LETTERS [--full]
 
 The rows are in rows events of at most 8 KB, 10,000 rows a statement. With `single` each row is a statement of its own: a table map event and a
@@ -16,6 +16,8 @@ For wide tables:
 --columns COUNT   so many columns in each table, those after the twelfth INT
 --width COUNT     so many columns in each rows event, if not as many as in its table
 --present COUNT   so many columns in the image, the first ones, if not all
+--updates         updates in place of inserts, as with the row image MINIMAL: the key alone is in the image before, and the other columns of the image
+                  in that after
 --plain           no optional metadata
 --once            all tables are mapped once, at the beginning, and all rows events are of one statement
 
@@ -98,12 +100,18 @@ COLUMNS = [
 
 @dataclass(frozen=True)
 class Shape:
-    """What the tables and their rows events have: the columns of a table, those of a rows event, and the first ones, which are in the image."""
+    """What the tables and their rows events have: the columns of a table, those of a rows event, the first ones, which are in its images, and whether
+    it has the key in one image and the others in a second one."""
 
     columns: int
     width: int
     present: int
     has_metadata: bool
+    is_update: bool = False
+
+    def images(self):
+        """The columns of each image."""
+        return [range(1), range(1, self.present)] if self.is_update else [range(self.present)]
 
 
 def number(value):
@@ -113,9 +121,9 @@ def number(value):
     return b"\xfc" + value.to_bytes(2, "little") if value < 2**16 else b"\xfd" + value.to_bytes(3, "little")
 
 
-def first_bits(count, of):
-    """A bitmap of so many bits, of which the first ones are set."""
-    return ((1 << count) - 1).to_bytes((of + 7) // 8, "little")
+def bits(places, of):
+    """A bitmap of so many bits, of which those of a range are set."""
+    return ((1 << places.stop) - (1 << places.start)).to_bytes((of + 7) // 8, "little")
 
 
 def field(kind, value):
@@ -155,15 +163,22 @@ def name_of(table):
     return b"items%d" % table if table else b"items"
 
 
-def row(key, random, shape):
-    count = shape.present
-    nulls, cells = (1 << (count + 7) // 8 * 8) - (1 << count), key.to_bytes(4, "little")
-    for place in range(1, count):
-        if next(random) % 10 == 0:
-            nulls |= 1 << place
+def image(places, key, random):
+    """An image of these columns: a bit for each, set if it is NULL, and the cells of the others."""
+    count = len(places)
+    nulls, cells = (1 << (count + 7) // 8 * 8) - (1 << count), b""
+    for bit, place in enumerate(places):
+        if place == 0:
+            cells += key.to_bytes(4, "little")
+        elif next(random) % 10 == 0:
+            nulls |= 1 << bit
         else:
             cells += COLUMNS[place][2](random) if place < len(COLUMNS) else next(random).to_bytes(4, "little")
     return nulls.to_bytes((count + 7) // 8, "little") + cells
+
+
+def row(key, random, shape):
+    return b"".join(image(places, key, random) for places in shape.images())
 
 
 class File:
@@ -188,14 +203,14 @@ class File:
 
     def rows(self, table, rows, is_last):
         """Rows events of a table, of at most EVENT_SIZE bytes if they have more than one row; the last may end the statement."""
-        head = number(self.shape.width) + first_bits(self.shape.present, self.shape.width)
+        head = number(self.shape.width) + b"".join(bits(places, self.shape.width) for places in self.shape.images())
         room = EVENT_SIZE - 19 - 4 - 8 - len(head)
         while rows:
             data = bytearray()
             while rows and (not data or len(data) + len(rows[0]) <= room):
                 data += rows.pop(0)
             flags = b"\1\0" if is_last and not rows else b"\0\0"
-            self.event(0x17, table_id(table).to_bytes(6, "little") + flags + head + data)
+            self.event(0x18 if self.shape.is_update else 0x17, table_id(table).to_bytes(6, "little") + flags + head + data)
 
     def end(self, number):
         """An XID event."""
@@ -212,6 +227,7 @@ def words():
     parser.add_argument("--columns", type=int, default=len(COLUMNS))
     parser.add_argument("--width", type=int)
     parser.add_argument("--present", type=int)
+    parser.add_argument("--updates", action="store_true")
     parser.add_argument("--plain", action="store_true")
     parser.add_argument("--once", action="store_true")
     parser.add_argument("--event")
@@ -243,7 +259,7 @@ def main():
     if said.event:
         return write_event(said)
     width = said.width or said.columns
-    shape = Shape(said.columns, width, min(said.present or width, width), not said.plain)
+    shape = Shape(said.columns, width, min(said.present or width, width), not said.plain, said.updates)
     step = 1 if said.single else ROWS_OF_A_STATEMENT
     random, tables = numbers(), order(said.tables, said.order == "random")
     with open(said.out, "wb") as out:

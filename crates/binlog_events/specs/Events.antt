@@ -120,16 +120,18 @@ abbrev pub is_plain : Raw → Bool
 is_plain r = not (nat_eq r.header.event_type 0x0F) && not (nat_eq r.header.event_type 0x13)
 
 -- events that hold rows, or hide them, and aren't read: the rows events of MySQL before 5.1.16, a
--- compressed transaction, MariaDB's START_ENCRYPTION_EVENT and its compressed rows events
+-- compressed transaction, and MariaDB's compressed rows events
 abbrev pub has_unread_rows : ℕ → Bool
-has_unread_rows type = (nat_lt 0x13 type && nat_lt type 0x17) || nat_eq type 0x28 || nat_eq type 0xA4 || (nat_lt 0xA5 type && nat_lt type 0xAC)
+has_unread_rows type = (nat_lt 0x13 type && nat_lt type 0x17) || nat_eq type 0x28 || (nat_lt 0xA5 type && nat_lt type 0xAC)
 
 -- the types of MySQL up to GTID_TAGGED_LOG_EVENT, and MariaDB's ANNOTATE_ROWS_EVENT,
 -- BINLOG_CHECKPOINT_EVENT, GTID_EVENT, GTID_LIST_EVENT and QUERY_COMPRESSED_EVENT
 abbrev pub is_known : ℕ → Bool
 is_known type = nat_lt type 0x2B || (nat_lt 0x9F type && nat_lt type 0xA4) || nat_eq type 0xA5
 
--- whether the event can be read, or passed over
+-- Whether the event can be read, or passed over. MariaDB's START_ENCRYPTION_EVENT (0xA4), after which a
+-- file is encrypted, is passed over with the flag LOG_EVENT_IGNORABLE_F alone: so a server writes it to a
+-- client, and the rest plain.
 abbrev pub is_supported : Header → Bool
 is_supported h = not (has_unread_rows h.event_type) && (is_known h.event_type || is_ignorable h)
 

@@ -36,7 +36,7 @@ impl<'a> Model for FormatDescriptionEvent<'a> {
 }
 
 /// A format description event that owns its bytes.
-#[derive(Drop)]
+#[derive(Debug, Drop)]
 pub struct OwnedDescription {
     server: Server,
     server_version: Vec<u8>,

@@ -14,6 +14,10 @@ pub enum EventError {
     /// The file begins with `FD 62 69 6E`, as encrypted binlog files do.
     #[error("the binlog file is encrypted")]
     Encrypted,
+    /// The bytes are no checkpoint: they don't begin with `FE 62 69 6E`, an event in them can't be
+    /// read, the first isn't a format description event, or one holds rows.
+    #[error("not a checkpoint")]
+    NotACheckpoint,
     /// No format description event comes before this event, and it is no `ROTATE_EVENT`.
     #[error("no format description event")]
     NoDescription,

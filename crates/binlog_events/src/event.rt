@@ -18,9 +18,7 @@ use crate::description::FormatDescriptionEvent;
 use crate::error::EventError;
 use crate::header::BinlogEventHeader;
 use crate::origin::Origin;
-use crate::types::{
-    FORMAT_DESCRIPTION, ROTATE, START_ENCRYPTION, TABLE_MAP, TRANSACTION_PAYLOAD, WRITE_ROWS,
-};
+use crate::types::{FORMAT_DESCRIPTION, ROTATE, TABLE_MAP, TRANSACTION_PAYLOAD, WRITE_ROWS};
 use crate::version::knows_checksums;
 use binlog_base::below::{MyDeserialize, ParseBuf, Server};
 use binlog_consts::consts::EventType;
@@ -30,7 +28,7 @@ use mysql_binlog_rows::rows_event::RowsEventCtx;
 use std::marker::Model;
 
 /// The bytes of an event: those of the header, and those after it.
-#[derive(Drop)]
+#[derive(Debug, Drop)]
 pub struct Raw<'a> {
     head: &'a [u8],
     header: BinlogEventHeader,
@@ -103,12 +101,14 @@ impl<'a> Raw<'a> {
 /// What the changes of a file need of an event: where it begins, its header, what is needed to read it
 /// as a rows event, if it is one, and its body.
 #[derive(Drop)]
+#[derive_where(Debug)]
 pub struct Glance<'a> {
     /// Where the event begins in the file.
     pub position: u64,
     /// The event's header.
     pub header: BinlogEventHeader,
     /// What is needed to read the body as that of a rows event; none if the event is of another type.
+    #[derive_where(skip(Debug))]
     pub rows: Option<RowsEventCtx>,
     /// The bytes after the header, without a checksum.
     pub body: &'a [u8],
@@ -160,7 +160,7 @@ impl BinlogEventFooter {
 }
 
 /// The body of an event, and what the event ends with.
-#[derive(Drop)]
+#[derive(Debug, Drop)]
 pub struct Parts<'a> {
     body: &'a [u8],
     footer: BinlogEventFooter,
@@ -321,11 +321,13 @@ pub fn parts_of<'a>(has_checksum: bool, raw: &Raw<'a>) -> Result<Parts<'a>, Even
 /// An event of a file: its header, its body, and the checksum after it; and what the body says if
 /// it is a format description event or a table map event.
 #[derive(Drop)]
+#[derive_where(Debug)]
 pub struct Event<'a> {
     position: u64,
     header: BinlogEventHeader,
     body: &'a [u8],
     footer: BinlogEventFooter,
+    #[derive_where(skip(Debug))]
     rows: Option<RowsEventCtx>,
     description: Option<FormatDescriptionEvent<'a>>,
     table: Option<TableMapEvent<'a>>,
@@ -425,7 +427,7 @@ fn with_table<'a>(
 fn has_unread_rows(event_type: u8) -> bool
     ensures { result ≡ Spec.has_unread_rows event_type }
 {
-    matches!(event_type, 0x14..=0x16 | TRANSACTION_PAYLOAD | START_ENCRYPTION | 0xa6..=0xab)
+    matches!(event_type, 0x14..=0x16 | TRANSACTION_PAYLOAD | 0xa6..=0xab)
 }
 
 // Returns whether a server writes events of the type.
@@ -475,11 +477,13 @@ fn rows_ctx(description: &FormatDescriptionEvent<'_>, number: u8) -> Option<Rows
 /// An event that is neither a format description nor a table map event. It is smaller than an
 /// `Event`, so that the many events that are passed over cost less.
 #[derive(Drop)]
+#[derive_where(Debug)]
 pub struct PlainEvent<'a> {
     position: u64,
     header: BinlogEventHeader,
     body: &'a [u8],
     footer: BinlogEventFooter,
+    #[derive_where(skip(Debug))]
     rows: Option<RowsEventCtx>,
 }
 

@@ -19,3 +19,4 @@ pub mod SourceAsked
 pub mod Headers
 pub mod Moved
 pub mod Checkpointed
+pub mod StoredRead

@@ -1,6 +1,6 @@
 -- The layout of an event doesn't depend on its position, and that of a format description neither on the
 -- description before it.
-use Rattle.std.proofs.Common.{◌≡◌, ◌⊎◌, ℕ, nat_eq, Bool, true, false, List, length, Option, Some, None, refl, sym, ap, subst, ◌∙◌, inl, inr, arith}
+use Rattle.std.proofs.Common.{◌≡◌, ◌⊎◌, ℕ, nat_eq, Bool, true, false, List, length, Option, Some, None, is_some, refl, sym, ap, subst, ◌∙◌, inl, inr, arith}
 use Rattle.std.proofs.lemmas.Bool.Decides.{nat_tests}
 use Rattle.std.specs.Bool.{MatchBool}
 use Rattle.binlog_base.specs.Format.{FormatOf, all_of, map_value, map_fault}
@@ -53,21 +53,23 @@ pub record Describes (y : List ℕ) (e : Event) (x : Description) : Type 0 where
   pub rows : e.rows ≡ None
   pub anywhere : (to : ℕ) (d : Option Description) → (event to d).spells y (placed to e)
 
--- a table map event
-pub record Maps (e : Event) (t : TableMap) : Type 0 where
+-- a table map event, which comes after a description
+pub record Maps (d : Option Description) (e : Event) (t : TableMap) : Type 0 where
   pub description : e.description ≡ None
   pub table : e.table ≡ Some t
   pub rows : e.rows ≡ None
   pub not_gtid : is_gtid e.header.event_type ≡ false
+  pub described : is_some d ≡ true
 
--- any other event
-pub record IsPlain (e : Event) : Type 0 where
+-- any other event; a GTID event comes after a description
+pub record IsPlain (d : Option Description) (e : Event) : Type 0 where
   pub description : e.description ≡ None
   pub table : e.table ≡ None
   pub rows : is_gtid e.header.event_type ≡ true → e.rows ≡ None
+  pub described : is_gtid e.header.event_type ≡ true → is_some d ≡ true
 
-abbrev pub Kind : List ℕ → Event → Type 0
-Kind y e = ((x : Description) × Describes y e x) ⊎ (((t : TableMap) × Maps e t) ⊎ IsPlain e)
+abbrev pub Kind : Option Description → List ℕ → Event → Type 0
+Kind d y e = ((x : Description) × Describes y e x) ⊎ (((t : TableMap) × Maps d e t) ⊎ IsPlain d e)
 
 same_checksum : (r : Raw) (c d : Option Description) → is_description r ≡ true → has_checksum c r ≡ has_checksum d r
 same_checksum r None None is = refl
@@ -81,16 +83,20 @@ gtid_rows n is = grind (arith, nat_tests)
 not_gtid : (n : ℕ) → nat_eq n 0x13 ≡ true → is_gtid n ≡ false
 not_gtid n is = grind (arith, nat_tests)
 
+rotate_gtid : (n : ℕ) → nat_eq n 0x04 ≡ true → is_gtid n ≡ true → false ≡ true
+rotate_gtid n is gtid = grind (arith, nat_tests)
+
 no_rows : (d : Description) (n : ℕ) → is_gtid n ≡ true → rows_ctx d n ≡ None
 unfolding rows_ctx
 no_rows d n is = rw (gtid_rows n is) refl
 
-kind_of_other : (at : ℕ) (d : Option Description) (h : Header) (p : Parts) (y : List ℕ) (e : Event) → (other_event at d h p).spells y e → ((t : TableMap) × Maps e t) ⊎ IsPlain e
+kind_of_other : (at : ℕ) (d : Option Description) (h : Header) (p : Parts) (y : List ℕ) (e : Event) → (other_event at d h p).spells y e → ((t : TableMap) × Maps d e t) ⊎ IsPlain d e
 kind_of_other at None h p y e s = inr (match_with (is_rotate h)
     (λ is q. record {
       description = ap (λ (x : Event). x.description) q.1;
       table = ap (λ (x : Event). x.table) q.1;
       rows = λ gtid. ap (λ (x : Event). x.rows) q.1;
+      described = λ gtid. rotate_gtid h.event_type is (subst (λ (x : Header). is_gtid x.event_type ≡ true) (ap (λ (x : Event). x.header) q.1) gtid);
     })
     (λ is q. absurd q)
     s)
@@ -104,6 +110,7 @@ kind_of_other at (Some d) h p y e s = match_with (nat_eq h.event_type 0x13)
         table = ap (λ (x : Event). x.table) q.5.1;
         rows = ap (λ (x : Event). x.rows) q.5.1;
         not_gtid = rw head (not_gtid h.event_type is);
+        described = refl;
       },
     ))
     (λ not_table s. match_with (is_supported h)
@@ -113,11 +120,12 @@ kind_of_other at (Some d) h p y e s = match_with (nat_eq h.event_type 0x13)
       description = ap (λ (x : Event). x.description) q.1;
       table = ap (λ (x : Event). x.table) q.1;
       rows = λ gtid. ap (λ (x : Event). x.rows) q.1 ∙ no_rows d h.event_type (subst (λ (x : Header). is_gtid x.event_type ≡ true) head gtid);
+      described = λ gtid. refl;
     }))
     (λ is q. absurd q) s)
     s
 
-pub kind_of : (at : ℕ) (d : Option Description) (y : List ℕ) (e : Event) → (event at d).spells y e → Kind y e
+pub kind_of : (at : ℕ) (d : Option Description) (y : List ℕ) (e : Event) → (event at d).spells y e → Kind d y e
 unfolding event
 kind_of at d y e s =
     let r = s.0 in

@@ -121,6 +121,12 @@ pub record ReaderGives (old : Option (List ℕ)) (r : Reading) (result : Result 
   pub over : r.is_over ≡ true → (result ≡ Ok None) × (s ≡ r) × (new ≡ old)
   pub ended : IsTrue s.is_over ↔ ((r.is_over ≡ true) ⊎ IsErr result)
 
+-- the type of the event that was read last: that of the one that was read now, if one was
+abbrev pub last_type_after : {E A : Type 0} → (A → ℕ) → Option ℕ → Result (Option A) E → Option ℕ
+last_type_after type last (Ok (Some a)) = Some (type a)
+last_type_after type last (Ok None) = last
+last_type_after type last (Err e) = last
+
 -- the reader isn't at its end, and neither at the greatest position
 abbrev pub MayGoOn : Reading → Type 0
 MayGoOn r = (r.is_over ≡ false) × (r.kept.at < 2 ^ 64 - 1)

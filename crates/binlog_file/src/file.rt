@@ -6,6 +6,7 @@ ghost use Rattle.binlog_file.specs.Events.{is_binlog, magic};
 ghost use Rattle.binlog_file.specs.Events as Events;
 ghost use Rattle.binlog_file.specs.Stream as Spec;
 ghost use Rattle.binlog_file.specs.TableMaps.{most_kept};
+ghost use Rattle.binlog_file.specs.Checkpoints.{RestoresAt, IsRefused};
 ghost use Rattle.binlog_file.specs.Workings.Readers.{kept_by, reading_of};
 
 use crate::error::{EventError, FileError};
@@ -107,6 +108,27 @@ impl<S: Source + Drop> BinlogFile<S> {
         }
     }
 
+    /// Returns the file that goes on after a checkpoint, as `EventStreamReader::resume` does, over a source
+    /// whose next bytes are those of the file at this position.
+    ///
+    /// Fails as that does. Nothing is read of the source.
+    pub fn resume(
+        alloc: Global,
+        source: S,
+        checkpoint: &[u8],
+        position: u64,
+    ) -> Result<BinlogFile<S>, FileError>
+        ensures source { IfOk result (λ f. f.source ≡ source) }
+        ensures kept { IfOk result (λ f. RestoresAt checkpoint.now position (kept_by f.reader.kept)) }
+        ensures err { IfErr result (λ e. (e.position ≡ 0) × IsRefused checkpoint.now e.error) }
+        ensures goes_on { IfOk result (λ f. f.reader.is_over ≡ false) }
+        ensures last { IfOk result (λ f. f.reader.last_type ≡ None) }
+        ensures most { IfOk result (λ f. most_kept f.reader.kept.tables ≡ 8 * 1024 * 1024) }
+    {
+        let reader = EventStreamReader::resume(alloc, checkpoint, position)?;
+        Ok(BinlogFile { source, reader })
+    }
+
     /// Returns the reader: where it is, and the table map events that are in force.
     pub fn reader(&self) -> &EventStreamReader
         ensures { result.now ≡ self.now.reader }
@@ -118,6 +140,8 @@ impl<S: Source + Drop> BinlogFile<S> {
     pub fn read<'b>(&mut self, buffer: &'b mut EventBuffer) -> Result<Option<Event<'b>>, FileError>
         ensures gives { Spec.ReaderGives (S.remaining self.old.source) (reading_of self.old.reader) result
             (S.remaining self.new.source) (reading_of self.new.reader) }
+        ensures last { self.new.reader.last_type
+            ≡ Spec.last_type_after (λ e. e.header.event_type) self.old.reader.last_type result }
         ensures most { most_kept self.new.reader.kept.tables ≡ most_kept self.old.reader.kept.tables }
         ensures counts { Spec.CountsAt result (S.failures self.old.source)
             (S.failures self.new.source) }

@@ -18,6 +18,17 @@ mod stored;
 
 pub use binlog_events::{crc, error, header, origin, types};
 pub use binlog_kept::tables;
+pub use change::Change;
+pub use changes::{ChangeList, FileChanges};
+pub use choice::{AllRows, Choice};
+pub use error::{EventError, FileError};
+pub use event::Event;
+pub use events::events_of;
+pub use file::BinlogFile;
+pub use header::BinlogEventHeader;
+pub use lent_changes::{LentChange, LentEvent, OtherEvent};
+pub use reader::{EventBuffer, EventStreamReader};
+pub use source_changes::SourceChanges;
 
 /// The format description event.
 pub mod description {

@@ -1,9 +1,9 @@
 //! Reading events one at a time from a source of bytes.
 
-ghost use Rattle.std.specs.Prelude.{◌≡◌, ◌≤◌, ◌<◌, ◌+◌, ◌*◌, ◌++◌, ◌↔◌, ◌⊎◌, ℕ, [], false, true, Ok, None, length, take, slice_range, OnOk, IfOk, IfErr, IsErr, IsSome, IsTrue};
+ghost use Rattle.std.specs.Prelude.{◌≡◌, ◌≤◌, ◌<◌, ◌+◌, ◌*◌, ◌++◌, ◌↔◌, ◌⊎◌, ◌≢◌, ℕ, [], false, true, Ok, None, is_some, is_none, if◌then◌else◌, length, take, slice_range, OnOk, IfOk, IfErr, IsErr, IsSome, IsTrue};
 ghost use Rattle.std.specs.Option.{option_map};
 ghost use Rattle.std.specs.Io.KnownBytes.{Consumes, IsAtEnd};
-ghost use Rattle.binlog_file.specs.Events.{after, is_plain};
+ghost use Rattle.binlog_file.specs.Events.{after, is_plain, magic};
 ghost use Rattle.binlog_file.specs.Workings.Taken.{TakesRaw};
 ghost use Rattle.binlog_file.specs.Workings.TableBodies.{event_with};
 ghost use Rattle.std.specs.Arc.{arc_value};
@@ -12,9 +12,11 @@ ghost use Rattle.binlog_file.specs.Stream as Spec;
 ghost use Rattle.binlog_file.specs.Workings.Readers.{kept_by, reading_of, found, raw_in, glance_in};
 ghost use Rattle.binlog_file.specs.Tables.{no_tables};
 ghost use Rattle.binlog_file.specs.TableMaps.{in_maps, most_kept};
-ghost use Rattle.binlog_file.specs.Checkpoints.{checkpoint, checkpoint_of};
+ghost use Rattle.binlog_file.specs.Checkpoints.{checkpoint, checkpoint_of, ReadsStored, TakesStored, NothingStored, Restores, RestoresAt, IsRefused};
+ghost use Rattle.binlog_events.specs.declared.error.EventError.TheVariants as EventError;
 
 use crate::error::{EventError, FileError};
+use crate::file::MAGIC;
 use crate::sighting::{Sighting, front};
 use crate::stored::StoredEvents;
 use binlog_base::below::{Failed, Source};
@@ -305,6 +307,74 @@ fn read_event<'b, S: Source>(
     Ok(Some(event))
 }
 
+// Returns whether a checkpoint may have this event, where this description was in force before it.
+fn is_of_checkpoint(has_description: bool, event: &Event<'_>) -> bool
+    ensures { result ≡ (if has_description then is_none event.now.rows else is_some event.now.description) }
+{
+    if has_description {
+        event.rows_ctx().is_none()
+    } else {
+        event.is_description()
+    }
+}
+
+// Reads the event of a checkpoint at the start of the bytes. Returns whether a checkpoint may have it.
+fn read_stored(
+    alloc: Global,
+    left: &mut &[u8],
+    buffer: &mut EventBuffer,
+    kept: &mut Kept,
+) -> Result<bool, EventError>
+    requires left { left.old.now ≢ [] }
+    ensures reads { IfOk result (λ is_stored. ReadsStored is_stored (kept_by kept.old) left.old.now
+        (kept_by kept.new) left.new.now) }
+    ensures err { IfErr result (λ e. (e ≡ EventError.Memory)
+        ⊎ NothingStored (kept_by kept.old) left.old.now) }
+    ensures most { most_kept kept.new.tables ≡ most_kept kept.old.tables }
+{
+    let has_description = kept.description.is_some();
+    match read_event(alloc, left, buffer, kept)? {
+        Some(event) => Ok(is_of_checkpoint(has_description, &event)),
+        None => Ok(false),
+    }
+}
+
+// Takes the event of a checkpoint at the start of the bytes.
+fn take_stored(
+    alloc: Global,
+    left: &mut &[u8],
+    buffer: &mut EventBuffer,
+    kept: &mut Kept,
+) -> Result<(), EventError>
+    requires left { left.old.now ≢ [] }
+    ensures ok { OnOk result (TakesStored (kept_by kept.old) left.old.now (kept_by kept.new) left.new.now) }
+    ensures err { IfErr result (λ e. (e ≡ EventError.Memory)
+        ⊎ ((e ≡ EventError.NotACheckpoint) × NothingStored (kept_by kept.old) left.old.now)) }
+    ensures most { most_kept kept.new.tables ≡ most_kept kept.old.tables }
+{
+    match read_stored(alloc, left, buffer, kept) {
+        Ok(true) => Ok(()),
+        Err(EventError::Memory) => Err(EventError::Memory),
+        _ => Err(EventError::NotACheckpoint),
+    }
+}
+
+// Takes the events of a checkpoint, whose bytes these are after the first four.
+#[tactic(auto, using(crate::proofs::StoredRead::all_read, crate::proofs::StoredRead::refused_at))]
+fn restore(alloc: Global, bytes: &[u8], kept: &mut Kept) -> Result<(), EventError>
+    requires first { kept_by kept.old ≡ Spec.first_kept }
+    ensures ok { OnOk result (Restores (magic ++ bytes.now) (kept_by kept.new)) }
+    ensures err { IfErr result (IsRefused (magic ++ bytes.now)) }
+    ensures most { most_kept kept.new.tables ≡ most_kept kept.old.tables }
+{
+    let mut left = bytes;
+    let mut buffer = EventBuffer::new(alloc);
+    while !left.is_empty() {
+        take_stored(alloc, &mut left, &mut buffer, kept)?;
+    }
+    Ok(())
+}
+
 // Takes a plain event of these bytes, and returns a glance at it.
 fn take_plain<'b>(kept: &mut Kept, raw: &Raw<'b>) -> Result<Glance<'b>, EventError>
     requires { is_plain raw.now ≡ true }
@@ -378,6 +448,20 @@ fn sight<S: Source>(
     Ok(Some(Sighting::of(&glance)))
 }
 
+// Takes a checkpoint.
+fn take_checkpoint(alloc: Global, checkpoint: &[u8], kept: &mut Kept) -> Result<(), EventError>
+    requires first { kept_by kept.old ≡ Spec.first_kept }
+    ensures ok { OnOk result (Restores checkpoint.now (kept_by kept.new)) }
+    ensures err { IfErr result (IsRefused checkpoint.now) }
+    ensures most { most_kept kept.new.tables ≡ most_kept kept.old.tables }
+{
+    if checkpoint.starts_with(MAGIC) {
+        restore(alloc, checkpoint.split_at(MAGIC.len()).1, kept)
+    } else {
+        Err(EventError::NotACheckpoint)
+    }
+}
+
 /// A reader of the events of a binlog file, or of a stream with the same bytes, one at a time.
 ///
 /// It keeps the format description event and the table map events that are in force. After an error
@@ -387,6 +471,8 @@ pub struct EventStreamReader {
     alloc: Global,
     kept: Kept,
     is_over: bool,
+    // The type of the event that was read last.
+    last_type: Option<u8>,
 }
 
 impl EventStreamReader {
@@ -401,6 +487,7 @@ impl EventStreamReader {
     pub(crate) fn stop(&mut self)
         ensures kept { self.new.kept ≡ self.old.kept }
         ensures over { self.new.is_over ≡ true }
+        ensures last { self.new.last_type ≡ self.old.last_type }
     {
         self.is_over = true;
     }
@@ -421,12 +508,18 @@ impl EventStreamReader {
         requires { self.old.is_over ≡ false }
         ensures gives { Spec.ReaderGlances (S.remaining source.old) (reading_of self.old)
             (found (glance_in buffer.new) result) (S.remaining source.new) (reading_of self.new) }
+        ensures last { self.new.last_type
+            ≡ Spec.last_type_after (λ s. s.header.event_type) self.old.last_type result }
         ensures most { most_kept self.new.kept.tables ≡ most_kept self.old.kept.tables }
         ensures counts { Spec.CountsAt result (S.failures source.old) (S.failures source.new) }
     {
         let position = self.kept.position;
         match sight(self.alloc, source, buffer, &mut self.kept) {
-            Ok(sighting) => Ok(sighting),
+            Ok(Some(sighting)) => {
+                self.last_type = Some(sighting.event_type());
+                Ok(Some(sighting))
+            }
+            Ok(None) => Ok(None),
             Err(error) => {
                 self.is_over = true;
                 Err(FileError { position, error })
@@ -443,6 +536,8 @@ impl EventStreamReader {
         requires { self.old.is_over ≡ false }
         ensures gives { Spec.ReaderGlances (S.remaining source.old) (reading_of self.old) result
             (S.remaining source.new) (reading_of self.new) }
+        ensures last { self.new.last_type
+            ≡ Spec.last_type_after (λ g. g.header.event_type) self.old.last_type result }
         ensures most { most_kept self.new.kept.tables ≡ most_kept self.old.kept.tables }
         ensures counts { Spec.CountsAt result (S.failures source.old) (S.failures source.new) }
     {
@@ -458,6 +553,7 @@ impl EventStreamReader {
     pub fn new(alloc: Global) -> EventStreamReader
         ensures kept { kept_by result.kept ≡ Spec.first_kept }
         ensures goes_on { result.is_over ≡ false }
+        ensures last { result.last_type ≡ None }
         ensures most { most_kept result.kept.tables ≡ 8 * 1024 * 1024 }
     {
         EventStreamReader::with_tables(alloc, TableMaps::new(alloc))
@@ -468,6 +564,7 @@ impl EventStreamReader {
     pub fn with_kept_bytes(alloc: Global, most: usize) -> EventStreamReader
         ensures kept { kept_by result.kept ≡ Spec.first_kept }
         ensures goes_on { result.is_over ≡ false }
+        ensures last { result.last_type ≡ None }
         ensures most { most_kept result.kept.tables ≡ most }
     {
         EventStreamReader::with_tables(alloc, TableMaps::with_kept_bytes(alloc, most))
@@ -479,6 +576,7 @@ impl EventStreamReader {
         requires ended { tables.ended ≡ false }
         ensures kept { kept_by result.kept ≡ Spec.first_kept }
         ensures goes_on { result.is_over ≡ false }
+        ensures last { result.last_type ≡ None }
         ensures tables { result.kept.tables ≡ tables }
     {
         EventStreamReader {
@@ -490,6 +588,36 @@ impl EventStreamReader {
                 stored: StoredEvents::new(alloc),
             },
             is_over: false,
+            last_type: None,
+        }
+    }
+
+    /// Returns a reader that has read a checkpoint, and whose next event begins at this position of the
+    /// file: it reads on as the reader did whose checkpoint it is. It keeps what a new one keeps past the
+    /// end of statements.
+    ///
+    /// Fails with `NotACheckpoint` if the bytes don't begin as a file does, if an event in them can't be
+    /// read, if the first isn't a format description event, or if one holds rows; and with `Memory` if
+    /// memory is refused. The error's position is 0. Whether the next bytes of the source are those at
+    /// this position isn't seen here: the next read sees whether they are an event.
+    pub fn resume(
+        alloc: Global,
+        checkpoint: &[u8],
+        position: u64,
+    ) -> Result<EventStreamReader, FileError>
+        ensures kept { IfOk result (λ r. RestoresAt checkpoint.now position (kept_by r.kept)) }
+        ensures err { IfErr result (λ e. (e.position ≡ 0) × IsRefused checkpoint.now e.error) }
+        ensures goes_on { IfOk result (λ r. r.is_over ≡ false) }
+        ensures last { IfOk result (λ r. r.last_type ≡ None) }
+        ensures most { IfOk result (λ r. most_kept r.kept.tables ≡ 8 * 1024 * 1024) }
+    {
+        let mut reader = EventStreamReader::new(alloc);
+        match take_checkpoint(alloc, checkpoint, &mut reader.kept) {
+            Ok(()) => {
+                reader.kept.position = position;
+                Ok(reader)
+            }
+            Err(error) => Err(FileError { position: 0, error }),
         }
     }
 
@@ -497,6 +625,7 @@ impl EventStreamReader {
     // was kept is given up.
     pub(crate) fn keep_at_most(&mut self, most: usize)
         ensures reading { reading_of self.new ≡ reading_of self.old }
+        ensures last { self.new.last_type ≡ self.old.last_type }
         ensures most { most_kept self.new.kept.tables ≡ most }
     {
         self.kept.tables.keep_at_most(self.alloc, most);
@@ -507,6 +636,14 @@ impl EventStreamReader {
         ensures { result ≡ (kept_by self.now.kept).at }
     {
         self.kept.position
+    }
+
+    /// Returns the type of the event that was read last, whether it was handed out or passed over; `None`
+    /// before the first. An error leaves it as it was.
+    pub fn last_type(&self) -> Option<u8>
+        ensures { result ≡ self.now.last_type }
+    {
+        self.last_type
     }
 
     /// Returns the table map event that is in force for a table id, after the event that was read
@@ -544,6 +681,8 @@ impl EventStreamReader {
     ) -> Result<Option<Event<'b>>, FileError>
         ensures gives { Spec.ReaderGives (S.remaining source.old) (reading_of self.old) result
             (S.remaining source.new) (reading_of self.new) }
+        ensures last { self.new.last_type
+            ≡ Spec.last_type_after (λ e. e.header.event_type) self.old.last_type result }
         ensures most { most_kept self.new.kept.tables ≡ most_kept self.old.kept.tables }
         ensures counts { Spec.CountsAt result (S.failures source.old) (S.failures source.new) }
     {
@@ -552,7 +691,11 @@ impl EventStreamReader {
         }
         let position = self.kept.position;
         match read_event(self.alloc, source, buffer, &mut self.kept) {
-            Ok(event) => Ok(event),
+            Ok(Some(event)) => {
+                self.last_type = Some(event.header().event_type());
+                Ok(Some(event))
+            }
+            Ok(None) => Ok(None),
             Err(error) => {
                 self.is_over = true;
                 Err(FileError { position, error })

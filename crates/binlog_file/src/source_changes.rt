@@ -1,9 +1,10 @@
 //! The changes of a file one at a time, from a source of bytes.
 
-ghost use Rattle.std.specs.Prelude.{◌≡◌, ◌<◌, ◌≤◌, ◌+◌, ◌*◌, ◌↔◌, ◌⊎◌, true, length, Some, None, Ok, IfOk, IfErr, IsErr, IsTrue, IsSome};
+ghost use Rattle.std.specs.Prelude.{◌≡◌, ◌<◌, ◌≤◌, ◌+◌, ◌*◌, ◌↔◌, ◌⊎◌, true, false, length, Some, None, Ok, IfOk, IfErr, IsErr, IsTrue, IsSome};
 ghost use Rattle.binlog_file.specs.Events.{Event, Place, NextGives, glance_of};
 ghost use Rattle.binlog_file.specs.Tables.{InForce, in_force_after};
 ghost use Rattle.binlog_file.specs.TableMaps.{most_kept};
+ghost use Rattle.binlog_file.specs.Checkpoints.{RestoresAt, IsRefused};
 ghost use Rattle.binlog_file.specs.Changes.{Gives, TakeGives, spot, LessensTo};
 ghost use Rattle.binlog_file.specs.Stream.{IsOutside, IsNotReader, MayGoOn};
 ghost use Rattle.binlog_file.specs.SourceChanges as Spec;
@@ -348,6 +349,29 @@ impl<S: Source + Drop, C: Choice + Drop> SourceChanges<S, C> {
         SourceChanges::with_plans(alloc, file, choice, MOST_BYTES - MOST_BYTES / 4)
     }
 
+    /// Returns an iterator over the changes after a checkpoint, over a source whose next bytes are those of
+    /// the file at this position: those that the reading gives whose checkpoint it is, if it goes on.
+    ///
+    /// Fails as `EventStreamReader::resume` does. Nothing is read of the source.
+    pub fn resume(
+        alloc: Global,
+        source: S,
+        choice: C,
+        checkpoint: &[u8],
+        position: u64,
+    ) -> Result<SourceChanges<S, C>, FileError>
+        ensures choice { IfOk result (λ c. c.choice ≡ choice) }
+        ensures source { IfOk result (λ c. c.source ≡ source) }
+        ensures kept { IfOk result (λ c. RestoresAt checkpoint.now position (kept_in c.walk)) }
+        ensures err { IfErr result (λ e. (e.position ≡ 0) × IsRefused checkpoint.now e.error) }
+        ensures goes_on { IfOk result (λ c. c.walk.reader.is_over ≡ false) }
+        ensures pending { IfOk result (λ c. c.walk.pending ≡ None) }
+        ensures most { IfOk result (λ c. most_kept_by c.walk ≡ 32 * 1024 * 1024) }
+    {
+        let file = BinlogFile::resume(alloc, source, checkpoint, position)?;
+        Ok(SourceChanges::new(alloc, file, choice))
+    }
+
     /// Returns the same iterator with another bound: what it keeps past the end of statements takes
     /// at most this many bytes of memory. A quarter is for table map events with the bytes of their
     /// bodies, and three quarters for plans, each with the table map event that it was made for. What
@@ -378,6 +402,13 @@ impl<S: Source + Drop, C: Choice + Drop> SourceChanges<S, C> {
         ensures { result.now ≡ self.now.walk.reader }
     {
         &self.walk.reader
+    }
+
+    /// Returns the source, as the last read left it.
+    pub fn source(&self) -> &S
+        ensures { result.now ≡ self.now.source }
+    {
+        &self.source
     }
 
     /// Reads the next event into a buffer: a rows event that is wanted, or any other event as it is.

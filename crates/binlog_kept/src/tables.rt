@@ -115,10 +115,12 @@ fn key_of(body: &[u8]) -> u64 {
 /// copied again. What is kept takes a bounded number of bytes of memory together: each event twice
 /// its body, and 768 bytes for what holds it. None with a body above 8 KiB is kept.
 #[derive(Drop)]
+#[derive_where(Debug)]
 pub struct TableMaps {
     // Most statements change one table: theirs takes no node of a map.
     first: Option<Arc<TableMapEvent<'static>>>,
     others: BTreeMap<u64, Arc<TableMapEvent<'static>>>,
+    #[derive_where(skip(Debug))]
     kept: Generations<KeptTable>,
     ended: bool,
 }

@@ -168,35 +168,42 @@ Missed why sought stop here = (n : ℕ) × (why ≡ failure.NoEvent n) × ((soug
 unseen_at : (o : Option ℕ) (n : ℕ) (es : List Event) → IsUnseen o es → o ≡ Some n → AllBegin es n
 unseen_at o n es all is = subst (λ (p : Option ℕ). IsUnseen p es) is all
 
-missing_at : (why : Failure) (n : ℕ) (es : List Event) (at : Spot) → why ≡ failure.NoEvent n → AllBegin es n → (n < at.place.at) ⊎ (at.place.left ≡ []) → IsMissing why es at
-missing_at why n es at is all past = subst (λ (w : Failure). IsMissing w es at) (sym is) (all, past)
+missing_at : (why : Failure) (stop : Option ℕ) (n : ℕ) (es : List Event) (at : Spot) → why ≡ failure.NoEvent n → AllBegin es n → (n < at.place.at) ⊎ ((at.place.left ≡ []) × (stop ≡ Some n → n ≢ at.place.at)) → IsMissing why stop es at
+missing_at why stop n es at is all past = subst (λ (w : Failure). IsMissing w stop es at) (sym is) (all, past)
 
 -- an event begins after the start position
-pub missing_passed : (why : Failure) (sought : Option ℕ) (es : List Event) (at : Spot) → IsUnseen sought es → (n : ℕ) × (sought ≡ Some n) × (n < at.place.at) × (why ≡ failure.NoEvent n) → IsMissing why es at
-missing_passed why sought es at not h = missing_at why h.0 es at h.3 (unseen_at sought h.0 es not h.1) (inl h.2)
+pub missing_passed : (why : Failure) (stop sought : Option ℕ) (es : List Event) (at : Spot) → IsUnseen sought es → (n : ℕ) × (sought ≡ Some n) × (n < at.place.at) × (why ≡ failure.NoEvent n) → IsMissing why stop es at
+missing_passed why stop sought es at not h = missing_at why stop h.0 es at h.3 (unseen_at sought h.0 es not h.1) (inl h.2)
+
+-- the start position, where one is looked for, isn't the stop position
+sought_not_stop : (p : Positions) (sought : Option ℕ) (n at : ℕ) → (sought ≡ start_sought p) ⊎ (sought ≡ None) → sought ≡ Some n → p.stop ≡ Some n → n ≢ at
+sought_not_stop p sought n at (inl same) is stops =
+    let before = subst (λ (o : Option ℕ). is_before o n ≡ true) stops (wanted_before p p.start n (sym same ∙ is)) in
+    absurd (let bad : n < n = ltb-true n n before in omega (arith, bad))
+sought_not_stop p sought n at (inr none) is stops = absurd (let bad = sym none ∙ is in cc)
 
 -- the reading stops
 pub missing_stopped : (why : Failure) (p : Positions) (sought : Option ℕ) (es : List Event) (at : Spot) → IsUnseen sought es → IsUnseen p.stop es → (sought ≡ start_sought p) ⊎ (sought ≡ None)
-    → is_before p.stop at.place.at ≡ false → Missed why sought p.stop at.place.at → IsMissing why es at
+    → is_before p.stop at.place.at ≡ false → Missed why sought p.stop at.place.at → IsMissing why p.stop es at
 missing_stopped why p sought es at not early known past h = elim h.2 [
-  | inl is ↦ missing_at why h.0 es at h.1 (unseen_at sought h.0 es not is) (inl (elim known [
+  | inl is ↦ missing_at why p.stop h.0 es at h.1 (unseen_at sought h.0 es not is) (inl (elim known [
     | inl same ↦ before_past p.stop h.0 at.place.at (wanted_before p p.start h.0 (sym same ∙ is)) past
     | inr none ↦ absurd (let bad = sym none ∙ is in cc)
   ]))
-  | inr is ↦ missing_at why h.0 es at h.1 (unseen_at p.stop h.0 es early is.0) (inl (
+  | inr is ↦ missing_at why p.stop h.0 es at h.1 (unseen_at p.stop h.0 es early is.0) (inl (
       let late : h.0 ≤ at.place.at = ltb-false at.place.at h.0 (subst (λ (o : Option ℕ). is_before o at.place.at ≡ false) is.0 past) in
       omega (arith, late, is.1)))
 ]
 
 -- no event is left
-pub missing_ended : (why : Failure) (stop sought : Option ℕ) (here : ℕ) (es ds : List Event) (at : Spot) (is_each : Bool) → IsUnseen sought es → IsUnseen stop es → (is_each ≡ false → sought ≡ None) → (is_each ≡ false → stop ≡ None)
-    → (is_each ≡ true → ds ≡ es) → at.place.left ≡ [] → Missed why sought stop here → IsMissing why ds at
-missing_ended why stop sought here es ds at true not early free whole same left h =
-    subst (λ (l : List Event). IsMissing why l at) (sym (same refl)) (elim h.2 [
-      | inl is ↦ missing_at why h.0 es at h.1 (unseen_at sought h.0 es not is) (inr left)
-      | inr is ↦ missing_at why h.0 es at h.1 (unseen_at stop h.0 es early is.0) (inr left)
+pub missing_ended : (why : Failure) (p : Positions) (sought : Option ℕ) (here : ℕ) (es ds : List Event) (at : Spot) (is_each : Bool) → IsUnseen sought es → IsUnseen p.stop es → (is_each ≡ false → sought ≡ None) → (is_each ≡ false → p.stop ≡ None)
+    → (sought ≡ start_sought p) ⊎ (sought ≡ None) → (is_each ≡ true → at.place.at ≡ here) → (is_each ≡ true → ds ≡ es) → at.place.left ≡ [] → Missed why sought p.stop here → IsMissing why p.stop ds at
+missing_ended why p sought here es ds at true not early free whole known there same left h =
+    subst (λ (l : List Event). IsMissing why p.stop l at) (sym (same refl)) (elim h.2 [
+      | inl is ↦ missing_at why p.stop h.0 es at h.1 (unseen_at sought h.0 es not is) (inr (left, sought_not_stop p sought h.0 at.place.at known is))
+      | inr is ↦ missing_at why p.stop h.0 es at h.1 (unseen_at p.stop h.0 es early is.0) (inr (left, λ stops equal. is.1 (equal ∙ there refl)))
     ])
-missing_ended why stop sought here es ds at false not early free whole same left h = elim h.2 [
+missing_ended why p sought here es ds at false not early free whole known there same left h = elim h.2 [
   | inl is ↦ absurd (let bad = sym (free refl) ∙ is in cc)
   | inr is ↦ absurd (let bad = sym (whole refl) ∙ is.0 in cc)
 ]
@@ -204,6 +211,7 @@ missing_ended why stop sought here es ds at false not early free whole same left
 -- other failures miss no position
 pub misses_none : {O : Type 0} (writes : Writes O) (flushes : Flushes O) (why : Failure) → IsOfEvent writes flushes why → MissesNone why
 misses_none writes flushes (failure.File e) is = tt
+misses_none writes flushes (failure.Unopened e) is = absurd is
 misses_none writes flushes failure.Memory is = tt
 misses_none writes flushes (failure.Output e) is = tt
 misses_none writes flushes (failure.NoEvent n) is = absurd is

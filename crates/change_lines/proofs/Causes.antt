@@ -16,6 +16,7 @@ Flushes O = O → Result (Unit {0}) Error → O → Type 0
 -- a failure of the reading of an event is one of an event
 pub of_reading : {O : Type 0} (writes : Writes O) (flushes : Flushes O) (why : Failure) → IsOfReading why → IsOfEvent writes flushes why
 of_reading writes flushes (failure.File e) h = tt
+of_reading writes flushes (failure.Unopened e) h = absurd h
 of_reading writes flushes failure.Memory h = tt
 of_reading writes flushes (failure.Output e) h = absurd h
 of_reading writes flushes (failure.NoEvent n) h = absurd h
@@ -23,6 +24,7 @@ of_reading writes flushes (failure.NoEvent n) h = absurd h
 -- one of an event is one of the run
 pub of_event : {O : Type 0} (positions : Positions) (writes : Writes O) (flushes : Flushes O) (why : Failure) → IsOfEvent writes flushes why → IsOfRun positions writes flushes why
 of_event positions writes flushes (failure.File e) h = tt
+of_event positions writes flushes (failure.Unopened e) h = absurd h
 of_event positions writes flushes failure.Memory h = tt
 of_event positions writes flushes (failure.Output e) h = h
 of_event positions writes flushes (failure.NoEvent n) h = absurd h

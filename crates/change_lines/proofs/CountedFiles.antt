@@ -22,7 +22,7 @@ use Rattle.changed_rows.specs.declared.filter.Positions.{Positions}
 use Rattle.change_lines.specs.declared.run.Settings.{Settings}
 use Rattle.changed_rows.specs.declared.count.Counts.{Counts}
 use Rattle.changed_rows.specs.Names.{is_before, up_to_most}
-use Rattle.changed_rows.specs.Filters.{operation_of, wanted_by, start_after, IsUpTo}
+use Rattle.changed_rows.specs.Filters.{operation_of, wanted_by, start_sought, start_after, IsUpTo}
 use Rattle.changed_rows.specs.Counted.{Name, Counted, AreCounts, CountsMore}
 use Rattle.change_lines.specs.CountedFiles.{counted_by, counted_in, AreEventRows, AreFirstEventRows, AreCounted, AreCountedToEnd, AreNextCounted, AreFirstCounted, CountsThese}
 use Rattle.change_lines.specs.Readings.{seen_types, Passes, SourceNext}
@@ -157,18 +157,19 @@ module _ (wanted : Wanted) (from : Spot) (a b : Counts) (old : Option (List ℕ)
       ]
 
   -- nothing more was read
-  pub count_failed : (why : Failure) → IsNotOfFile why → IsMissing why h.events (spot_at r.kept None h.bytes) → CountsThese (AreFirstCounted why positions.stop wanted from) a b
+  pub count_failed : (why : Failure) → IsNotOfFile why → IsMissing why positions.stop h.events (spot_at r.kept None h.bytes) → CountsThese (AreFirstCounted why positions.stop wanted from) a b
   count_failed why not missing =
       let at = spot_at r.kept None h.bytes in
       (h.rows, record { events = h.events; front = h.rows; at = at; rows = []; counted = h.counted; next = inl (refl, not_at_event why wanted at not); in_time = not_late why positions.stop at not; missing = missing; whole = sym (append-nil h.rows) }, h.more)
 
   -- no event is left, and none begins at a position
   pub count_missing : (is_each : Bool) (source : Option (List ℕ)) (s : Reading) (q : Option FileError) → SourceNext wanted is_each old r p None source s q → (is_each ≡ false → sought ≡ None) → (is_each ≡ false → positions.stop ≡ None)
-      → (why : Failure) → IsNotOfFile why → Missed why sought positions.stop r.kept.at → CountsThese (AreFirstCounted why positions.stop wanted from) a b
-  count_missing is_each source s q gives free whole why not missed =
+      → (sought ≡ start_sought positions) ⊎ (sought ≡ None) → (why : Failure) → IsNotOfFile why → Missed why sought positions.stop r.kept.at → CountsThese (AreFirstCounted why positions.stop wanted from) a b
+  count_missing is_each source s q gives free whole known why not missed =
       let m = gives h.bytes h.finds in
       let before = passed is_each m.2 m.3 in
-      let missing = missing_ended why positions.stop sought r.kept.at h.events before.0 m.2 is_each h.unseen h.early free whole (passed_are is_each m.2 m.3) m.4.1 missed in
+      let there = stays_at is_each (spot_at r.kept None h.bytes) m.2 (subst (λ (o : Option FileError). Passes is_each (spot_at r.kept o h.bytes) m.2) h.goes_on m.3) in
+      let missing = missing_ended why positions sought r.kept.at h.events before.0 m.2 is_each h.unseen h.early free whole known there (passed_are is_each m.2 m.3) m.4.1 missed in
       (h.rows, record { events = before.0; front = h.rows; at = m.2; rows = []; counted = before.1; next = inl (refl, not_at_event why wanted m.2 not); in_time = not_late why positions.stop m.2 not; missing = missing; whole = sym (append-nil h.rows) }, h.more)
 
   -- the next event can't be read
@@ -186,7 +187,7 @@ module _ (wanted : Wanted) (from : Spot) (a b : Counts) (old : Option (List ℕ)
       let m = gives h.bytes h.finds in
       let before = passed is_each m.2 m.3 in (
         h.rows ++ counts.0,
-        record { events = before.0; front = h.rows; at = m.2; rows = counts.0; counted = before.1; next = inr (none, m.4.0, spot_at s.kept q m.0, m.4.1, x, m.4.2, counts.1); in_time = in_time_of why positions.stop m.2 (in_time is_each m.2 m.3 positions.stop early whole); missing = nothing_missing why before.0 m.2 none; whole = refl },
+        record { events = before.0; front = h.rows; at = m.2; rows = counts.0; counted = before.1; next = inr (none, m.4.0, spot_at s.kept q m.0, m.4.1, x, m.4.2, counts.1); in_time = in_time_of why positions.stop m.2 (in_time is_each m.2 m.3 positions.stop early whole); missing = nothing_missing why positions.stop before.0 m.2 none; whole = refl },
         counts_more h.rows counts.0 a b d h.more counts.2,
       )
 
@@ -202,14 +203,14 @@ next_but_output why g wanted at xs is (inl h) = inl (h.0, not_at_event g wanted 
 next_but_output why g wanted at xs is (inr h) = inr (output_misses_none g is, h.1, h.2, h.3, h.4, h.5, event_but_output why g h.4 xs is h.6)
 
 but_output : (why g : Failure) (stop : Option ℕ) (wanted : Wanted) (from : Spot) (xs : List Counted) → IsOutput g → AreFirstCounted why stop wanted from xs → AreFirstCounted g stop wanted from xs
-but_output why g stop wanted from xs is h = record { events = h.events; front = h.front; at = h.at; rows = h.rows; counted = h.counted; next = next_but_output why g wanted h.at h.rows is h.next; in_time = not_late g stop h.at (output_not_file g is); missing = nothing_missing g h.events h.at (output_misses_none g is); whole = h.whole }
+but_output why g stop wanted from xs is h = record { events = h.events; front = h.front; at = h.at; rows = h.rows; counted = h.counted; next = next_but_output why g wanted h.at h.rows is h.next; in_time = not_late g stop h.at (output_not_file g is); missing = nothing_missing g stop h.events h.at (output_misses_none g is); whole = h.whole }
 
 -- what was counted up to a failure: that of the reading, or of the output
 pub counted_of : (r : Result (Unit {0}) Failure) (g : Failure) (stop : Option ℕ) (wanted : Wanted) (from : Spot) (a b : Counts)
     → OnOk r (CountsThese (AreCountedToEnd stop wanted from) a b) → IfErr r (λ why. CountsThese (AreFirstCounted why stop wanted from) a b) → IsOutput g ⊎ (r ≡ Err g) → CountsThese (AreFirstCounted g stop wanted from) a b
 counted_of (Ok u) g stop wanted from a b all first (inl is) = (
   all.0,
-  record { events = all.1.events; front = all.0; at = all.1.end; rows = []; counted = all.1.counted; next = inl (refl, not_at_event g wanted all.1.end (output_not_file g is)); in_time = not_late g stop all.1.end (output_not_file g is); missing = nothing_missing g all.1.events all.1.end (output_misses_none g is); whole = sym (append-nil all.0) },
+  record { events = all.1.events; front = all.0; at = all.1.end; rows = []; counted = all.1.counted; next = inl (refl, not_at_event g wanted all.1.end (output_not_file g is)); in_time = not_late g stop all.1.end (output_not_file g is); missing = nothing_missing g stop all.1.events all.1.end (output_misses_none g is); whole = sym (append-nil all.0) },
   all.2,
 )
 counted_of (Ok u) g stop wanted from a b all first (inr same) = absurd cc

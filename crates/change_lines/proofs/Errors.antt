@@ -1,5 +1,5 @@
 -- Results that are errors.
-use Rattle.std.proofs.Common.{◌≡◌, true, false, Option, Some, Result, Ok, Err, IfErr, sym, subst}
+use Rattle.std.proofs.Common.{◌≡◌, true, false, Option, Some, Result, Ok, Err, is_err, IfErr, sym, subst}
 use Rattle.std.specs.Prelude.{IsErrAnd, IsOk, OnOk, IfSome}
 
 -- what holds of every error holds of the result's
@@ -21,6 +21,11 @@ on_error (Err e) P Q to h = to e h
 pub if_ok : {A E : Type 0} (r : Result A E) (P : Type 0) → IsOk r → OnOk r P → P
 if_ok (Ok a) P is h = h
 if_ok (Err e) P is h = let bad : false ≡ true = is in absurd cc
+
+-- the same of one that isn't an error
+pub no_error : {A E : Type 0} (r : Result A E) (P : Type 0) → is_err r ≡ false → OnOk r P → P
+no_error (Ok a) P is h = h
+no_error (Err e) P is h = let bad : true ≡ false = is in absurd cc
 
 -- a result that passes an error on is an error of the same kind
 pub same_kind : {A E : Type 0} (r : Result A E) (e : E) (P : E → Type 0) → IsErrAnd r (λ f. f ≡ e) → P e → IsErrAnd r P

@@ -22,6 +22,7 @@ pub no_loss : (f : Failure) → IsLost f []
 no_loss (failure.File e) = refl
 no_loss (failure.NoEvent n) = refl
 no_loss (failure.Output e) = tt
+no_loss (failure.Unopened e) = refl
 no_loss failure.Memory = refl
 
 -- anything may be lost if the output failed
@@ -29,6 +30,7 @@ pub output_loss : (f : Failure) (lost : List ℕ) → IsOutput f → IsLost f lo
 output_loss (failure.File e) lost is = absurd is
 output_loss (failure.NoEvent n) lost is = absurd is
 output_loss (failure.Output e) lost is = tt
+output_loss (failure.Unopened e) lost is = absurd is
 output_loss failure.Memory lost is = absurd is
 
 -- all was written that was to be
@@ -135,47 +137,55 @@ pub output_not_file : (why : Failure) → IsOutput why → IsNotOfFile why
 output_not_file (failure.File e) is = absurd is
 output_not_file (failure.NoEvent n) is = tt
 output_not_file (failure.Output e) is = tt
+output_not_file (failure.Unopened e) is = tt
 output_not_file failure.Memory is = tt
 
 pub not_at_row : (why : Failure) (c : LentChange) (k : ℕ) (rest : List ℕ) → IsNotOfFile why → EndsAtRow why c k rest
 not_at_row (failure.File e) c k rest not = absurd not
 not_at_row (failure.NoEvent n) c k rest not = tt
 not_at_row (failure.Output e) c k rest not = tt
+not_at_row (failure.Unopened e) c k rest not = tt
 not_at_row failure.Memory c k rest not = tt
 
 pub not_at_event : (why : Failure) (wanted : Wanted) (at : Spot) → IsNotOfFile why → EndsAtEvent why wanted at
 not_at_event (failure.File e) wanted at not = absurd not
 not_at_event (failure.NoEvent n) wanted at not = tt
 not_at_event (failure.Output e) wanted at not = tt
+not_at_event (failure.Unopened e) wanted at not = tt
 not_at_event failure.Memory wanted at not = tt
 
 pub not_late : (why : Failure) (stop : Option ℕ) (at : Spot) → IsNotOfFile why → IsInTime why stop at
 not_late (failure.File e) stop at not = absurd not
 not_late (failure.NoEvent n) stop at not = tt
 not_late (failure.Output e) stop at not = tt
+not_late (failure.Unopened e) stop at not = tt
 not_late failure.Memory stop at not = tt
 
 pub in_time_of : (why : Failure) (stop : Option ℕ) (at : Spot) → is_before stop at.place.at ≡ true → IsInTime why stop at
 in_time_of (failure.File e) stop at before = before
 in_time_of (failure.NoEvent n) stop at before = tt
 in_time_of (failure.Output e) stop at before = tt
+in_time_of (failure.Unopened e) stop at before = tt
 in_time_of failure.Memory stop at before = tt
 
 pub output_misses_none : (why : Failure) → IsOutput why → MissesNone why
 output_misses_none (failure.File e) is = tt
 output_misses_none (failure.NoEvent n) is = absurd is
 output_misses_none (failure.Output e) is = tt
+output_misses_none (failure.Unopened e) is = tt
 output_misses_none failure.Memory is = tt
 
-pub nothing_missing : (why : Failure) (es : List Event) (at : Spot) → MissesNone why → IsMissing why es at
-nothing_missing (failure.File e) es at none = tt
-nothing_missing (failure.NoEvent n) es at none = absurd none
-nothing_missing (failure.Output e) es at none = tt
-nothing_missing failure.Memory es at none = tt
+pub nothing_missing : (why : Failure) (stop : Option ℕ) (es : List Event) (at : Spot) → MissesNone why → IsMissing why stop es at
+nothing_missing (failure.File e) stop es at none = tt
+nothing_missing (failure.NoEvent n) stop es at none = absurd none
+nothing_missing (failure.Output e) stop es at none = tt
+nothing_missing (failure.Unopened e) stop es at none = tt
+nothing_missing failure.Memory stop es at none = tt
 
 -- the failure of a row whose line can't be made is that of one of its documents
 pub line_failure : (cs : List Column) (d : RowsEvent) (at row : ℕ) (f : Fault) (p : Pair) (why : Failure) → IsRowFailure at row f why → (f ≢ fault.Memory → IsFaultOfPair cs d p f) → IsLineFailure cs d at row p why
 line_failure cs d at row f p (failure.File e) h is = (h.1, f, is h.0, h.2)
 line_failure cs d at row f p (failure.NoEvent n) h is = absurd h
 line_failure cs d at row f p (failure.Output e) h is = absurd h
+line_failure cs d at row f p (failure.Unopened e) h is = absurd h
 line_failure cs d at row f p failure.Memory h is = tt

@@ -24,7 +24,7 @@ use Rattle.change_lines.specs.declared.run.Form.TheVariants as form
 use Rattle.change_lines.specs.declared.run.Settings.{Settings}
 use Rattle.changed_rows.specs.declared.filter.Filter.{Filter}
 use Rattle.changed_rows.specs.declared.filter.Positions.{Positions}
-use Rattle.changed_rows.specs.Filters.{wanted_by}
+use Rattle.changed_rows.specs.Filters.{wanted_by, start_sought}
 use Rattle.change_lines.specs.Outputs.{Outputs}
 use Rattle.changed_rows.specs.Names.{up_to_most, is_before}
 use Rattle.change_lines.specs.Rows.{BeginsWith, AreLinesBy}
@@ -37,7 +37,7 @@ use Rattle.change_lines.proofs.Rows.{lines_weaker, no_lines}
 use Rattle.change_lines.proofs.Passed.{passed_more, passed_same}
 use Rattle.change_lines.proofs.Begun.{Missed, missing_ended}
 use Rattle.change_lines.proofs.Failures.{up_to_all, up_to_nothing, up_to_here, up_to_more, OutputsBut, output_not_file, not_at_row, not_at_event, not_late, in_time_of, output_misses_none, nothing_missing}
-use Rattle.change_lines.proofs.Whole.{SoFar, still_before}
+use Rattle.change_lines.proofs.Whole.{SoFar, still_before, stays_at}
 
 -- ---- the errors of rows
 
@@ -68,6 +68,7 @@ line_error c old new n p u (failure.File e) table rows gives is =
     (is.0, inr (is.1, inr ((gives.0, new.left, p, gives.1, here, is.2), is.3)))
 line_error c old new n p u (failure.NoEvent m) table rows gives is = tt
 line_error c old new n p u (failure.Output e) table rows gives is = tt
+line_error c old new n p u (failure.Unopened e) table rows gives is = absurd is
 line_error c old new n p u failure.Memory table rows gives is = tt
 
 -- ---- the rows of an event
@@ -138,7 +139,7 @@ first_counted f file gtid c old held same why h =
 
 -- the lines of some events were written, and then nothing more
 pub events_so_far : (f : Form) (wanted : Wanted) (file : List ℕ) (from : Spot) (gtid : Option (List ℕ)) (out : Option (List ℕ)) (held : List ℕ) (source : Option (List ℕ)) (r : Reading) (p : Option FileError) (here : Option (List ℕ)) (new : Option (List ℕ)) (left : List ℕ) (positions : Positions) (sought : Option ℕ)
-    (h : SoFar f wanted file from gtid out held source r p here new left positions sought) (why : Failure) → IsNotOfFile why → IsMissing why h.events (spot_at r.kept None h.bytes) → WritesFirst why f positions.stop wanted file from gtid out held new left
+    (h : SoFar f wanted file from gtid out held source r p here new left positions sought) (why : Failure) → IsNotOfFile why → IsMissing why positions.stop h.events (spot_at r.kept None h.bytes) → WritesFirst why f positions.stop wanted file from gtid out held new left
 events_so_far f wanted file from gtid out held source r p here new left positions sought h why not missing =
     let at = spot_at r.kept None h.bytes in (
       h.text,
@@ -146,18 +147,31 @@ events_so_far f wanted file from gtid out held source r p here new left position
       up_to_all why out new held h.text left h.outputs,
     )
 
+-- the lines of some events were held back, and then the output failed
+pub output_so_far : (f : Form) (wanted : Wanted) (file : List ℕ) (from : Spot) (gtid : Option (List ℕ)) (out : Option (List ℕ)) (held : List ℕ) (source : Option (List ℕ)) (r : Reading) (p : Option FileError) (here : Option (List ℕ)) (mid : Option (List ℕ)) (kept : List ℕ) (positions : Positions) (sought : Option ℕ)
+    → SoFar f wanted file from gtid out held source r p here mid kept positions sought
+    → (why : Failure) → IsOutput why → (new : Option (List ℕ)) (left : List ℕ) → OutputsUpTo why mid kept [] new left → WritesFirst why f positions.stop wanted file from gtid out held new left
+output_so_far f wanted file from gtid out held source r p here mid kept positions sought h why is new left more =
+    let at = spot_at r.kept None h.bytes in
+    let not = output_not_file why is in (
+      h.text,
+      record { events = h.events; front = h.text; at = at; here = here; rows = []; lines = h.lines; next = inl (refl, not_at_event why wanted at not); in_time = not_late why positions.stop at not; missing = nothing_missing why positions.stop h.events at (output_misses_none why is); whole = sym (append-nil h.text) },
+      subst (λ (t : List ℕ). OutputsUpTo why out held t new left) (append-nil h.text) (up_to_more why out mid new held kept left h.text [] h.outputs more),
+    )
+
 -- the lines of all events were written, but no event begins at a position
 pub end_so_far : (f : Form) (wanted : Wanted) (file : List ℕ) (from : Spot) (gtid : Option (List ℕ)) (out : Option (List ℕ)) (held : List ℕ) (old : Option (List ℕ)) (r : Reading) (p : Option FileError) (here : Option (List ℕ)) (new : Option (List ℕ)) (left : List ℕ) (positions : Positions) (sought : Option ℕ)
     → SoFar f wanted file from gtid out held old r p here new left positions sought
-    → (is_each : Bool) (source : Option (List ℕ)) (s : Reading) (q : Option FileError) → SourceNext wanted is_each old r p None source s q → (is_each ≡ false → sought ≡ None) → (is_each ≡ false → positions.stop ≡ None)
+    → (is_each : Bool) (source : Option (List ℕ)) (s : Reading) (q : Option FileError) → SourceNext wanted is_each old r p None source s q → (is_each ≡ false → sought ≡ None) → (is_each ≡ false → positions.stop ≡ None) → (sought ≡ start_sought positions) ⊎ (sought ≡ None)
     → (why : Failure) → IsNotOfFile why → Missed why sought positions.stop r.kept.at → WritesFirst why f positions.stop wanted file from gtid out held new left
-end_so_far f wanted file from gtid out held old r p here new left positions sought h is_each source s q gives free whole why not missed =
+end_so_far f wanted file from gtid out held old r p here new left positions sought h is_each source s q gives free whole known why not missed =
     let m = gives h.bytes h.finds in
     let at = m.2 in
     let passes = subst (λ (o : Option FileError). Passes is_each (spot_at r.kept o h.bytes) at) h.goes_on m.3 in
     let passed = passed_more f wanted file from gtid h.events h.text (spot_at r.kept None h.bytes) here is_each at h.lines passes in
     let same = passed_same f wanted file from gtid h.events h.text (spot_at r.kept None h.bytes) here is_each at h.lines passes in
-    let missing = missing_ended why positions.stop sought r.kept.at h.events passed.0 at is_each h.unseen h.early free whole same m.4.1 missed in (
+    let there = stays_at is_each (spot_at r.kept None h.bytes) at passes in
+    let missing = missing_ended why positions sought r.kept.at h.events passed.0 at is_each h.unseen h.early free whole known there same m.4.1 missed in (
       h.text,
       record { events = passed.0; front = h.text; at = at; here = here; rows = []; lines = passed.1; next = inl (refl, not_at_event why wanted at not); in_time = not_late why positions.stop at not; missing = missing; whole = sym (append-nil h.text) },
       up_to_all why out new held h.text left h.outputs,
@@ -189,7 +203,7 @@ event_so_far f wanted file from gtid out held old r p here mid kept positions so
     let passes = subst (λ (o : Option FileError). Passes is_each (spot_at r.kept o h.bytes) at) h.goes_on m.3 in
     let passed = passed_more f wanted file from gtid h.events h.text (spot_at r.kept None h.bytes) here is_each at h.lines passes in (
       h.text ++ writes.0,
-      record { events = passed.0; front = h.text; at = at; here = here; rows = writes.0; lines = passed.1; next = inr (none, m.4.0, spot_at s.kept q m.0, m.4.1, x, m.4.2, writes.1); in_time = in_time_of why positions.stop at (still_before is_each positions.stop (spot_at r.kept None h.bytes) at passes before whole); missing = nothing_missing why passed.0 at none; whole = refl },
+      record { events = passed.0; front = h.text; at = at; here = here; rows = writes.0; lines = passed.1; next = inr (none, m.4.0, spot_at s.kept q m.0, m.4.1, x, m.4.2, writes.1); in_time = in_time_of why positions.stop at (still_before is_each positions.stop (spot_at r.kept None h.bytes) at passes before whole); missing = nothing_missing why positions.stop passed.0 at none; whole = refl },
       up_to_more why out mid new held kept left h.text writes.0 h.outputs writes.2,
     )
 
@@ -213,7 +227,7 @@ first_but_output why g f stop wanted file from gtid text is h = record {
   lines = h.lines;
   next = next_but_output why g f wanted file h.at h.here h.rows is h.next;
   in_time = not_late g stop h.at (output_not_file g is);
-  missing = nothing_missing g h.events h.at (output_misses_none g is);
+  missing = nothing_missing g stop h.events h.at (output_misses_none g is);
   whole = h.whole;
 }
 
@@ -226,7 +240,7 @@ pub written_of : (r : Result (Unit {0}) Failure) (g : Failure) (f : Form) (wante
     → (text : List ℕ) × AreFirst g f positions.stop wanted file from gtid text × (lost : List ℕ) × OutputsBut old held text new left lost × IsLostBy r lost
 written_of (Ok u) g f wanted file positions from gtid old held new left all first (inl is) = (
   all.text,
-  record { events = all.events; front = all.text; at = all.end; here = all.after; rows = []; lines = all.lines; next = inl (refl, not_at_event g wanted all.end (output_not_file g is)); in_time = not_late g positions.stop all.end (output_not_file g is); missing = nothing_missing g all.events all.end (output_misses_none g is); whole = sym (append-nil all.text) },
+  record { events = all.events; front = all.text; at = all.end; here = all.after; rows = []; lines = all.lines; next = inl (refl, not_at_event g wanted all.end (output_not_file g is)); in_time = not_late g positions.stop all.end (output_not_file g is); missing = nothing_missing g positions.stop all.events all.end (output_misses_none g is); whole = sym (append-nil all.text) },
   [],
   (all.outputs.0, all.outputs.1, all.outputs.2 ∙ ap (λ (t : List ℕ). all.outputs.0 ++ t) (sym (append-nil left))),
   refl,

@@ -10,7 +10,13 @@ pub mod Events
 pub mod Passed
 pub mod Begun
 pub mod Whole
+pub mod Noted
 pub mod CountedFiles
 pub mod First
 pub mod Causes
 pub mod Pieces
+pub mod Ran
+pub mod Told
+pub mod Silent
+pub mod Grouped
+pub mod Ended

@@ -1,7 +1,7 @@
 -- Lemmas on what is written to an output.
 use Rattle.std.proofs.Common.{◌≡◌, ℕ, List, [], ◌++◌, Option, sym, ap, ◌∙◌, append_assoc, append-nil}
-use Rattle.std.proofs.KnownBytes.{Appends-nil, Appends-trans}
-use Rattle.std.specs.Io.KnownBytes.{Appends}
+use Rattle.std.proofs.KnownBytes.{Appends-nil, Appends-trans, Appends-kept}
+use Rattle.std.specs.Io.KnownBytes.{Appends, Keeps}
 use Rattle.change_lines.specs.Outputs.{Outputs}
 
 pub outputs_nothing : (out : Option (List ℕ)) (held : List ℕ) → Outputs out held [] out held
@@ -24,3 +24,7 @@ outputs_line a b held line mid left is h = (h.0, h.1, sym is ∙ sym (append-nil
 -- what was held back was written, and then a line
 pub outputs_both : (a b d : Option (List ℕ)) (held line left : List ℕ) → Appends a b held → Appends b d line → left ≡ [] → Outputs a held line d left
 outputs_both a b d held line left h k none = (held ++ line, Appends-trans a b d held line h k, sym (append-nil (held ++ line)) ∙ ap (λ (t : List ℕ). (held ++ line) ++ t) (sym none))
+
+-- all that was held back was written
+pub outputs_all : (a b d : Option (List ℕ)) (held left : List ℕ) → Appends a b held → Keeps b d → left ≡ [] → Outputs a held [] d left
+outputs_all a b d held left h kept none = (held, Appends-kept a b d held h kept, ap (λ (t : List ℕ). held ++ t) (sym none))

@@ -38,23 +38,49 @@ stays_as false false false false true x y z old p q r s t = absurd cc
 turned : (a b : ℕ) → nat_eq a b ≡ false → nat_eq b a ≡ false
 turned a b h = elim (eqb_tells b a) [ inl same ↦ absurd (let bad = sym (eq-eqb a b (sym same.1)) ∙ h in cc) | inr other ↦ other.0 ]
 
+-- none of the types that are looked at
+pub record IsUnseenType (t : ℕ) : Type 0 where
+  pub mariadb : nat_eq t 0xA2 ≡ false
+  pub gtid : nat_eq t 0x21 ≡ false
+  pub query : nat_eq t 0x02 ≡ false
+  pub description : nat_eq t 0x0F ≡ false
+  pub load : nat_eq t 0x12 ≡ false
+  pub anonymous : nat_eq t 0x22 ≡ false
+  pub tagged : nat_eq t 0x2A ≡ false
+  pub compressed : nat_eq t 0xA5 ≡ false
+  pub prepare : nat_eq t 0x26 ≡ false
+  pub incident : nat_eq t 0x1A ≡ false
+
+pub unseen_type : (t : ℕ) → is_asked seen_types t ≡ false → IsUnseenType t
+unseen_type t not =
+    let l0 = right_false (is_some (rows_type t)) _ not in
+    let l1 = right_false (nat_eq 0xA2 t) _ l0 in
+    let l2 = right_false (nat_eq 0x21 t) _ l1 in
+    let l3 = right_false (nat_eq 0x02 t) _ l2 in
+    let l4 = right_false (nat_eq 0x0F t) _ l3 in
+    let l5 = right_false (nat_eq 0x12 t) _ l4 in
+    let l6 = right_false (nat_eq 0x22 t) _ l5 in
+    let l7 = right_false (nat_eq 0x2A t) _ l6 in
+    let l8 = right_false (nat_eq 0xA5 t) _ l7 in
+    let l9 = right_false (nat_eq 0x26 t) _ l8 in record {
+      mariadb = turned 0xA2 t (left_false (nat_eq 0xA2 t) _ l0);
+      gtid = turned 0x21 t (left_false (nat_eq 0x21 t) _ l1);
+      query = turned 0x02 t (left_false (nat_eq 0x02 t) _ l2);
+      description = turned 0x0F t (left_false (nat_eq 0x0F t) _ l3);
+      load = turned 0x12 t (left_false (nat_eq 0x12 t) _ l4);
+      anonymous = turned 0x22 t (left_false (nat_eq 0x22 t) _ l5);
+      tagged = turned 0x2A t (left_false (nat_eq 0x2A t) _ l6);
+      compressed = turned 0xA5 t (left_false (nat_eq 0xA5 t) _ l7);
+      prepare = turned 0x26 t (left_false (nat_eq 0x26 t) _ l8);
+      incident = turned 0x1A t (left_false (nat_eq 0x1A t) _ l9);
+    }
+
 -- an event that isn't looked at leaves the GTID as it is
 same_gtid : (old : Option (List ℕ)) (o : OtherEvent) → is_asked seen_types o.header.event_type ≡ false → gtid_after old o ≡ old
 same_gtid old o not =
     let t = o.header.event_type in
-    let l0 = right_false (is_some (rows_type t)) _ not in
-    let mariadb = turned 0xA2 t (left_false (nat_eq 0xA2 t) _ l0) in
-    let l1 = right_false (nat_eq 0xA2 t) _ l0 in
-    let gtid = turned 0x21 t (left_false (nat_eq 0x21 t) _ l1) in
-    let l2 = right_false (nat_eq 0x21 t) _ l1 in
-    let l3 = right_false (nat_eq 0x02 t) _ l2 in
-    let description = turned 0x0F t (left_false (nat_eq 0x0F t) _ l3) in
-    let l4 = right_false (nat_eq 0x0F t) _ l3 in
-    let l5 = right_false (nat_eq 0x12 t) _ l4 in
-    let anonymous = turned 0x22 t (left_false (nat_eq 0x22 t) _ l5) in
-    let l6 = right_false (nat_eq 0x22 t) _ l5 in
-    let tagged = turned 0x2A t (left_false (nat_eq 0x2A t) _ l6) in
-    stays_as (nat_eq t 0x21) (nat_eq t 0xA2) (nat_eq t 0x0F) (nat_eq t 0x22) (nat_eq t 0x2A) (mysql_gtid o.body) (mariadb_gtid o.header.server_id o.body) None old gtid mariadb description anonymous tagged
+    let is = unseen_type t not in
+    stays_as (nat_eq t 0x21) (nat_eq t 0xA2) (nat_eq t 0x0F) (nat_eq t 0x22) (nat_eq t 0x2A) (mysql_gtid o.body) (mariadb_gtid o.header.server_id o.body) None old is.gtid is.mariadb is.description is.anonymous is.tagged
 
 -- ---- their lines
 

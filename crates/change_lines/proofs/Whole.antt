@@ -39,6 +39,23 @@ pub record SoFar (f : Form) (wanted : Wanted) (file : List ℕ) (from : Spot) (g
   pub unseen : IsUnseen sought events
   pub early : IsUnseen positions.stop events
 
+-- what was held back was written
+pub let_go : (f : Form) (wanted : Wanted) (file : List ℕ) (from : Spot) (gtid : Option (List ℕ)) (out : Option (List ℕ)) (held : List ℕ) (source : Option (List ℕ)) (r : Reading) (p : Option FileError) (here : Option (List ℕ)) (mid : Option (List ℕ)) (kept : List ℕ) (positions : Positions) (sought : Option ℕ)
+    → SoFar f wanted file from gtid out held source r p here mid kept positions sought
+    → (after : Option (List ℕ)) (new : Option (List ℕ)) (left : List ℕ) → after ≡ here → Outputs mid kept [] new left → SoFar f wanted file from gtid out held source r p after new left positions sought
+let_go f wanted file from gtid out held source r p here mid kept positions sought h after new left same more = record {
+  goes_on = h.goes_on;
+  bytes = h.bytes;
+  finds = h.finds;
+  events = h.events;
+  text = h.text;
+  lines = subst (λ (g : Option (List ℕ)). AreLines f wanted file from gtid h.events h.text (spot_at r.kept None h.bytes) g) (sym same) h.lines;
+  outputs = subst (λ (t : List ℕ). Outputs out held t new left) (append-nil h.text) (outputs_more out mid new held kept left h.text [] h.outputs more);
+  is_sought = h.is_sought;
+  unseen = h.unseen;
+  early = h.early;
+}
+
 pub stays_at : (is_each : Bool) (old at : Spot) → Passes is_each old at → is_each ≡ true → at.place.at ≡ old.place.at
 stays_at true old at same each = ap (λ (s : Spot). s.place.at) same
 stays_at false old at same each = absurd (let bad = each in cc)

@@ -1,5 +1,5 @@
 -- What is printed of which file. It is a module of its own because Arguments is a type of the code.
-use Rattle.std.specs.Prelude.{◌≡◌, ℕ, ◌+◌, ◌==◌, ◌&&◌, not, nat_lt, Bool, true, false, if◌then◌else◌, List, [], length, map, codes, Some, None, unwrap_or, option_map}
+use Rattle.std.specs.Prelude.{◌≡◌, ℕ, ◌+◌, ◌==◌, ◌&&◌, ◌||◌, not, nat_lt, Bool, true, false, if◌then◌else◌, List, [], length, map, codes, Some, None, unwrap_or, option_map}
 use Rattle.std.specs.Borrow.{Bor}
 use Rattle.std.specs.List.{list_any}
 use Rattle.std.specs.Option.{is_some}
@@ -11,6 +11,7 @@ use Rattle.change_lines.specs.declared.run.Form.TheVariants as form
 use Rattle.change_lines.specs.declared.run.Settings.{Settings}
 use Rattle.change_lines.specs.declared.arguments.Arguments.{Arguments}
 use Rattle.changed_rows.specs.Letters.{operations_of}
+use Rattle.changed_rows.specs.Patterns.{has_point}
 
 -- numbers of rows, lines of text, or else lines of JSON
 abbrev pub form_of : Bool → Bool → Form
@@ -27,14 +28,15 @@ positions_of p files index = record {
 }
 
 -- what is printed of the file with this number
-abbrev pub settings_of : Arguments → ℕ → Settings
-settings_of a index = record {
+abbrev pub settings_of : Arguments → ℕ → Bool → Settings
+settings_of a index may_wait = record {
   filter = record {
     tables = a.tables;
     operations = a.operations;
     positions = positions_of a.positions (length a.files.now) index;
   };
   form = form_of a.is_count a.is_text;
+  may_wait = may_wait;
 }
 
 -- the start position is after the stop position
@@ -45,14 +47,12 @@ is_after_stop p = is_some p.start && (is_some p.stop && nat_lt (unwrap_or p.stop
 abbrev pub starts_after_stop : Arguments → Bool
 starts_after_stop a = length a.files.now == 1 && is_after_stop a.positions
 
--- a text has a point
-abbrev pub has_point : List ℕ → Bool
-has_point text = list_any (λ byte. byte == 46) text
-
--- A name of `--table` has no point. A table's name is that of its database, a point and its own, so this is the
--- name of none.
+-- A pattern of `--table` or `--exclude-table` has no point that divides it into a database's and a table's, so
+-- that it matches no table.
 abbrev pub has_table_without_database : Arguments → Bool
-has_table_without_database a = list_any (λ name. not (has_point name.now)) a.tables.tables.now
+has_table_without_database a =
+    list_any (λ name. not (has_point name.now)) a.tables.tables.now
+    || list_any (λ name. not (has_point name.now)) a.tables.excluded_tables.now
 
 -- ---- what the words say
 
@@ -83,6 +83,8 @@ pub record AreArguments (f : Found) (a : Arguments) : Type 0 where
   pub files : texts a.files.now ≡ values_of f (codes "file")
   pub databases : texts a.tables.databases.now ≡ values_of f (codes "database")
   pub tables : texts a.tables.tables.now ≡ values_of f (codes "table")
+  pub excluded_databases : texts a.tables.excluded_databases.now ≡ values_of f (codes "exclude-database")
+  pub excluded_tables : texts a.tables.excluded_tables.now ≡ values_of f (codes "exclude-table")
   pub operations : AreOperations f a
   pub count : IsFlag f (codes "count") a.is_count
   pub text : IsFlag f (codes "text") a.is_text

@@ -80,7 +80,7 @@ pub record AreFirstCounted (why : Failure) (stop : Option ℕ) (wanted : Wanted)
   pub counted : AreCounted wanted from events front at
   pub next : AreNextCounted why wanted at rows
   pub in_time : IsInTime why stop at
-  pub missing : IsMissing why events at
+  pub missing : IsMissing why stop events at
   pub whole : xs ≡ front ++ rows
 
 -- ---- files

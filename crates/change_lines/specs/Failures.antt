@@ -47,10 +47,11 @@ IsOfReading (failure.File e) = ⊤
 IsOfReading failure.Memory = ⊤
 IsOfReading _ = ⊥
 
--- a failure of the output is the error of one of its calls; no position is missing
+-- a failure of the output is the error of one of its calls; no position is missing, and the file is open
 abbrev pub IsOfEvent : {O : Type 0} → (O → List ℕ → Result ℕ Error → O → Type 0) → (O → Result (Unit {0}) Error → O → Type 0) → Failure → Type 0
 IsOfEvent writes flushes (failure.Output e) = IsErrorOf writes flushes e
 IsOfEvent writes flushes (failure.NoEvent n) = ⊥
+IsOfEvent writes flushes (failure.Unopened e) = ⊥
 IsOfEvent writes flushes _ = ⊤
 
 -- a failure of the output is the error of one of its calls, and the position at which no event begins is one
@@ -85,9 +86,10 @@ abbrev pub EndsAtEvent : Failure → Wanted → Spot → Type 0
 EndsAtEvent (failure.File e) wanted at = IsOutside e.error ⊎ Events.EndsWith wanted at.place at.in_force at.pending e
 EndsAtEvent _ wanted at = ⊤
 
--- an error of the file is that it is no binlog file, or isn't the bytes'
+-- an error of the file is that it is no binlog file, or isn't the bytes'; no position is missing
 abbrev pub EndsAtHeader : Failure → List ℕ → Type 0
 EndsAtHeader (failure.File e) x = NoHeader (Some x) e
+EndsAtHeader (failure.NoEvent n) x = ⊥
 EndsAtHeader _ x = ⊤
 
 -- ---- the lines before a failure
@@ -117,10 +119,10 @@ AllBegin [] n = ⊤
 AllBegin (e ∷ es) n = (e.position < n) × AllBegin es n
 
 -- Where no event begins at a position, each of these events begins before it, and the next one, if there is
--- one, after it.
-abbrev pub IsMissing : Failure → List Event → Spot → Type 0
-IsMissing (failure.NoEvent n) es at = AllBegin es n × ((n < at.place.at) ⊎ (at.place.left ≡ []))
-IsMissing _ es at = ⊤
+-- one, after it. The stop position may be the end of the file.
+abbrev pub IsMissing : Failure → Option ℕ → List Event → Spot → Type 0
+IsMissing (failure.NoEvent n) stop es at = AllBegin es n × ((n < at.place.at) ⊎ ((at.place.left ≡ []) × (stop ≡ Some n → n ≢ at.place.at)))
+IsMissing _ stop es at = ⊤
 
 -- an error of the file is that of an event before the stop position, if there is one
 abbrev pub IsInTime : Failure → Option ℕ → Spot → Type 0
@@ -139,7 +141,7 @@ pub record AreFirst (why : Failure) (f : Form) (stop : Option ℕ) (wanted : Wan
   pub lines : AreLines f wanted file from gtid events front at here
   pub next : AreFirstOfNext why f wanted file at here rows
   pub in_time : IsInTime why stop at
-  pub missing : IsMissing why events at
+  pub missing : IsMissing why stop events at
   pub whole : text ≡ front ++ rows
 
 -- ---- what was written

@@ -1,6 +1,5 @@
 -- The lines of a file's rows.
-use Rattle.std.specs.Prelude.{◌≡◌, ◌⊎◌, ℕ, List, [], ◌∷◌, ◌++◌, codes, decimal, Option, Some, None, MatchOption, if◌then◌else◌, ⊤}
-use Rattle.std.specs.Str.Lossy.{utf8_lossy}
+use Rattle.std.specs.Prelude.{◌≡◌, ◌⊎◌, ℕ, Bool, List, [], ◌∷◌, ◌++◌, codes, decimal, Option, Some, None, MatchOption, if◌then◌else◌, ⊤}
 use Rattle.binlog_table.specs.TableMap.{TableMap}
 use Rattle.mysql_binlog_rows.specs.Images.{Pair, pair}
 use Rattle.mysql_binlog_rows.specs.Cover.{Covers}
@@ -13,12 +12,14 @@ use Rattle.binlog_file.specs.declared.lent_changes.LentEvent.TheVariants as lent
 use Rattle.row_json.specs.Columns.{columns_of}
 use Rattle.row_json.specs.Rows.{IsLine}
 use Rattle.row_lines.specs.Lines.{signed_line_text}
+use Rattle.row_lines.specs.Names.{quoted_table}
 use Rattle.change_lines.specs.declared.run.Form.{Form}
 use Rattle.change_lines.specs.declared.run.Form.TheVariants as form
 use Rattle.changed_rows.specs.declared.filter.Positions.{Positions}
 use Rattle.changed_rows.specs.Filters.{start_sought, is_among}
 use Rattle.changed_rows.specs.Names.{up_to_most}
 use Rattle.changed_rows.specs.Gtids.{gtid_after}
+use Rattle.changed_rows.specs.Transactions.{open_after}
 use Rattle.changed_rows.specs.Gaps.{gap_of, gap_of_rows, with_gap}
 use Rattle.changed_rows.specs.declared.gaps.Gaps.{Gaps}
 use Rattle.changed_rows.specs.Origins.{member_of_row}
@@ -29,7 +30,7 @@ use Rattle.change_lines.specs.Rows.{AreLinesBy}
 
 -- `FILE:POS db.table `, with which a line of text begins
 abbrev pub place_text : List ℕ → ℕ → TableMap → List ℕ
-place_text file at t = file ++ (codes ":" ++ (decimal at ++ (codes " " ++ (utf8_lossy t.database ++ (codes "." ++ (utf8_lossy t.table ++ codes " "))))))
+place_text file at t = file ++ (codes ":" ++ (decimal at ++ (codes " " ++ (quoted_table t.database t.table ++ codes " "))))
 
 -- the line of the row of this number in the event
 abbrev pub IsRowLine : Form → List ℕ → Option (List ℕ) → LentChange → ℕ → Pair → List ℕ → Type 0
@@ -55,9 +56,14 @@ gtid_past old (lent.Other o) = gtid_after old o
 
 -- What is said of changes up to the end of an event that has so many rows. Of the events that are no rows events
 -- that are wanted, those count that begin at these positions.
-abbrev pub gaps_past : Positions → ℕ → LentEvent → Gaps → Gaps
-gaps_past p n (lent.Rows c) old = with_gap (gap_of_rows n) old
-gaps_past p n (lent.Other o) old = if is_among p o.origin.position then with_gap (gap_of o) old else old
+abbrev pub gaps_past : Positions → Bool → ℕ → LentEvent → Gaps → Gaps
+gaps_past p is_open n (lent.Rows c) old = with_gap (gap_of_rows n) old
+gaps_past p is_open n (lent.Other o) old = if is_among p o.origin.position then with_gap (gap_of is_open o) old else old
+
+-- whether a transaction is open after an event
+abbrev pub open_past : Bool → LentEvent → Bool
+open_past is_open (lent.Rows c) = is_open
+open_past is_open (lent.Other o) = open_after is_open o
 
 -- the reading ends at the stop position, or, without one, where no bytes are left
 abbrev pub IsEnd : Option ℕ → Spot → Type 0

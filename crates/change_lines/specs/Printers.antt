@@ -5,5 +5,6 @@ use Rattle.change_lines.specs.declared.run.Printer.{Printer}
 -- it prints the same file in the same way
 pub record IsSame (old new : Printer) : Type 0 where
   pub form : new.settings.now.form ≡ old.settings.now.form
-  pub stop : new.settings.now.filter.positions.stop ≡ old.settings.now.filter.positions.stop
+  pub positions : new.settings.now.filter.positions ≡ old.settings.now.filter.positions
   pub file : new.file.now ≡ old.file.now
+  pub path : new.path.now ≡ old.path.now

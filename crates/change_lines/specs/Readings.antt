@@ -15,9 +15,9 @@ pub record Stays {S C : Type 0} (old new : SourceChanges S C) : Type 0 where
   pub choice : new.choice ≡ old.choice
 
 -- The types of the events that are looked at beside rows events: those after which another GTID may be in
--- force, and those that say something of changes.
+-- force, and those that say something of changes or which file follows.
 abbrev pub seen_types : List ℕ
-seen_types = 0xA2 ∷ 0x21 ∷ 0x02 ∷ 0x0F ∷ 0x12 ∷ 0x22 ∷ 0x2A ∷ 0xA5 ∷ 0x26 ∷ 0x1A ∷ []
+seen_types = 0xA2 ∷ 0x21 ∷ 0x02 ∷ 0x0F ∷ 0x12 ∷ 0x22 ∷ 0x2A ∷ 0xA5 ∷ 0x26 ∷ 0x1A ∷ 0x04 ∷ []
 
 -- no event is passed over where each is looked at
 abbrev pub Passes : Bool → Spot → Spot → Type 0

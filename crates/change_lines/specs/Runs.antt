@@ -1,5 +1,7 @@
 -- What a run prints. It is a module of its own because Settings is a type of the code.
-use Rattle.std.specs.Prelude.{◌≡◌, ◌⊎◌, ℕ, true, List, [], Option, None}
+use Rattle.std.specs.Prelude.{◌≡◌, ◌⊎◌, ℕ, true, List, [], Option, None, Result, Ok, Err, OnOk, IfErr}
+use Rattle.std.specs.Io.KnownBytes.{Appends}
+use Rattle.std.specs.declared.io.Error.{Error}
 use Rattle.binlog_file.specs.Events.{Event, is_binlog}
 use Rattle.binlog_file.specs.Changes.{Spot, first_spot}
 use Rattle.std.specs.IoError.{error_kind}
@@ -11,7 +13,11 @@ use Rattle.change_lines.specs.declared.run.Ended.{Ended}
 use Rattle.change_lines.specs.declared.run.Ended.TheVariants as ended
 use Rattle.changed_rows.specs.Filters.{wanted_by, start_sought}
 use Rattle.change_lines.specs.Lines.{AreLines, IsEnd, IsBegun}
-use Rattle.change_lines.specs.Failures.{EndsAtHeader, AreFirst}
+use Rattle.changed_rows.specs.declared.count.Counts.{Counts}
+use Rattle.change_lines.specs.declared.run.Form.TheVariants as form
+use Rattle.change_lines.specs.Waits.{IsFlushed}
+use Rattle.change_lines.specs.Failures.{EndsAtHeader, AreFirst, IsOutput, AppendsUpTo}
+use Rattle.change_lines.specs.CountedFiles.{AreAllCounted, AreFirstOfFile, CountsThese}
 
 -- These are all lines of a file of this name and these bytes: those of the events from its beginning up to
 -- its end or the stop position, each of which is read without an error. One of them begins at the start
@@ -34,6 +40,19 @@ AreFirstLines why settings file x text =
     ((text ≡ []) × EndsAtHeader why x)
     ⊎ ((is_binlog x ≡ true) × AreFirst why settings.form settings.filter.positions.stop (wanted_by settings.filter) file (first_spot x) None text)
 
+-- What a run over a file of this name and these bytes gives: it appends all lines to the output, and counts all
+-- rows if they are counted; or the first of them, if it fails.
+pub record IsRun (settings : Settings) (file x : List ℕ) (before after : Counts) (old new : Option (List ℕ)) (result : Result (Unit {0}) Failure) : Type 0 where
+  pub lines : OnOk result ((text : List ℕ) × AreAllLines settings file x text × Appends old new text)
+  pub first_lines : IfErr result (λ why. (text : List ℕ) × AreFirstLines why settings file x text × AppendsUpTo why old new text)
+  pub counts : settings.form ≡ form.Count → OnOk result (CountsThese (AreAllCounted settings x) before after)
+  pub first_counts : settings.form ≡ form.Count → IfErr result (λ why. CountsThese (AreFirstOfFile why settings x) before after)
+
+-- A run leaves the output flushed. If it fails, the output may have failed, or nothing was done with it.
+abbrev pub IsLeftFlushed : {O : Type 0} → (O → Result (Unit {0}) Error → O → Type 0) → Result (Unit {0}) Failure → O → O → Type 0
+IsLeftFlushed flushes (Ok u) old new = IsFlushed flushes new
+IsLeftFlushed flushes (Err why) old new = IsOutput why ⊎ ((new ≡ old) ⊎ IsFlushed flushes new)
+
 -- the output failed because whoever read it went away
 abbrev pub IsBrokenPipe : Failure → Type 0
 IsBrokenPipe (failure.Output e) = error_kind e ≡ kind.BrokenPipe
@@ -49,3 +68,8 @@ EndsBy ended.Failed why = IsBrokenPipe why → ⊥
 abbrev pub status_of : Ended → ℕ
 status_of ended.Failed = 1
 status_of _ = 0
+
+-- how two runs end, one after the other: as the last one, unless the first failed
+abbrev pub at_last : Ended → Ended → Ended
+at_last ended.Failed last = ended.Failed
+at_last before last = last

@@ -1,13 +1,17 @@
 //! The arguments of the program.
 
-ghost use Rattle.std.specs.Prelude.{◌≡◌, ℕ, List, Some, None, codes};
+ghost use Rattle.std.specs.Prelude.{◌≡◌, ℕ, not, List, Some, None, codes};
 ghost use Rattle.clap.specs.Matches.{found_of, one_text, ReadsOne};
 ghost use Rattle.change_lines.specs.Arguments.{form_of, settings_of, starts_after_stop, texts, values_of};
-ghost use Rattle.change_lines.specs.Arguments.{has_point, has_table_without_database};
+ghost use Rattle.std.specs.List.{list_any};
+ghost use Rattle.changed_rows.specs.Patterns.{has_point};
+ghost use Rattle.change_lines.specs.Arguments.{has_table_without_database};
 ghost use Rattle.change_lines.specs.Arguments.{IsFlag, AreArguments};
 
 use crate::run::{Form, Settings};
-use changed_rows::filter::{Filter, Operations, Positions, TableNames};
+use changed_rows::filter::{Filter, Operations, Positions};
+use changed_rows::pattern::has_point;
+use changed_rows::table_names::TableNames;
 use clap::builder::ValueParser;
 use clap::error::ErrorKind;
 use clap::{Arg, ArgAction, ArgMatches, Command, Error, value_parser};
@@ -43,7 +47,19 @@ fn flag<'a>(alloc: Global, name: &'a str, help: &'a str) -> Arg<'a> {
         .help(help)
 }
 
-fn with_filters<'a>(alloc: Global, command: Command<'a>) -> Result<Command<'a>, AllocError> {
+fn with_names<'a>(alloc: Global, command: Command<'a>) -> Result<Command<'a>, AllocError> {
+    let database = "Only tables of this database; may be repeated";
+    let table = "Only this table; * is any text, ? a character; may be repeated";
+    let excluded = "No table of this database, whatever is named beside; may be repeated";
+    let excluded_table = "Not this table; * is any text, ? a character; may be repeated";
+    command
+        .arg(repeated(alloc, "database", "D", database))?
+        .arg(repeated(alloc, "table", "D.T", table))?
+        .arg(repeated(alloc, "exclude-database", "D", excluded))?
+        .arg(repeated(alloc, "exclude-table", "D.T", excluded_table))
+}
+
+fn with_operations<'a>(alloc: Global, command: Command<'a>) -> Result<Command<'a>, AllocError> {
     let op = repeated(
         alloc,
         "op",
@@ -52,15 +68,7 @@ fn with_filters<'a>(alloc: Global, command: Command<'a>) -> Result<Command<'a>, 
     )
     .value_delimiter(',')
     .value_parser(ValueParser::Names(OPERATIONS.as_slice()));
-    command
-        .arg(repeated(
-            alloc,
-            "database",
-            "D",
-            "Only tables of this database; may be repeated",
-        ))?
-        .arg(repeated(alloc, "table", "D.T", "Only this table; may be repeated"))?
-        .arg(op)
+    command.arg(op)
 }
 
 fn with_positions<'a>(alloc: Global, command: Command<'a>) -> Result<Command<'a>, AllocError> {
@@ -105,7 +113,8 @@ pub fn command<'a>(alloc: Global) -> Result<Command<'a>, AllocError> {
         .about(
             "Prints the rows that changed in binlog files of MySQL and MariaDB, as lines of JSON",
         );
-    let command = with_filters(alloc, command)?;
+    let command = with_names(alloc, command)?;
+    let command = with_operations(alloc, command)?;
     let command = with_positions(alloc, command)?;
     let command = with_forms(alloc, command)?;
     with_notes(alloc, command)?.arg(files)
@@ -123,6 +132,8 @@ pub struct Arguments<'a> {
     pub files: &'a [&'a str],
     /// Whether numbers of rows are printed in place of lines.
     pub is_count: bool,
+    /// Whether lines are of text, and not of JSON.
+    pub is_text: bool,
     /// Whether progress is told.
     pub is_progress: bool,
     /// Whether nothing but errors is told: neither progress nor what a file can't show.
@@ -130,7 +141,6 @@ pub struct Arguments<'a> {
     tables: TableNames<'a>,
     operations: Operations,
     positions: Positions,
-    is_text: bool,
 }
 
 // Returns the values of an option; none if it isn't given.
@@ -147,12 +157,12 @@ fn flag_of(matches: &ArgMatches<'_>, name: &str) -> bool
     matches.get_flag(name)
 }
 
-// Returns whether a text has a point.
-fn has_point(text: &[u8]) -> bool
-    ensures { result ≡ has_point text.now }
+// Returns whether one of the patterns of tables has no point that divides it.
+fn lacks_point(patterns: &[&str]) -> bool
+    ensures { result ≡ list_any (λ name. not (has_point name.now)) patterns.now }
 {
-    for byte in text {
-        if *byte == b'.' {
+    for pattern in patterns {
+        if !has_point(pattern.as_bytes()) {
             return true;
         }
     }
@@ -183,6 +193,8 @@ impl<'a> Arguments<'a> {
             tables: TableNames {
                 databases: values(matches, "database"),
                 tables: values(matches, "table"),
+                excluded_databases: values(matches, "exclude-database"),
+                excluded_tables: values(matches, "exclude-table"),
             },
             operations: Operations::named(values(matches, "op")),
             positions: Positions {
@@ -192,6 +204,13 @@ impl<'a> Arguments<'a> {
             is_text: flag_of(matches, "text"),
             is_quiet,
         }
+    }
+
+    /// Returns the names of the tables that are wanted.
+    pub fn tables(&self) -> &TableNames<'a>
+        ensures { result.now ≡ self.now.tables }
+    {
+        &self.tables
     }
 
     /// Returns whether the start and the stop position are those of one file, in which the start
@@ -205,16 +224,12 @@ impl<'a> Arguments<'a> {
         }
     }
 
-    /// Returns whether a name of `--table` has no point, so that it is the name of no table.
+    /// Returns whether a pattern of `--table` or `--exclude-table` has no point that divides it, so that
+    /// it matches no table.
     pub fn is_table_without_database(&self) -> bool
         ensures { result ≡ has_table_without_database self.now }
     {
-        for name in self.tables.tables {
-            if !has_point(name.as_bytes()) {
-                return true;
-            }
-        }
-        false
+        lacks_point(self.tables.tables) || lacks_point(self.tables.excluded_tables)
     }
 
     // Returns the form of what is printed.
@@ -231,9 +246,10 @@ impl<'a> Arguments<'a> {
     }
 
     /// Returns what is printed of the file with this number: the start position is that of the first
-    /// file, and the stop position that of the last one.
-    pub fn settings(&self, index: usize) -> Settings<'a>
-        ensures { result ≡ settings_of self.now index }
+    /// file, and the stop position that of the last one. `may_wait` says whether the source of the file may
+    /// have to be waited for.
+    pub fn settings(&self, index: usize, may_wait: bool) -> Settings<'a>
+        ensures { result ≡ settings_of self.now index may_wait }
     {
         let is_last = index.saturating_add(1) == self.files.len();
         Settings {
@@ -250,6 +266,7 @@ impl<'a> Arguments<'a> {
                 },
             },
             form: self.form(),
+            may_wait,
         }
     }
 }

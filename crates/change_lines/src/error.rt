@@ -3,6 +3,8 @@
 ghost use Rattle.std.specs.Prelude.{◌≡◌};
 ghost use Rattle.change_lines.specs.declared.error.Failure.TheVariants.{File, Output, Memory};
 
+use crate::faulty::FaultyTable;
+use binlog_base::fault::Fault;
 use binlog_file::error::{EventError, FileError};
 use binlog_file::types::{START_ENCRYPTION, TRANSACTION_PAYLOAD};
 use std::alloc::{AllocError, AllocFailed};
@@ -11,6 +13,8 @@ use std::{fmt, io};
 /// Why a run ends early.
 #[derive(Debug, Drop)]
 pub enum Failure {
+    /// The file can't be opened.
+    Unopened(io::Error),
     /// The file is no binlog file, an event can't be read, or a row of it can't be read or written. Where
     /// memory was refused to a reading, the error is `EventError::Memory`.
     File(FileError),
@@ -54,15 +58,45 @@ impl<T: Drop> From<AllocFailed<T>> for Failure {
     }
 }
 
-// What an error of an event is told as. `there` is how many bytes of the event the file has, if that is
-// known.
+/// What an error of a file is told as.
 #[derive(Clone, Copy)]
-struct Sentence {
+pub(crate) struct Sentence<'a> {
     error: EventError,
+    // How many bytes of the event the file has, if that is known.
     there: Option<u64>,
+    // The table of the row that can't be read, if that is known.
+    faulty: Option<&'a FaultyTable>,
 }
 
-impl Sentence {
+impl<'a> Sentence<'a> {
+    /// Returns the sentence of an error of a file of so many bytes, if that is known. `faulty` is the table of
+    /// the row that can't be read, if that is known.
+    pub(crate) fn of(
+        error: &FileError,
+        len: Option<u64>,
+        faulty: Option<&'a FaultyTable>,
+    ) -> Sentence<'a> {
+        Sentence {
+            error: error.error,
+            there: len.and_then(|len| len.checked_sub(error.position)),
+            faulty,
+        }
+    }
+
+    // Writes that a row can't be read, of which table that is, and which column where that isn't the row's.
+    fn write_row<W: fmt::Write>(
+        &self,
+        f: &mut fmt::Formatter<W>,
+        row: u64,
+        fault: Fault,
+    ) -> fmt::Result {
+        match self.faulty {
+            None => write!(f, "row {row}")?,
+            Some(table) => table.write(f, row)?,
+        }
+        write!(f, " can't be read: {fault}")
+    }
+
     // Writes that so many bytes of the event are missing.
     fn write_cut<W: fmt::Write>(&self, f: &mut fmt::Formatter<W>, missing: u64) -> fmt::Result {
         match self.there {
@@ -75,12 +109,13 @@ impl Sentence {
                 let all = there.saturating_add(missing);
                 write!(f, "the event is cut: {there} of {all} bytes are there")
             }
+            None if missing == 1 => f.write_str("the event is cut: 1 byte is missing"),
             None => write!(f, "the event is cut: {missing} bytes are missing"),
         }
     }
 }
 
-impl fmt::Display for Sentence {
+impl<'a> fmt::Display for Sentence<'a> {
     fn fmt<W: fmt::Write>(&self, f: &mut fmt::Formatter<W>) -> fmt::Result {
         match self.error {
             EventError::NotABinlogFile => f.write_str("this isn't a binlog file"),
@@ -88,7 +123,7 @@ impl fmt::Display for Sentence {
                 "the file is encrypted: have the server read it (mysqlbinlog -R --raw), or turn off binlog_encryption",
             ),
             EventError::Cut(missing) => self.write_cut(f, missing),
-            EventError::RowsData(row, fault) => write!(f, "row {row} can't be read: {fault}"),
+            EventError::RowsData(row, fault) => self.write_row(f, row, fault),
             EventError::NotSupported(TRANSACTION_PAYLOAD) => f.write_str(
                 "the transaction is compressed: turn off binlog_transaction_compression",
             ),
@@ -102,38 +137,6 @@ impl fmt::Display for Sentence {
             }
             EventError::Reader => f.write_str("the file can't be read"),
             error => write!(f, "{error}"),
-        }
-    }
-}
-
-/// Why the reading of a file ends early, as a line for the user.
-#[derive(Drop)]
-pub struct Told<'a> {
-    /// The path of the file, as it was given.
-    pub path: &'a str,
-    /// How many bytes the file has, if that is known.
-    pub len: Option<u64>,
-    /// Why it ends.
-    pub failure: &'a Failure,
-}
-
-impl<'a> fmt::Display for Told<'a> {
-    fn fmt<W: fmt::Write>(&self, f: &mut fmt::Formatter<W>) -> fmt::Result {
-        let path = self.path;
-        match self.failure {
-            Failure::File(error) => {
-                let position = error.position;
-                let sentence = Sentence {
-                    error: error.error,
-                    there: self.len.and_then(|len| len.checked_sub(position)),
-                };
-                write!(f, "changes: {path} at {position}: {sentence}")
-            }
-            Failure::NoEvent(position) => {
-                write!(f, "changes: {path}: no event begins at {position}")
-            }
-            Failure::Output(error) => write!(f, "changes: the output can't be written: {error}"),
-            Failure::Memory => write!(f, "changes: {path}: out of memory"),
         }
     }
 }

@@ -2,9 +2,13 @@
 //! command line say: the body of the program `changes`.
 #![tactic(auto)]
 
+pub mod ahead;
 pub mod arguments;
 pub mod bounds;
 pub mod error;
+mod faulty;
+pub mod files;
+pub mod lacking;
 pub mod notes;
 pub mod output;
 pub mod progress;

@@ -1,7 +1,7 @@
 //! Prints the changes of a file.
 
 ghost use Rattle.std.specs.IoError.{error_kind};
-ghost use Rattle.std.specs.Prelude.{◌≡◌, ◌≢◌, ◌⊎◌, ◌↔◌, IsTrue, ℕ, List, [], ◌++◌, OnOk, OnErr, IfOk, IfErr};
+ghost use Rattle.std.specs.Prelude.{◌≡◌, ◌≢◌, ◌⊎◌, ◌↔◌, IsTrue, IsFalse, true, false, ℕ, List, [], ◌++◌, OnOk, OnErr, IfOk, IfErr};
 ghost use Rattle.std.specs.String.{string_bytes};
 ghost use Rattle.std.specs.Io.KnownBytes.{Appends};
 ghost use Rattle.row_json.specs.LongLines.{line_bytes};
@@ -20,9 +20,15 @@ ghost use Rattle.changed_rows.specs.Filters.{wanted_by};
 ghost use Rattle.changed_rows.specs.Gtids.{gtid_after};
 ghost use Rattle.changed_rows.specs.Sources.{members_in};
 ghost use Rattle.change_lines.specs.Outputs.{Outputs, AppendsFirst};
+ghost use Rattle.change_lines.specs.Waits.{has_event, IsFlushed};
 ghost use Rattle.change_lines.specs.Rows.{BeginsWith, IsJsonLine, WritesRows, IsRowCount, IsRowCountOf};
 ghost use Rattle.change_lines.specs.Readings.{Stays, SourceNext};
-ghost use Rattle.change_lines.specs.Lines.{place_text, IsRowLine, gtid_past, gaps_past, WritesEvent, Writes};
+ghost use Rattle.changed_rows.specs.Transactions.{open_after};
+ghost use Rattle.changed_rows.specs.Gaps.{no_gaps};
+ghost use Rattle.changed_rows.specs.declared.gaps.Gaps.{Gaps};
+ghost use Rattle.change_lines.specs.Notes.{TellsBreak, TellsFile};
+ghost use Rattle.change_lines.specs.NotedFiles.{AreNotedToEnd, AreAllNoted};
+ghost use Rattle.change_lines.specs.Lines.{place_text, IsRowLine, gtid_past, gaps_past, open_past, WritesEvent, Writes};
 ghost use Rattle.change_lines.specs.declared.error.Failure.{Failure};
 ghost use Rattle.change_lines.specs.Failures.{IsOutput, IsErrorOfRow, EndsAtRow, IsRowFailure, IsLineFailure};
 ghost use Rattle.change_lines.specs.Failures.{IsOfReading, IsOfEvent, IsOfRun};
@@ -34,10 +40,12 @@ ghost use Rattle.change_lines.specs.CountedFiles.{counted_by, AreEventRows, AreF
 ghost use Rattle.change_lines.specs.CountedFiles.{AreCountedToEnd, AreFirstCounted, AreAllCounted};
 ghost use Rattle.change_lines.specs.CountedFiles.{AreFirstOfFile, CountsThese};
 ghost use Rattle.change_lines.specs.Printers.{IsSame};
-ghost use Rattle.change_lines.specs.Runs.{AreAllLines, AreFirstLines, EndsBy, status_of};
+ghost use Rattle.change_lines.specs.Runs.{AreAllLines, AreFirstLines, EndsBy, IsLeftFlushed, IsRun, status_of, at_last};
 
+use crate::ahead::{Ahead, has_event};
 use crate::bounds::Bounds;
 use crate::error::Failure;
+use crate::faulty::FaultyTable;
 use crate::notes::Notes;
 use crate::output::{write_long_line, write_whole};
 use binlog_base::below::{Counted, Source as Bytes, WriteOnce};
@@ -49,7 +57,7 @@ use binlog_file::reader::EventBuffer;
 use binlog_file::source_changes::SourceChanges;
 use binlog_file::types::{
     ANONYMOUS_GTID, COMPRESSED_QUERY, EXECUTE_LOAD_QUERY, FORMAT_DESCRIPTION, GTID, INCIDENT,
-    MARIADB_GTID, QUERY, TAGGED_GTID, XA_PREPARE,
+    MARIADB_GTID, QUERY, ROTATE, TAGGED_GTID, XA_PREPARE,
 };
 use binlog_table::table_map::TableMapEvent;
 use changed_rows::count::{Counts, TableName};
@@ -58,8 +66,10 @@ use changed_rows::gaps::Gaps;
 use changed_rows::gtid::Gtid;
 use changed_rows::source::Source;
 use changed_rows::tables::KeptTables;
+use changed_rows::transaction::is_open_after;
 use mysql_binlog_rows::rows_event::{LentPair, RowsEvent};
 use row_json::{EscapeRoom, LineRoom, LongLine, TableJson, long_line_with, write_line_with};
+use row_lines::name::quoted_table;
 use row_lines::push_signed_line;
 use std::alloc::{AllocError, Global};
 use std::io::{self, ErrorKind, Read, Write};
@@ -92,6 +102,9 @@ pub struct Settings<'a> {
     pub filter: Filter<'a>,
     /// The form of their lines.
     pub form: Form,
+    /// Whether a read of the source may have to wait, as that of a pipe. Then the lines are written out, and
+    /// the output is flushed, before each read of an event that the source doesn't hold whole.
+    pub may_wait: bool,
 }
 
 /// How a run ended.
@@ -115,6 +128,16 @@ impl Ended {
             Ended::Failed => 1,
         }
     }
+
+    /// Returns how two runs end, one after the other: as the last one, unless an error of the first was told.
+    pub fn and_then(self, last: Ended) -> Ended
+        ensures { result ≡ at_last self last }
+    {
+        match self {
+            Ended::Failed => Ended::Failed,
+            Ended::Whole | Ended::Closed => last,
+        }
+    }
 }
 
 // Returns whether an output failed because whoever read it went away.
@@ -124,8 +147,8 @@ fn is_broken_pipe(error: &io::Error) -> bool
     error.kind() == ErrorKind::BrokenPipe
 }
 
-// Returns how a run ends by a failure.
-fn ended_by(failure: &Failure) -> Ended
+/// Returns how a run ends by a failure.
+pub fn ended_by(failure: &Failure) -> Ended
     ensures { EndsBy result failure.now }
 {
     match failure {
@@ -136,7 +159,9 @@ fn ended_by(failure: &Failure) -> Ended
                 Ended::Failed
             }
         }
-        Failure::File(_) | Failure::NoEvent(_) | Failure::Memory => Ended::Failed,
+        Failure::Unopened(_) | Failure::File(_) | Failure::NoEvent(_) | Failure::Memory => {
+            Ended::Failed
+        }
     }
 }
 
@@ -238,6 +263,24 @@ impl Lines {
         self.write_out(out)?;
         match out.flush_once() {
             Ok(()) => read,
+            Err(error) => Err(Failure::Output(error)),
+        }
+    }
+
+    // Writes the lines out and flushes the output. The lines are gone then, even if the output fails.
+    fn let_go<O: WriteOnce>(&mut self, out: &mut O) -> Result<(), Failure>
+        ensures all { OnOk result (Outputs (O.contents out.old) self.old.bytes.items []
+            (O.contents out.new) self.new.bytes.items) }
+        ensures first { IfErr result (λ why. OutputsUpTo why (O.contents out.old) self.old.bytes.items []
+            (O.contents out.new) self.new.bytes.items) }
+        ensures failed { IfErr result IsOutput }
+        ensures cause { IfErr result (IsOfEvent O.writes O.flushes) }
+        ensures none { self.new.bytes.items ≡ [] }
+        ensures flushed { OnOk result (IsFlushed O.flushes out.new) }
+    {
+        self.write_out(out)?;
+        match out.flush_once() {
+            Ok(()) => Ok(()),
             Err(error) => Err(Failure::Output(error)),
         }
     }
@@ -500,7 +543,7 @@ fn add_rows(
 
 // The types of the events that are looked at beside rows events: those after which another GTID may be
 // in force, and those that say something of changes. Those that come most are first.
-const SEEN: [u8; 10] = [
+const SEEN: [u8; 11] = [
     MARIADB_GTID,
     GTID,
     QUERY,
@@ -511,14 +554,22 @@ const SEEN: [u8; 10] = [
     COMPRESSED_QUERY,
     XA_PREPARE,
     INCIDENT,
+    ROTATE,
 ];
 
-// Reads the next event into a buffer: each one, or only those that are looked at.
-fn next_event<'f, 'b, S: Bytes + Drop>(
+// Reads the next event into a buffer: each one, or only those that are looked at. The lines and the output
+// are asked for by the contract alone: where the source may have to be waited for, no line is held back.
+fn next_event<'f, 'b, S: Bytes + Ahead + Drop, O: WriteOnce>(
     changes: &mut SourceChanges<S, Filter<'f>>,
     buffer: &'b mut EventBuffer,
     is_each: bool,
+    may_wait: bool,
+    _lines: &Lines,
+    _out: &O,
 ) -> Option<Result<LentEvent<'b>, FileError>>
+    requires none_waits { IsTrue may_wait → (has_event (S.ahead changes.old.source) ≡ true)
+        ⊎ ((_lines.now.bytes.items ≡ []) × IsFlushed O.flushes _out.now) }
+    requires each { IsTrue may_wait → IsTrue is_each }
     ensures event { SourceNext (wanted_by changes.old.choice) is_each
         (S.remaining changes.old.source) (reading_in changes.old.walk) changes.old.walk.pending result
         (S.remaining changes.new.source) (reading_in changes.new.walk) changes.new.walk.pending }
@@ -533,6 +584,16 @@ fn next_event<'f, 'b, S: Bytes + Drop>(
     }
 }
 
+// Returns whether each event is looked at: where it has to be seen at which positions events begin, and where
+// the source may have to be waited for, since a reading that passes over events would wait for the next one.
+#[inline(always)]
+fn is_each(may_wait: bool, bounds: &Bounds) -> bool
+    ensures free { IsFalse result → (bounds.now.start ≡ None) × (bounds.now.stop ≡ None) }
+    ensures waits { IsTrue may_wait → IsTrue result }
+{
+    may_wait || bounds.are_given()
+}
+
 // What is kept while a file is printed.
 #[derive(Drop)]
 struct Printer<'a> {
@@ -541,9 +602,12 @@ struct Printer<'a> {
     path: &'a str,
     file: &'a str,
     gtid: Gtid,
+    is_open: bool,
     gaps: Gaps,
     tables: KeptTables,
     lines: Lines,
+    // The table of the row that can't be read, if it is known.
+    faulty: Option<FaultyTable>,
 }
 
 impl<'a> Printer<'a> {
@@ -553,9 +617,9 @@ impl<'a> Printer<'a> {
             ≡ place_text self.now.file.now position table.now) }
     {
         let file = self.file;
-        let database = String::from_utf8_lossy(self.alloc, table.database_name_raw())?;
-        let name = String::from_utf8_lossy(self.alloc, table.table_name_raw())?;
-        format!(in self.alloc; "{file}:{position} {database}.{name} ")
+        let (database, name) = (table.database_name_raw(), table.table_name_raw());
+        let table = quoted_table(self.alloc, database, name)?;
+        format!(in self.alloc; "{file}:{position} {table} ")
     }
 
     // Prints the rows of an event as lines of JSON.
@@ -582,6 +646,7 @@ impl<'a> Printer<'a> {
             → length self.new.lines.bytes.items < 32 * 1024) }
         ensures rows { IfOk result (IsRowCount change.old) }
         ensures gaps { self.new.gaps ≡ self.old.gaps }
+        ensures transaction { self.new.is_open ≡ self.old.is_open }
     {
         let table = self.tables.table(self.alloc, change.table())?;
         let (database, name) = (table.database(), table.name());
@@ -615,6 +680,7 @@ impl<'a> Printer<'a> {
             → length self.new.lines.bytes.items < 32 * 1024) }
         ensures rows { IfOk result (IsRowCount change.old) }
         ensures gaps { self.new.gaps ≡ self.old.gaps }
+        ensures transaction { self.new.is_open ≡ self.old.is_open }
     {
         let place = self.place(change.position(), change.table())?;
         write_text_rows(
@@ -685,6 +751,7 @@ impl<'a> Printer<'a> {
             → length self.new.lines.bytes.items < 32 * 1024) }
         ensures rows { IfOk result (IsRowCount change.old) }
         ensures gaps { self.new.gaps ≡ self.old.gaps }
+        ensures transaction { self.new.is_open ≡ self.old.is_open }
     {
         match self.settings.form {
             Form::Json => self.print_json(changes, change, buffer, out),
@@ -699,13 +766,30 @@ impl<'a> Printer<'a> {
         ensures lines { self.new.lines ≡ self.old.lines }
         ensures same { IsSame self.old self.new }
         ensures gaps { OnOk result (self.new.gaps
-            ≡ gaps_past self.old.settings.now.filter.positions 0 (lent.Other event.now) self.old.gaps) }
+            ≡ gaps_past self.old.settings.now.filter.positions self.old.is_open 0 (lent.Other event.now) self.old.gaps) }
+        ensures transaction { OnOk result (self.new.is_open ≡ open_after self.old.is_open event.now) }
     {
         self.gtid.see(self.alloc, event)?;
         if self.settings.filter.positions.contains(event.position()) {
-            self.gaps.see(event);
+            self.gaps.see(self.is_open, event);
         }
+        self.is_open = is_open_after(self.is_open, event);
         Ok(())
+    }
+
+    // Keeps the table of an event, if a row of it can't be read. Where memory is refused for that, it is told
+    // without the table.
+    #[inline(always)]
+    fn see_faulty(&mut self, table: &TableMapEvent<'_>, printed: &Result<u64, Failure>)
+        ensures same { IsSame self.old self.new }
+        ensures gtid { self.new.gtid ≡ self.old.gtid }
+        ensures lines { self.new.lines ≡ self.old.lines }
+        ensures gaps { self.new.gaps ≡ self.old.gaps }
+        ensures transaction { self.new.is_open ≡ self.old.is_open }
+    {
+        if let Err(Failure::File(error)) = printed {
+            self.faulty = FaultyTable::of(self.alloc, table, error.error).unwrap_or(None);
+        }
     }
 
     // Prints what an event gives. Returns how many rows it has that are wanted.
@@ -734,7 +818,9 @@ impl<'a> Printer<'a> {
             → length self.new.lines.bytes.items < 32 * 1024) }
         ensures rows { IfOk result (IsRowCountOf event.entry) }
         ensures gaps { IfOk result (λ n. self.new.gaps
-            ≡ gaps_past self.old.settings.now.filter.positions n event.entry self.old.gaps) }
+            ≡ gaps_past self.old.settings.now.filter.positions self.old.is_open n event.entry
+            self.old.gaps) }
+        ensures transaction { OnOk result (self.new.is_open ≡ open_past self.old.is_open event.entry) }
     {
         match event {
             LentEvent::Other(event) => {
@@ -744,15 +830,45 @@ impl<'a> Printer<'a> {
             LentEvent::Rows(change) => {
                 let mut change = change;
                 let mut buffer = LentPair::new(self.alloc);
-                let rows = self.print_rows(changes, &mut change, &mut buffer, counts, out)?;
+                let printed = self.print_rows(changes, &mut change, &mut buffer, counts, out);
+                self.see_faulty(change.table(), &printed);
+                let rows = printed?;
                 self.gaps.see_rows(rows);
                 Ok(rows)
             }
         }
     }
 
+    // Writes the lines out and flushes the output, if the next event may have to be waited for.
+    #[inline(always)]
+    fn let_go<'f, S: Bytes + Ahead + Drop, O: WriteOnce>(
+        &mut self,
+        changes: &SourceChanges<S, Filter<'f>>,
+        out: &mut O,
+    ) -> Result<(), Failure>
+        ensures none_waits { OnOk result (IsTrue self.new.settings.now.may_wait
+            → (has_event (S.ahead changes.now.source) ≡ true)
+            ⊎ ((self.new.lines.bytes.items ≡ []) × IsFlushed O.flushes out.new)) }
+        ensures all { OnOk result (Outputs (O.contents out.old) self.old.lines.bytes.items []
+            (O.contents out.new) self.new.lines.bytes.items) }
+        ensures first { IfErr result (λ why. OutputsUpTo why (O.contents out.old)
+            self.old.lines.bytes.items [] (O.contents out.new) self.new.lines.bytes.items) }
+        ensures failed { IfErr result IsOutput }
+        ensures cause { IfErr result (IsOfEvent O.writes O.flushes) }
+        ensures same { IsSame self.old self.new }
+        ensures settings { self.new.settings ≡ self.old.settings }
+        ensures gtid { self.new.gtid ≡ self.old.gtid }
+        ensures gaps { self.new.gaps ≡ self.old.gaps }
+        ensures transaction { self.new.is_open ≡ self.old.is_open }
+    {
+        if !self.settings.may_wait || has_event(changes.source().ahead()) {
+            return Ok(());
+        }
+        self.lines.let_go(out)
+    }
+
     // Prints the events of a file up to its end, or to the stop position.
-    fn print_events<'f, S: Bytes + Drop, O: WriteOnce, E: Write + Drop, K: Clock>(
+    fn print_events<'f, S: Bytes + Ahead + Drop, O: WriteOnce, E: Write + Drop, K: Clock>(
         &mut self,
         changes: &mut SourceChanges<S, Filter<'f>>,
         counts: &mut Counts,
@@ -785,6 +901,15 @@ impl<'a> Printer<'a> {
             → CountsThese (AreFirstCounted why self.old.settings.now.filter.positions.stop
             (wanted_by changes.old.choice)
             (spot_at (kept_in changes.old.walk) None x)) counts.old counts.new) }
+        ensures noted { OnOk result (changes.old.walk.pending ≡ None
+            → (x : List ℕ) → Finds (reading_in changes.old.walk) (S.remaining changes.old.source) x
+            → AreNotedToEnd (wanted_by changes.old.choice)
+            self.old.settings.now.filter.positions (spot_at (kept_in changes.old.walk) None x)
+            self.old.is_open self.old.gaps self.new.gaps) }
+        ensures told { OnOk result (notes.old.meter ≡ None → IsSome notes.old.len
+            → TellsBreak self.old.path.now notes.old.is_lost (E.contents notes.old.err)
+            notes.new.is_lost (E.contents notes.new.err)) }
+        ensures quiet { notes.new.is_quiet ≡ notes.old.is_quiet }
         ensures cause { IfErr result (IsOfRun self.old.settings.now.filter.positions
             O.writes O.flushes) }
     {
@@ -795,19 +920,26 @@ impl<'a> Printer<'a> {
             if !bounds.goes_on(position) {
                 return bounds.end(position);
             }
-            let event = match next_event(changes, &mut buffer, bounds.are_given()) {
-                None => return bounds.end(position),
+            self.let_go(changes, out)?;
+            let may_wait = self.settings.may_wait;
+            let each = is_each(may_wait, &bounds);
+            let event = match next_event(changes, &mut buffer, each, may_wait, &self.lines, out) {
+                None => {
+                    notes.tell_break(self.path, changes.reader().last_type(), self.is_open);
+                    return bounds.end(position);
+                }
                 Some(event) => event?,
             };
             bounds.begin(position)?;
             notes.see(self.settings.form, &event)?;
+            notes.see_name(&self.settings.filter.tables, changes.reader(), &event);
             let rows = self.print_event(changes, event, counts, out)?;
             notes.step(self.path, position, rows);
         }
     }
 
     // Prints the changes of a file.
-    fn print<R: Read + Drop, O: WriteOnce, E: Write + Drop, K: Clock>(
+    fn print<R: Read + Ahead + Drop, O: WriteOnce, E: Write + Drop, K: Clock>(
         &mut self,
         reader: R,
         counts: &mut Counts,
@@ -828,6 +960,13 @@ impl<'a> Printer<'a> {
         ensures first_counts { IfErr result (λ why. self.old.settings.now.form ≡ Form.Count
             → (x : List ℕ) → R.remaining reader ≡ Some x → length x < 2 ^ 64
             → CountsThese (AreFirstOfFile why self.old.settings.now x) counts.old counts.new) }
+        ensures noted { OnOk result (self.old.is_open ≡ false → self.old.gaps ≡ no_gaps
+            → (x : List ℕ) → R.remaining reader ≡ Some x → length x < 2 ^ 64
+            → AreAllNoted self.old.settings.now x self.new.gaps) }
+        ensures told { OnOk result (notes.old.meter ≡ None → IsSome notes.old.len
+            → TellsBreak self.old.path.now notes.old.is_lost (E.contents notes.old.err)
+            notes.new.is_lost (E.contents notes.new.err)) }
+        ensures quiet { notes.new.is_quiet ≡ notes.old.is_quiet }
         ensures cause { IfErr result (IsOfRun self.old.settings.now.filter.positions
             O.writes O.flushes) }
         ensures flushed { OnOk result ((mid : O) × (u : Unit {0}) × O.flushes mid (Ok u) out.new) }
@@ -845,11 +984,11 @@ impl<'a> Printer<'a> {
 /// in lines, and `path` that in what is told. With `Form::Count` the rows are counted in `counts`, and nothing
 /// is printed.
 ///
-/// The run is `Whole` if all was read that was asked for and all lines were written; then it is told what the
-/// file can't show. It is `Closed` if the output failed because whoever read it went away, and nothing is told
-/// of that. Else it has `Failed`, and the error is told after all lines before it. Unless the output failed,
-/// it is flushed before that too, if anything of the file was read past its first bytes.
-pub fn run<R: Read + Drop, O: WriteOnce, E: Write + Drop, K: Clock>(
+/// If all was read that was asked for and all lines were written, it is told what the file can't show. Else
+/// all lines before the failure were written, unless the output failed. The failure isn't told: that is for
+/// whoever calls (`Notes::tell`, `ended_by`). Unless the output failed, it is flushed, if anything of the file
+/// was read past its first bytes.
+pub fn run<R: Read + Ahead + Drop, O: WriteOnce, E: Write + Drop, K: Clock>(
     alloc: Global,
     settings: &Settings<'_>,
     path: &str,
@@ -858,23 +997,16 @@ pub fn run<R: Read + Drop, O: WriteOnce, E: Write + Drop, K: Clock>(
     counts: &mut Counts,
     out: &mut O,
     notes: &mut Notes<'_, E, K>,
-) -> Ended
-    ensures all { result ≡ Whole → (x : List ℕ) → R.remaining reader ≡ Some x → length x < 2 ^ 64
-        → (text : List ℕ) × AreAllLines settings.now file.now x text
-        × Appends (O.contents out.old) (O.contents out.new) text }
-    ensures counts { result ≡ Whole → settings.now.form ≡ Form.Count
+) -> Result<(), Failure>
+    ensures run { (x : List ℕ) → R.remaining reader ≡ Some x → length x < 2 ^ 64
+        → IsRun settings.now file.now x counts.old counts.new (O.contents out.old)
+        (O.contents out.new) result }
+    ensures told { IsFalse notes.old.is_quiet → notes.old.meter ≡ None → IsSome notes.old.len
         → (x : List ℕ) → R.remaining reader ≡ Some x → length x < 2 ^ 64
-        → CountsThese (AreAllCounted settings.now x) counts.old counts.new }
-    ensures first { result ≢ Whole → (why : Failure) × EndsBy result why
-        × IsOfRun settings.now.filter.positions O.writes O.flushes why
-        × (IsOutput why ⊎ ((out.new ≡ out.old)
-        ⊎ ((mid : O) × (u : Unit {0}) × O.flushes mid (Ok u) out.new)))
-        × ((x : List ℕ) → R.remaining reader ≡ Some x → length x < 2 ^ 64
-        → (text : List ℕ) × AreFirstLines why settings.now file.now x text
-        × AppendsUpTo why (O.contents out.old) (O.contents out.new) text
-        × (settings.now.form ≡ Form.Count
-        → CountsThese (AreFirstOfFile why settings.now x) counts.old counts.new)) }
-    ensures flushed { result ≡ Whole → (mid : O) × (u : Unit {0}) × O.flushes mid (Ok u) out.new }
+        → OnOk result ((gaps : Gaps) × AreAllNoted settings.now x gaps × TellsFile path.now gaps
+        notes.old.is_lost (E.contents notes.old.err) notes.new.is_lost (E.contents notes.new.err)) }
+    ensures cause { IfErr result (IsOfRun settings.now.filter.positions O.writes O.flushes) }
+    ensures flushed { IsLeftFlushed O.flushes result out.old out.new }
 {
     let mut printer = Printer {
         alloc,
@@ -882,23 +1014,18 @@ pub fn run<R: Read + Drop, O: WriteOnce, E: Write + Drop, K: Clock>(
         path,
         file,
         gtid: Gtid::new(alloc),
+        is_open: false,
         gaps: Gaps::new(),
         tables: KeptTables::new(alloc),
         lines: Lines::new(alloc),
+        faulty: None,
     };
-    match printer.print(reader, counts, out, notes) {
-        Ok(()) => {
-            notes.tell_gaps(path, &printer.gaps);
-            Ended::Whole
-        }
-        Err(failure) => {
-            let ended = ended_by(&failure);
-            if ended == Ended::Failed {
-                notes.tell(path, &failure);
-            }
-            ended
-        }
-    }
+    let printed = printer.print(reader, counts, out, notes);
+    let Printer { gaps, faulty, .. } = printer;
+    notes.see_faulty(faulty);
+    printed?;
+    notes.tell_gaps(path, &gaps);
+    Ok(())
 }
 
 /// Writes the table of the counts out (`Counts::print`), and flushes the output. The table is made in

@@ -1,11 +1,12 @@
 -- How many rows of each table were counted.
-use Rattle.std.proofs.Common.{◌≡◌, ◌<◌, ◌≤◌, ◌+◌, ℕ, Bool, true, false, ◌⊎◌, inl, inr, List, [], ◌∷◌, ◌++◌, length, cond, if◌then◌else◌, codes, Option, Some, None, Result, Ok, Err, refl, sym, ap, subst, ◌∙◌, arith, append_assoc}
+use Rattle.std.proofs.Common.{◌≡◌, ◌<◌, ◌≤◌, ◌+◌, ℕ, Bool, true, false, ◌⊎◌, inl, inr, List, [], ◌∷◌, ◌++◌, map, length, cond, if◌then◌else◌, codes, Option, Some, None, Result, Ok, Err, refl, sym, ap, subst, ◌∙◌, arith, append_assoc}
 use Rattle.std.specs.Prelude.{◌&&◌, ◌||◌, not, bytes_eq, MatchOption, OnOk}
 use Rattle.std.specs.declared.cmp.Ordering.{Ordering}
 use Rattle.std.specs.declared.cmp.Ordering.TheVariants.{Less, Equal, Greater}
 use Rattle.std.specs.Ordering.{is_eq, nat_cmp, ordering_then, match_ordering}
 use Rattle.std.specs.Cmp.Lexicographic.{slice_cmp, bytes_decides, nat_list_eq_equiv}
-use Rattle.std.specs.List.{sum_by, flat_map}
+use Rattle.std.specs.List.{AllByRecursion, list_any, sum_by, flat_map}
+use Rattle.std.specs.List.Sorted.{IsStrictlySortedBy}
 use Rattle.std.specs.Map.{lookup, values_of}
 use Rattle.std.specs.Option.{is_some, unwrap_or}
 use Rattle.std.specs.BTreeMap.{insert_entry}
@@ -21,7 +22,7 @@ use Rattle.changed_rows.specs.declared.count.TableName.{TableName}
 use Rattle.changed_rows.specs.declared.count.Counts.{Counts}
 use Rattle.changed_rows.specs.contracts.count.TableNameOrd.TheImpl as name_ord
 use Rattle.changed_rows.specs.Names.{up_to_most}
-use Rattle.changed_rows.specs.Counted.{nothing, plus, added, Name, same_name, name_of, Counted, inserted_in, updated_in, deleted_in, changed_where, counted_of, has_rows, IsLeftOut, AreCounts, name_text, numbers_text, sum_of, is_nothing, head_text, others_text}
+use Rattle.changed_rows.specs.Counted.{nothing, plus, added, Name, same_name, name_of, name_order, Counted, inserted_in, updated_in, deleted_in, changed_where, counted_of, has_rows, IsLeftOut, AreCounts, name_text, numbers_text, sum_of, is_nothing, head_text, others_text}
 
 -- ---- names
 
@@ -75,6 +76,14 @@ lookup_same t u same (e ∷ es) = rw (same e.0, lookup_same t u same es) refl
 -- what a look-up of a name finds
 pub found : (n : TableName) (es : List (TableName × Changed)) → lookup (λ k. is_eq (compared n k)) es ≡ lookup (has (name_of n)) es
 found n es = lookup_same (λ k. is_eq (compared n k)) (has (name_of n)) (compares n) es
+
+any_same : {K : Type 0} (t u : K → Bool) → ((k : K) → t k ≡ u k) → (ks : List K) → list_any t ks ≡ list_any u ks
+any_same t u same [] = refl
+any_same t u same (k ∷ ks) = rw (same k, any_same t u same ks) refl
+
+-- whether a name is one of those of a set
+pub listed : (n : TableName) (ns : List TableName) → list_any (λ k. is_eq (compared n k)) ns ≡ list_any (has (name_of n)) ns
+listed n ns = any_same (λ k. is_eq (compared n k)) (has (name_of n)) (compares n) ns
 
 cond_twice : {X : Type 0} (b : Bool) (x y z : X) → cond b x z ≡ cond b x (cond b y z)
 cond_twice true x y z = refl
@@ -403,3 +412,15 @@ turned_false false h = refl
 pub turned_true : (b : Bool) → false ≡ not b → b ≡ true
 turned_true true h = refl
 turned_true false h = absurd cc
+
+-- ---- the order of what is printed
+
+after_each : (n : TableName) (es : List (TableName × Changed)) → AllByRecursion (λ m. compared n m ≡ Less) (map (λ e. e.0) es) → AllByRecursion (λ m. name_order (name_of n) m ≡ Less) (map (λ e. name_of e.0) es)
+after_each n [] h = tt
+after_each n (e ∷ es) h = (h.0, after_each n es h.1)
+
+-- the order of the keys is the one of their names
+pub names_ascend : (es : List (TableName × Changed)) → IsStrictlySortedBy compared (map (λ e. e.0) es) → IsStrictlySortedBy name_order (map (λ e. name_of e.0) es)
+unfolding IsStrictlySortedBy
+names_ascend [] h = tt
+names_ascend (e ∷ es) h = (after_each e.0 es h.0, names_ascend es h.1)

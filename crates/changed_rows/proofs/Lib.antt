@@ -5,3 +5,8 @@ pub mod Counted
 pub mod Members
 pub mod Alike
 pub mod Kept
+pub mod Walked
+pub mod Came
+pub mod Patterns
+pub mod PlainPatterns
+pub mod GtidsKept

@@ -1,15 +1,19 @@
 -- How many rows of each table changed. It is a module of its own because Counts is a type of the code.
-use Rattle.std.specs.Prelude.{◌≡◌, ◌⊎◌, ◌≤◌, ◌+◌, ◌-◌, ◌^◌, ℕ, Bool, true, false, not, ◌&&◌, ◌==◌, if◌then◌else◌, List, [], ◌∷◌, ◌++◌, length, codes, bytes_eq, decimal, Option, None, MatchOption}
+use Rattle.std.specs.Prelude.{◌≡◌, ◌⊎◌, ◌≤◌, ◌+◌, ◌-◌, ◌^◌, ℕ, Bool, true, false, not, ◌&&◌, ◌==◌, if◌then◌else◌, List, [], ◌∷◌, ◌++◌, length, codes, bytes_eq, decimal, map, Option, None, MatchOption}
+use Rattle.std.specs.Cmp.Lexicographic.{slice_cmp}
 use Rattle.std.specs.List.{list_any, sum_by, flat_map}
+use Rattle.std.specs.List.Sorted.{IsStrictlySortedBy}
 use Rattle.std.specs.Map.{lookup, values_of}
 use Rattle.std.specs.Option.{is_some}
-use Rattle.std.specs.Str.Lossy.{utf8_lossy}
+use Rattle.std.specs.Ordering.{nat_cmp, ordering_then}
+use Rattle.std.specs.declared.cmp.Ordering.{Ordering}
 use Rattle.std.specs.Fmt.{padded_integral, format_spec}
 use Rattle.changed_rows.specs.declared.filter.Operation.{Operation}
 use Rattle.changed_rows.specs.declared.filter.Operation.TheVariants as operation
 use Rattle.changed_rows.specs.declared.count.Changed.{Changed}
 use Rattle.changed_rows.specs.declared.count.TableName.{TableName}
 use Rattle.changed_rows.specs.declared.count.Counts.{Counts}
+use Rattle.row_lines.specs.Names.{shown_table}
 use Rattle.changed_rows.specs.Names.{up_to_most}
 
 -- ---- numbers of rows
@@ -109,9 +113,17 @@ number_text n = padded_integral (format_spec 32 3 0 12 (2 ^ 64 - 1)) false [] (d
 abbrev pub numbers_text : Changed → List ℕ → List ℕ
 numbers_text c name = number_text c.inserted ++ (codes " " ++ (number_text c.updated ++ (codes " " ++ (number_text c.deleted ++ (codes "  " ++ (name ++ codes "\n"))))))
 
--- the name as text, with U+FFFD in place of what isn't UTF-8
+-- the name as text that stays on its line
 abbrev pub name_text : TableName → List ℕ
-name_text n = utf8_lossy n.database.items ++ (codes "." ++ utf8_lossy n.table.items)
+name_text n = shown_table n.database.items n.table.items
+
+-- the order of names: that of the bytes of their databases, and in one database that of their own
+abbrev pub name_order : Name → Name → Ordering
+name_order a b = ordering_then (slice_cmp nat_cmp a.0 b.0) (slice_cmp nat_cmp a.1 b.1)
+
+-- the names of the tables that are counted apart ascend, each once
+abbrev pub NamesAscend : Counts → Type 0
+NamesAscend c = IsStrictlySortedBy name_order (map (λ e. name_of e.0) c.tables.entries)
 
 -- the numbers of several tables together
 abbrev pub sum_of : List Changed → Changed

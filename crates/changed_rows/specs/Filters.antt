@@ -1,6 +1,5 @@
 -- Which changes are wanted. It is a module of its own because Filter is a type of the code.
-use Rattle.std.specs.Prelude.{ℕ, ◌≤◌, ⊤, Bool, false, ◌==◌, ◌&&◌, ◌||◌, if◌then◌else◌, List, length, bytes_eq, Option, Some, None}
-use Rattle.std.specs.List.{list_any}
+use Rattle.std.specs.Prelude.{ℕ, ◌≤◌, ⊤, Bool, false, ◌==◌, ◌&&◌, if◌then◌else◌, Option, Some, None}
 use Rattle.binlog_consts.specs.declared.consts.event_type.EventType.{EventType}
 use Rattle.binlog_consts.specs.declared.consts.event_type.EventType.TheVariants as types
 use Rattle.binlog_table.specs.TableMap.{TableMap}
@@ -8,9 +7,9 @@ use Rattle.changed_rows.specs.declared.filter.Operation.{Operation}
 use Rattle.changed_rows.specs.declared.filter.Operation.TheVariants as operation
 use Rattle.changed_rows.specs.declared.filter.Operations.{Operations}
 use Rattle.changed_rows.specs.declared.filter.Positions.{Positions}
-use Rattle.changed_rows.specs.declared.filter.TableNames.{TableNames}
 use Rattle.changed_rows.specs.declared.filter.Filter.{Filter}
-use Rattle.changed_rows.specs.Names.{full_name, is_from, is_before}
+use Rattle.changed_rows.specs.Names.{is_from, is_before}
+use Rattle.changed_rows.specs.TableNames.{wants_table}
 
 -- what becomes of the rows of a rows event
 abbrev pub operation_of : EventType → Option Operation
@@ -53,14 +52,8 @@ abbrev pub start_after : Option ℕ → ℕ → Option ℕ
 start_after None at = None
 start_after (Some start) at = if start == at then None else Some start
 
--- ---- the tables
-
--- no names, or one of the databases or of the tables is the table's
-abbrev pub is_named : TableNames → List ℕ → List ℕ → Bool
-is_named names database table =
-    (length names.databases.now == 0 && length names.tables.now == 0)
-    || (list_any (λ name. bytes_eq name.now database) names.databases.now || list_any (λ name. bytes_eq name.now (full_name database table)) names.tables.now)
+-- ---- changes
 
 -- a change is wanted if its event begins at one of the positions, and its operation and its table are wanted
 abbrev pub wanted_by : Filter → ℕ → TableMap → EventType → Bool
-wanted_by f at t type = is_among f.positions at && (is_wanted f.operations (operation_of type) && is_named f.tables t.database t.table)
+wanted_by f at t type = is_among f.positions at && (is_wanted f.operations (operation_of type) && wants_table f.tables t.database t.table)

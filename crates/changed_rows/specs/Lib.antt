@@ -1,13 +1,21 @@
 -- The definitions that the contracts of this crate use.
 pub mod Names
+pub mod Patterns
+pub mod TableNames
 pub mod Filters
 pub mod Letters
 pub mod Counted
 pub mod Gtids
+pub mod GtidsKept
 pub mod Gaps
+pub mod Transactions
+pub mod Endings
+pub mod Rotations
 pub mod Lacks
+pub mod SeenNames
 pub mod Origins
 pub mod Sources
 pub mod Fits
 pub mod Weights
 pub mod Tables
+pub mod Workings

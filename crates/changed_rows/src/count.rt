@@ -3,11 +3,12 @@
 ghost use Rattle.std.specs.Prelude.{◌≡◌, [], ◌∷◌, Ok, IfOk, OnOk, OnErr};
 ghost use Rattle.std.specs.String.{string_bytes};
 ghost use Rattle.std.specs.Io.KnownBytes.{Appends};
-ghost use Rattle.changed_rows.specs.Counted.{nothing, plus, added, name_of, CountsMore, AreCounts, name_text, numbers_text, table_text};
+ghost use Rattle.changed_rows.specs.Counted.{nothing, plus, added, name_of, CountsMore, AreCounts, name_text, numbers_text, table_text, NamesAscend};
 
 use crate::filter::Operation;
 use binlog_base::below::WriteOnce;
 use binlog_table::table_map::TableMapEvent;
+use row_lines::name::shown_table;
 use std::alloc::{AllocError, Global};
 use std::collections::BTreeMap;
 use std::io;
@@ -88,19 +89,17 @@ impl TableName {
         })
     }
 
-    /// Returns the name as text, `database.table`, with U+FFFD in place of what isn't UTF-8. Fails if
-    /// memory is refused.
+    /// Returns the name as text, `database.table`, as `row_lines::name::shown_table` has it: it stays on
+    /// its line. Fails if memory is refused.
     pub fn text(&self, alloc: Global) -> Result<String, AllocError>
         ensures { IfOk result (λ text. string_bytes text ≡ name_text self.now) }
     {
-        let database = String::from_utf8_lossy(alloc, &self.database)?;
-        let table = String::from_utf8_lossy(alloc, &self.table)?;
-        format!(in alloc; "{database}.{table}")
+        shown_table(alloc, &self.database, &self.table)
     }
 }
 
 /// How many rows of each table changed.
-#[derive(Drop)]
+#[derive(Debug, Drop)]
 pub struct Counts {
     alloc: Global,
     tables: BTreeMap<TableName, Changed>,
@@ -143,12 +142,14 @@ impl Counts {
         Ok(())
     }
 
-    /// Writes the numbers as a table, and flushes the output: a line of titles, one for each table, in
-    /// the order of their names, and one of sums. A line before that has the rows of the tables that
-    /// aren't counted apart, if there are any. Fails if the output fails or memory is refused.
+    /// Writes the numbers as a table, and flushes the output: a line of titles, one for each table, by
+    /// ascending databases and in each by ascending tables, and one of sums. A line before that has the
+    /// rows of the tables that aren't counted apart, if there are any. Fails if the output fails or memory
+    /// is refused.
     pub fn print<O: WriteOnce>(&self, out: &mut O) -> io::Result<()>
         ensures written { OnOk result (Appends (O.contents out.old) (O.contents out.new)
             (table_text self.now)) }
+        ensures ascend { OnOk result (NamesAscend self.now) }
         ensures flushed { OnOk result ((mid : O) × (u : Unit {0}) × O.flushes mid (Ok u) out.new) }
     {
         writeln!(out, "    inserted      updated      deleted  table")?;

@@ -1,11 +1,10 @@
 //! Which changes are wanted.
 
-ghost use Rattle.std.specs.Prelude.{◌≡◌, ◌++◌, codes, bytes_eq, Some};
-ghost use Rattle.std.specs.List.{list_any};
-ghost use Rattle.changed_rows.specs.Names.{full_name};
-ghost use Rattle.changed_rows.specs.Filters.{operation_of, is_wanted, is_named, is_among};
+ghost use Rattle.std.specs.Prelude.{◌≡◌, Some};
+ghost use Rattle.changed_rows.specs.Filters.{operation_of, is_wanted, is_among};
 ghost use Rattle.changed_rows.specs.Letters.{letter_of, is_chosen, operations_of};
 
+use crate::table_names::{TableNames, has_name};
 use binlog_consts::consts::EventType;
 use binlog_file::choice::Choice;
 use binlog_table::table_map::TableMapEvent;
@@ -61,18 +60,6 @@ pub struct Operations {
     pub deletes: bool,
 }
 
-// Returns whether one of the names is this one.
-fn has_name(names: &[&str], wanted: &[u8]) -> bool
-    ensures { result ≡ list_any (λ name. bytes_eq name.now wanted.now) names.now }
-{
-    for name in names {
-        if name.as_bytes() == wanted {
-            return true;
-        }
-    }
-    false
-}
-
 // Returns whether one of the letters is that of an operation, or there are none.
 fn is_chosen(letters: &[&str], operation: Operation) -> bool
     ensures { result ≡ is_chosen letters.now operation }
@@ -101,60 +88,6 @@ impl Operations {
             Operation::Update => self.updates,
             Operation::Delete => self.deletes,
         }
-    }
-}
-
-/// The tables that are wanted: all if none is named, else those with one of these names. Names are
-/// compared as bytes.
-#[derive(Clone, Copy, Debug)]
-pub struct TableNames<'a> {
-    /// Names of databases, whose tables are wanted.
-    pub databases: &'a [&'a str],
-    /// Names of tables, each after the name of its database and a point.
-    pub tables: &'a [&'a str],
-}
-
-// Returns whether a text is a point and the name of a table.
-fn is_after_point(text: &[u8], table: &[u8]) -> bool
-    ensures { result ≡ bytes_eq text.now (codes "." ++ table.now) }
-{
-    match text {
-        [b'.', name @ ..] => name == table,
-        _ => false,
-    }
-}
-
-// Returns whether a text is the name of a database, a point and the name of a table.
-fn is_full_name(text: &[u8], database: &[u8], table: &[u8]) -> bool
-    ensures { result ≡ bytes_eq text.now (full_name database.now table.now) }
-{
-    match text.split_at_checked(database.len()) {
-        Some((front, rest)) => front == database && is_after_point(rest, table),
-        None => false,
-    }
-}
-
-// Returns whether one of the names is that of the table.
-fn names_table(names: &[&str], database: &[u8], table: &[u8]) -> bool
-    ensures { result ≡ list_any
-        (λ name. bytes_eq name.now (full_name database.now table.now)) names.now }
-{
-    for name in names {
-        if is_full_name(name.as_bytes(), database, table) {
-            return true;
-        }
-    }
-    false
-}
-
-impl<'a> TableNames<'a> {
-    /// Returns whether a table is wanted.
-    pub fn contains(&self, database: &[u8], table: &[u8]) -> bool
-        ensures { result ≡ is_named self.now database.now table.now }
-    {
-        self.databases.is_empty() && self.tables.is_empty()
-            || has_name(self.databases, database)
-            || names_table(self.tables, database, table)
     }
 }
 

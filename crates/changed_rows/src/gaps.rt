@@ -1,7 +1,8 @@
 //! What a file says of changes that its rows don't show.
 
 ghost use Rattle.std.specs.Prelude.{◌≡◌, Some, drop};
-ghost use Rattle.changed_rows.specs.Gaps.{after_blanks, statement_in, begins_with, changes_rows, rolls_back, gap_of_statement, gap_of, gap_of_rows, with_gap, no_gaps};
+ghost use Rattle.changed_rows.specs.Gaps.{after_blanks, statement_in, begins_with, after_end, after_line, after_digits, after_comment, after_comments, is_control, rolls_back};
+ghost use Rattle.changed_rows.specs.Gaps.{is_of_word, begins_with_whole, has_word, gap_of_definition, gap_of_words, gap_of_statement, gap_of, gap_of_rows, with_gap, no_gaps};
 
 use binlog_file::lent_changes::OtherEvent;
 use binlog_file::types::{COMPRESSED_QUERY, EXECUTE_LOAD_QUERY, INCIDENT, QUERY, XA_PREPARE};
@@ -10,11 +11,15 @@ use byteorder::{ByteOrder, LittleEndian};
 /// What an event says of changes that no rows show.
 #[derive(Clone, Copy, Debug, PartialEq, Eq)]
 pub enum Gap {
-    /// A statement that begins with INSERT, UPDATE, DELETE or REPLACE, or one that loads a file.
+    /// A statement in a transaction that is none of its own parts and makes or drops nothing, or one that loads
+    /// a file: its rows are logged as text.
     Statement,
-    /// A statement that is compressed, whatever it is.
+    /// A statement out of a transaction that makes something and has the word SELECT: it may have made a table
+    /// with rows, which are logged as text.
+    Creation,
+    /// A statement that is compressed: its rows may be logged as text.
     Compressed,
-    /// A statement that begins with TRUNCATE.
+    /// A statement that begins with TRUNCATE, after comments.
     Truncation,
     /// A statement that begins with ROLLBACK or XA ROLLBACK: what it rolls back may have rows in the file,
     /// or in an earlier one.
@@ -34,6 +39,8 @@ pub enum Gap {
 pub struct Gaps {
     /// How often [`Gap::Statement`].
     pub statements: u64,
+    /// How often [`Gap::Creation`].
+    pub creations: u64,
     /// How often [`Gap::Compressed`].
     pub compressed: u64,
     /// How often [`Gap::Truncation`].
@@ -68,7 +75,7 @@ fn bytes_from(bytes: &[u8], at: usize) -> &[u8]
 // Returns the statement in the body of an event: a thread (4 bytes), seconds (4), the length of the
 // database (1), an error (2), the length of status variables (2), these, the database, a zero, and the
 // statement. Nothing if the body is too short. Blanks before it are left out.
-fn statement_in(body: &[u8]) -> &[u8]
+pub(crate) fn statement_in(body: &[u8]) -> &[u8]
     ensures { result.now ≡ statement_in body.now }
 {
     if body.len() < 13 {
@@ -80,7 +87,7 @@ fn statement_in(body: &[u8]) -> &[u8]
 }
 
 // Returns whether a statement begins with a word, in either case.
-fn begins_with(statement: &[u8], word: &[u8]) -> bool
+pub(crate) fn begins_with(statement: &[u8], word: &[u8]) -> bool
     ensures { result ≡ begins_with statement.now word.now }
 {
     match statement.split_at_checked(word.len()) {
@@ -89,14 +96,121 @@ fn begins_with(statement: &[u8], word: &[u8]) -> bool
     }
 }
 
-// Returns whether a statement changes rows, by its first word.
-fn changes_rows(statement: &[u8]) -> bool
-    ensures { result ≡ changes_rows statement.now }
+// Returns whether a statement is a part of a transaction that changes nothing by itself.
+fn is_control(statement: &[u8]) -> bool
+    ensures { result ≡ is_control statement.now }
 {
-    begins_with(statement, b"INSERT")
-        || begins_with(statement, b"UPDATE")
-        || begins_with(statement, b"DELETE")
-        || begins_with(statement, b"REPLACE")
+    begins_with(statement, b"BEGIN")
+        || begins_with(statement, b"COMMIT")
+        || begins_with(statement, b"SAVEPOINT")
+        || begins_with(statement, b"XA ")
+}
+
+// Returns what follows the end of a comment, or nothing.
+#[tactic(auto, unfolding(crate::specs::Gaps::after_end))]
+fn after_end(text: &[u8]) -> &[u8]
+    ensures { result.now ≡ after_end text.now }
+{
+    let mut rest = text;
+    while let Some((first, more)) = rest.split_first() {
+        if *first == b'*' && more.first() == Some(&b'/') {
+            return bytes_from(more, 1);
+        }
+        rest = more;
+    }
+    rest
+}
+
+// Returns what follows the end of a line, or nothing.
+#[tactic(auto, unfolding(crate::specs::Gaps::after_line))]
+fn after_line(text: &[u8]) -> &[u8]
+    ensures { result.now ≡ after_line text.now }
+{
+    let mut rest = text;
+    while let Some((first, more)) = rest.split_first() {
+        if *first == b'\n' {
+            return more;
+        }
+        rest = more;
+    }
+    rest
+}
+
+// Returns what is left of a text after the digits with which it begins.
+#[tactic(auto, unfolding(crate::specs::Gaps::after_digits))]
+fn after_digits(text: &[u8]) -> &[u8]
+    ensures { result.now ≡ after_digits text.now }
+{
+    let mut rest = text;
+    while let Some((first, more)) = rest.split_first() {
+        if *first < b'0' || *first > b'9' {
+            return rest;
+        }
+        rest = more;
+    }
+    rest
+}
+
+// Returns what is left of a statement after the comment with which it begins, if it begins with one. Of a
+// comment that a server executes only its mark is left out.
+fn after_comment(statement: &[u8]) -> &[u8]
+    ensures { result.now ≡ after_comment statement.now }
+{
+    if begins_with(statement, b"/*!") {
+        after_digits(bytes_from(statement, 3))
+    } else if begins_with(statement, b"/*M!") {
+        after_digits(bytes_from(statement, 4))
+    } else if begins_with(statement, b"/*") {
+        after_end(bytes_from(statement, 2))
+    } else if begins_with(statement, b"#") || begins_with(statement, b"-- ") {
+        after_line(statement)
+    } else {
+        statement
+    }
+}
+
+// Returns what is left of a statement after up to so many comments, and blanks, with which it begins.
+#[tactic(auto, unfolding(crate::specs::Gaps::after_comments))]
+fn after_comments(count: u8, statement: &[u8]) -> &[u8]
+    ensures { result.now ≡ after_comments count statement.now }
+{
+    if count == 0 {
+        return statement;
+    }
+    after_comments(count - 1, after_blanks(after_comment(statement)))
+}
+
+// Returns whether a byte is one of those of words: a letter, a digit, `_`, `$`, or one above 7F.
+fn is_of_word(byte: u8) -> bool
+    ensures { result ≡ is_of_word byte }
+{
+    byte.is_ascii_alphanumeric() || byte == b'_' || byte == b'$' || byte > 0x7F
+}
+
+// Returns whether a text begins with a word, in either case, that ends there.
+fn begins_with_whole(text: &[u8], word: &[u8]) -> bool
+    ensures { result ≡ begins_with_whole text.now word.now }
+{
+    let next = text.get(word.len()).copied().unwrap_or(0);
+    begins_with(text, word) && !is_of_word(next)
+}
+
+// Returns whether a text has a word, in either case. `is_in_word` says whether it goes on with a word that began
+// before it.
+#[tactic(auto, unfolding(crate::specs::Gaps::has_word))]
+fn has_word(is_in_word: bool, text: &[u8], word: &[u8]) -> bool
+    ensures { result ≡ has_word is_in_word text.now word.now }
+{
+    let mut is_in_word = is_in_word;
+    let mut rest = text;
+    while let Some((first, more)) = rest.split_first() {
+        if !is_in_word && begins_with_whole(rest, word) {
+            return true;
+        }
+        is_in_word = is_of_word(*first);
+        rest = more;
+    }
+    false
 }
 
 // Returns whether a statement rolls back a transaction or a part of one.
@@ -106,28 +220,54 @@ fn rolls_back(statement: &[u8]) -> bool
     begins_with(statement, b"ROLLBACK") || begins_with(statement, b"XA ROLLBACK")
 }
 
-// Returns what a statement says of changes.
-fn gap_of_statement(statement: &[u8]) -> Option<Gap>
-    ensures { result ≡ gap_of_statement statement.now }
+// Returns what a statement that makes or drops something says of changes.
+fn gap_of_definition(is_open: bool, words: &[u8]) -> Option<Gap>
+    ensures { result ≡ gap_of_definition is_open words.now }
 {
-    if changes_rows(statement) {
-        Some(Gap::Statement)
-    } else if begins_with(statement, b"TRUNCATE") {
-        Some(Gap::Truncation)
-    } else if rolls_back(statement) {
-        Some(Gap::Rollback)
+    if !is_open && begins_with(words, b"CREATE") && has_word(false, words, b"SELECT") {
+        Some(Gap::Creation)
     } else {
         None
     }
 }
 
+// Returns what a statement says of changes, from its first word on. `is_open` says whether it is in a
+// transaction.
+fn gap_of_words(is_open: bool, words: &[u8]) -> Option<Gap>
+    ensures { result ≡ gap_of_words is_open words.now }
+{
+    if begins_with(words, b"TRUNCATE") {
+        Some(Gap::Truncation)
+    } else if begins_with(words, b"CREATE") || begins_with(words, b"DROP") {
+        gap_of_definition(is_open, words)
+    } else if is_open {
+        Some(Gap::Statement)
+    } else {
+        None
+    }
+}
+
+// Returns what a statement says of changes. `is_open` says whether it is in a transaction. Up to 16 comments
+// before its first word are passed over.
+fn gap_of_statement(is_open: bool, statement: &[u8]) -> Option<Gap>
+    ensures { result ≡ gap_of_statement is_open statement.now }
+{
+    if rolls_back(statement) {
+        Some(Gap::Rollback)
+    } else if is_control(statement) {
+        None
+    } else {
+        gap_of_words(is_open, after_comments(16, statement))
+    }
+}
+
 // Returns what an event says of changes. The body of the event of XA begins with 1 if the transaction
 // was committed at once.
-fn gap_of(event: &OtherEvent<'_>) -> Option<Gap>
-    ensures { result ≡ gap_of event.now }
+fn gap_of(is_open: bool, event: &OtherEvent<'_>) -> Option<Gap>
+    ensures { result ≡ gap_of is_open event.now }
 {
     match event.header().event_type() {
-        QUERY => gap_of_statement(statement_in(event.body())),
+        QUERY => gap_of_statement(is_open, statement_in(event.body())),
         EXECUTE_LOAD_QUERY => Some(Gap::Statement),
         INCIDENT => Some(Gap::Incident),
         XA_PREPARE if event.body().first() == Some(&0) => Some(Gap::Prepared),
@@ -143,6 +283,7 @@ impl Gaps {
     {
         Gaps {
             statements: 0,
+            creations: 0,
             compressed: 0,
             truncations: 0,
             rollbacks: 0,
@@ -158,6 +299,7 @@ impl Gaps {
     {
         match gap {
             Gap::Statement => self.statements = self.statements.saturating_add(1),
+            Gap::Creation => self.creations = self.creations.saturating_add(1),
             Gap::Compressed => self.compressed = self.compressed.saturating_add(1),
             Gap::Truncation => self.truncations = self.truncations.saturating_add(1),
             Gap::Rollback => self.rollbacks = self.rollbacks.saturating_add(1),
@@ -168,10 +310,11 @@ impl Gaps {
     }
 
     /// Takes in an event that is no rows event: counts what it says of changes, if it says anything.
-    pub fn see(&mut self, event: &OtherEvent<'_>)
-        ensures { self.new ≡ with_gap (gap_of event.now) self.old }
+    /// `is_open` says whether a transaction was open before it.
+    pub fn see(&mut self, is_open: bool, event: &OtherEvent<'_>)
+        ensures { self.new ≡ with_gap (gap_of is_open event.now) self.old }
     {
-        if let Some(gap) = gap_of(event) {
+        if let Some(gap) = gap_of(is_open, event) {
             self.add(gap);
         }
     }

@@ -11,6 +11,7 @@ use byteorder::{ByteOrder, LittleEndian};
 use hex::encode;
 use itoa::Buffer;
 use std::alloc::{AllocError, Global};
+use std::fmt;
 use std::marker::Model;
 
 /// The global transaction id (GTID) that is in force, as text: MySQL's `uuid:number`, or MariaDB's
@@ -176,5 +177,11 @@ impl Gtid {
             _ => {}
         }
         Ok(())
+    }
+}
+
+impl fmt::Debug for Gtid {
+    fn fmt<W: fmt::Write>(&self, f: &mut fmt::Formatter<W>) -> fmt::Result {
+        f.debug_tuple("Gtid").field(&self.text()).finish()
     }
 }

@@ -3,10 +3,17 @@
 #![tactic(auto)]
 
 pub mod count;
+pub mod ending;
 pub mod filter;
 pub mod gaps;
 pub mod gtid;
 pub mod lacks;
+pub mod laws;
+pub mod named;
+pub mod pattern;
+pub mod rotation;
 pub mod source;
 pub mod table;
+pub mod table_names;
 pub mod tables;
+pub mod transaction;

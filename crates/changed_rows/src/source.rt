@@ -14,7 +14,7 @@ use row_json::Members;
 use std::alloc::AllocError;
 
 /// Where a row that changed comes from: the member `source` of its line.
-#[derive(Clone, Copy)]
+#[derive(Clone, Copy, Debug)]
 pub struct Source<'a> {
     /// The name of the file.
     pub file: &'a str,

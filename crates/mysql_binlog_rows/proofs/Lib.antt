@@ -1,4 +1,5 @@
 -- The proofs of this crate.
+pub mod Changed
 pub mod Covers
 pub mod Loop
 pub mod Plans

@@ -14,6 +14,13 @@ pub record Planned : Type 0 where
   pub before : Option (List ℕ)
   pub after : Option (List ℕ)
 
+-- The plan serves this rows event, whatever its table: it has the same images of the same columns.
+pub record Fits (p : Planned) (e : RowsEvent) : Type 0 where
+  pub options : p.has_options ≡ has_options e.event_type
+  pub num_columns : p.num_columns ≡ e.num_columns
+  pub before : p.before ≡ e.before
+  pub after : p.after ≡ e.after
+
 -- The plan serves these events: the table map event tells the same of its table, and the rows event
 -- has the same images of the same columns.
 pub record Serves (p : Planned) (t : TableMap) (e : RowsEvent) : Type 0 where

@@ -15,6 +15,7 @@ pub mod Cover
 pub mod Laws
 pub mod Rows
 pub mod LentPairs
+pub mod Changed
 pub mod Kept
 pub mod Decodes
 pub use Rattle.binlog_cells.specs.Equality

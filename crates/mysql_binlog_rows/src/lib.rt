@@ -5,3 +5,6 @@ pub mod laws;
 pub mod row;
 pub mod rows_event;
 pub mod value;
+
+pub use row::{BinlogRow, LentRow};
+pub use rows_event::{LentPair, RowPair, RowsEvent, RowsEventCtx, RowsEventRows, decode_pairs};

@@ -1,11 +1,13 @@
 //! The rows event of MySQL's binary log, and its pairs of rows.
 
+mod changed;
 mod decode;
 mod event;
 mod kept;
 mod rows;
 mod types;
 
+pub use changed::ChangedColumns;
 pub use decode::{
     Decoded, decode_pairs, decode_pairs_of, pairs_by, pairs_by_shared, pairs_if_served, pairs_of,
 };

@@ -25,12 +25,12 @@ use Rattle.json.specs.Written.{Written}
 use Rattle.row_json.specs.Wrote.{Adds, Wrote, WroteMembers, Named, named_tokens}
 use Rattle.row_json.proofs.Steps.{adds_both, adds_same}
 
-true_at : (bits : List Bool) (i : ℕ) → get_or bits i false ≡ true → drop i bits ≡ true ∷ drop (suc i) bits
+pub true_at : (bits : List Bool) (i : ℕ) → get_or bits i false ≡ true → drop i bits ≡ true ∷ drop (suc i) bits
 true_at [] i e = absurd (false≢true e)
 true_at (b ∷ bs) zero e = ap (λ x. x ∷ bs) e
 true_at (b ∷ bs) (suc i) e = true_at bs i e
 
-false_at : (bits : List Bool) (i : ℕ) → get_or bits i false ≡ false → (drop i bits ≡ false ∷ drop (suc i) bits) ⊎ ((drop i bits ≡ []) × (drop (suc i) bits ≡ []))
+pub false_at : (bits : List Bool) (i : ℕ) → get_or bits i false ≡ false → (drop i bits ≡ false ∷ drop (suc i) bits) ⊎ ((drop i bits ≡ []) × (drop (suc i) bits ≡ []))
 false_at [] zero e = inr (refl, refl)
 false_at [] (suc i) e = inr (refl, refl)
 false_at (b ∷ bs) zero e = inl (ap (λ x. x ∷ bs) e)

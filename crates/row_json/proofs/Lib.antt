@@ -1,5 +1,6 @@
 -- The proofs of this crate.
 pub mod Steps
+pub mod FieldSteps
 pub mod Floats
 pub mod Bytes
 pub mod Trees
@@ -18,4 +19,5 @@ pub mod Timestamps
 pub mod Objects
 pub mod Lines
 pub mod Drafts
+pub mod Places
 pub mod Shown

@@ -97,3 +97,9 @@ columns_in [] present = []
 columns_in (c ∷ cs) [] = []
 columns_in (c ∷ cs) (false ∷ present) = columns_in cs present
 columns_in (c ∷ cs) (true ∷ present) = c ∷ columns_in cs present
+
+-- the numbers of the bits that are set, in order; the first bit has number i
+abbrev pub set_from : ℕ → List Bool → List ℕ
+set_from i [] = []
+set_from i (false ∷ bits) = set_from (suc i) bits
+set_from i (true ∷ bits) = i ∷ set_from (suc i) bits

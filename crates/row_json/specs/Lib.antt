@@ -6,6 +6,8 @@ pub mod Columns
 pub mod Floats
 pub mod Values
 pub mod Wrote
+pub mod Fields
+pub mod Fits
 pub mod LongLines
 pub mod Documents
 pub mod Workings

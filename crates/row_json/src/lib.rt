@@ -7,6 +7,7 @@
 mod cell;
 mod charset;
 mod document;
+mod fields;
 mod float;
 mod images;
 mod instant;
@@ -18,12 +19,14 @@ mod members;
 mod names;
 mod number;
 mod pair;
+mod present;
 mod row;
 mod table;
 mod text;
 mod time;
 
 pub use charset::{Charset, charset_of};
+pub use fields::{Fields, Scalar};
 pub use kind::Kind;
 pub use line::{LineRoom, write_line, write_line_with, write_owned_line};
 pub use long::{EscapeRoom, LinePart, LongLine, LongText, long_line_with};

@@ -8,6 +8,7 @@ ghost use Rattle.row_json.specs.Faults.{HasNone, IsFaultOfPair};
 use crate::images::Images;
 use crate::members::{Members, NoMembers};
 use crate::pair::write_images;
+use crate::present::ImageColumns;
 use crate::table::TableJson;
 use binlog_base::fault::Fault;
 use json::Writer;
@@ -25,6 +26,8 @@ const LONG: usize = 64 * 1024;
 pub struct LineRoom {
     /// Room for the texts of values.
     text: String,
+    /// The columns of the images of the last line.
+    columns: ImageColumns,
     /// The line.
     line: Vec<u8>,
 }
@@ -34,13 +37,14 @@ impl LineRoom {
     pub fn new(alloc: Global) -> LineRoom {
         LineRoom {
             text: String::new(alloc),
+            columns: ImageColumns::new(alloc),
             line: Vec::new(alloc),
         }
     }
 
-    /// Returns the room for the texts of values.
-    pub(crate) fn text(&mut self) -> &mut String {
-        &mut self.text
+    /// Returns the room for the texts of values, and the columns of the images of the last line.
+    pub(crate) fn parts(&mut self) -> (&mut String, &mut ImageColumns) {
+        (&mut self.text, &mut self.columns)
     }
 
     // Takes the buffer of the line, which is emptied: behind a buffer that holds something the writer
@@ -95,7 +99,16 @@ fn add_line<P: Images, M: Members>(
     ensures sound { OnOk result (HasNone (IsFaultOfPair table.now event.now (P.pair pair.now))) }
 {
     let mut out = room.begin(alloc);
-    let written = write_images(alloc, &mut room.text, &mut out, table, event, pair, members);
+    let written = write_images(
+        alloc,
+        &mut room.text,
+        &mut room.columns,
+        &mut out,
+        table,
+        event,
+        pair,
+        members,
+    );
     room.line = out.into_inner();
     written?;
     room.add_to(lines)?;

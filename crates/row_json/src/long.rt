@@ -14,6 +14,7 @@ ghost use Rattle.row_json.specs.declared.row.Part.TheVariants as parts;
 ghost use Rattle.row_json.specs.Charsets.{latin1_text, text_in};
 ghost use Rattle.row_json.specs.Faults.{HasNone, IsFaultOfCell, IsFaultOfPart, IsFaultOfImage, IsFaultOfPair};
 ghost use Rattle.row_json.specs.LongLines.{characters, line_bytes};
+ghost use Rattle.row_json.specs.Columns.{set_from};
 ghost use Rattle.row_json.specs.Rows.{IsMember, AreMembers, IsRowJson, IsImageJson, AreImages, IsPairJson, IsLine};
 ghost use Rattle.row_json.specs.Workings.Drafts.{has_parts, closing, Holds, Goes, GoesOne, GoesMembers};
 ghost use Rattle.row_json.specs.Wrote.{Named, object_end};
@@ -24,7 +25,8 @@ use crate::kind::Kind;
 use crate::line::LineRoom;
 use crate::members::Members;
 use crate::pair::{begin_pair, present_in, write_diffs_of};
-use crate::row::{Part, is_present, write_member_of};
+use crate::present::ImageColumns;
+use crate::row::{Part, write_member_of};
 use crate::table::{ColumnJson, TableJson};
 use binlog_base::bits::BitView;
 use binlog_base::fault::Fault;
@@ -391,8 +393,10 @@ fn write_members<'a>(
     draft: &mut Draft<'a>,
     columns: &[ColumnJson],
     present: &BitView<'_>,
+    places: &[usize],
     row: &LentRow<'a>,
 ) -> Result<(), Fault>
+    requires { places.now ≡ set_from 0 present.now }
     ensures written { OnOk result (GoesMembers
         (AreMembers parts.Row columns.now present.now 0 row.now.values) draft.old.parts.items
         draft.old.out draft.new.parts.items draft.new.out) }
@@ -400,13 +404,12 @@ fn write_members<'a>(
         → IsFaultOfPart parts.Row columns.now present.now row.now e) }
     ensures sound { OnOk result (HasNone (IsFaultOfPart parts.Row columns.now present.now row.now)) }
 {
-    let mut place = 0;
-    for index in 0..columns.len() {
-        if !is_present(present, index) {
-            continue;
+    for place in 0..places.len() {
+        let index = places[place];
+        if index >= columns.len() {
+            return Ok(());
         }
         write_member(alloc, text, draft, &columns[index], row.as_ref(place))?;
-        place += 1;
     }
     Ok(())
 }
@@ -418,8 +421,10 @@ fn write_image<'a>(
     draft: &mut Draft<'a>,
     table: &TableJson,
     present: &BitView<'_>,
+    places: &[usize],
     image: Option<&LentRow<'a>>,
 ) -> Result<(), Fault>
+    requires { places.now ≡ set_from 0 present.now }
     ensures written { OnOk result (GoesOne (IsImageJson table.now present.now
         (option_map (λ r. r.now) image.entry)) draft.old.parts.items
         draft.old.out draft.new.parts.items draft.new.out) }
@@ -432,7 +437,7 @@ fn write_image<'a>(
         None => Ok(draft.out.null()?),
         Some(row) => {
             draft.out.begin_object()?;
-            write_members(alloc, text, draft, table.columns(), present, row)?;
+            write_members(alloc, text, draft, table.columns(), present, places, row)?;
             draft.out.end_object()?;
             Ok(())
         }
@@ -443,6 +448,7 @@ fn write_image<'a>(
 fn end_pair<'a>(
     alloc: Global,
     text: &mut String,
+    columns: &mut ImageColumns,
     draft: &mut Draft<'a>,
     table: &TableJson,
     event: &RowsEvent<'_>,
@@ -456,11 +462,36 @@ fn end_pair<'a>(
 {
     let before = present_in(event.columns_before_image());
     let after = present_in(event.columns_after_image());
+    columns.keep(alloc, event, &before, &after)?;
     draft.out.key("before")?;
-    write_image(alloc, text, draft, table, &before, pair.before())?;
+    write_image(
+        alloc,
+        text,
+        draft,
+        table,
+        &before,
+        columns.places_before(&before),
+        pair.before(),
+    )?;
     draft.out.key("after")?;
-    write_image(alloc, text, draft, table, &after, pair.after())?;
-    write_diffs_of(alloc, text, &mut draft.out, table, &after, pair.after())?;
+    write_image(
+        alloc,
+        text,
+        draft,
+        table,
+        &after,
+        columns.places_after(&after),
+        pair.after(),
+    )?;
+    write_diffs_of(
+        alloc,
+        text,
+        &mut draft.out,
+        table,
+        &after,
+        columns.places_after(&after),
+        pair.after(),
+    )?;
     draft.out.end_object()?;
     Ok(())
 }
@@ -483,10 +514,10 @@ pub fn long_line_with<'a, M: Members>(
     ensures err { IfErr result (λ e. e ≢ Fault.Memory → IsFaultOfPair table.now event.now pair.now e) }
     ensures sound { OnOk result (HasNone (IsFaultOfPair table.now event.now pair.now)) }
 {
-    let text = room.text();
+    let (text, columns) = room.parts();
     let mut draft = Draft::new(alloc);
     begin_pair(&mut draft.out, pair)?;
     members.write(&mut draft.out)?;
-    end_pair(alloc, text, &mut draft, table, event, pair)?;
+    end_pair(alloc, text, columns, &mut draft, table, event, pair)?;
     Ok(draft.into_line(alloc)?)
 }

@@ -7,6 +7,7 @@ ghost use Rattle.json.specs.Token.{begin_object};
 ghost use Rattle.std.specs.List.{list_any};
 ghost use Rattle.std.specs.Option.{option_map};
 ghost use Rattle.binlog_base.specs.declared.fault.Fault.TheVariants as Fault;
+ghost use Rattle.row_json.specs.Columns.{set_from};
 ghost use Rattle.row_json.specs.Rows.{IsImageJson, is_diffs, AreDiffs, AreImages, present_in, operation_of, IsPairJson};
 ghost use Rattle.row_json.specs.declared.row.Part.TheVariants as parts;
 ghost use Rattle.row_json.specs.Faults.{HasNone, IsFaultOfImage, IsFaultOfPair};
@@ -14,6 +15,7 @@ ghost use Rattle.row_json.specs.Wrote.{Adds, AddsSome, Named, Wrote, WroteMember
 
 use crate::images::{Images, Row};
 use crate::members::Members;
+use crate::present::ImageColumns;
 use crate::row::{Part, write_object};
 use crate::table::TableJson;
 use binlog_base::bits::{BitOrder, BitView};
@@ -39,8 +41,10 @@ fn write_image<R: Row>(
     out: &mut Writer,
     table: &TableJson,
     present: &BitView<'_>,
+    places: &[usize],
     image: Option<&R>,
 ) -> Result<(), Fault>
+    requires { places.now ≡ set_from 0 present.now }
     ensures written { OnOk result (Wrote (IsImageJson table.now present.now
         (option_map (λ r. R.image r.now) image.entry)) out.old out.new) }
     ensures err { IfErr result (λ e. e ≢ Fault.Memory → IsFaultOfImage parts.Row table.now present.now
@@ -51,7 +55,7 @@ fn write_image<R: Row>(
 {
     match image {
         None => Ok(out.null()?),
-        Some(row) => write_object(alloc, text, out, Part::Row, table, present, row),
+        Some(row) => write_object(alloc, text, out, Part::Row, table, present, places, row),
     }
 }
 
@@ -74,8 +78,10 @@ pub(crate) fn write_diffs_of<R: Row>(
     out: &mut Writer,
     table: &TableJson,
     present: &BitView<'_>,
+    places: &[usize],
     image: Option<&R>,
 ) -> Result<(), Fault>
+    requires { places.now ≡ set_from 0 present.now }
     ensures written { OnOk result (WroteMembers (AreDiffs table.now present.now
         (option_map (λ r. R.image r.now) image.entry)) out.old out.new) }
     ensures err { IfErr result (λ e. e ≢ Fault.Memory
@@ -88,7 +94,7 @@ pub(crate) fn write_diffs_of<R: Row>(
     match image {
         Some(row) if has_diffs_in(row) => {
             out.key("diffs")?;
-            write_object(alloc, text, out, Part::Diffs, table, present, row)
+            write_object(alloc, text, out, Part::Diffs, table, present, places, row)
         }
         _ => Ok(()),
     }
@@ -121,6 +127,7 @@ pub(crate) fn begin_pair<P: Images>(out: &mut Writer, pair: &P) -> Result<(), Al
 fn end_pair<P: Images>(
     alloc: Global,
     text: &mut String,
+    columns: &mut ImageColumns,
     out: &mut Writer,
     table: &TableJson,
     event: &RowsEvent<'_>,
@@ -135,11 +142,36 @@ fn end_pair<P: Images>(
 {
     let before = present_in(event.columns_before_image());
     let after = present_in(event.columns_after_image());
+    columns.keep(alloc, event, &before, &after)?;
     out.key("before")?;
-    write_image(alloc, text, out, table, &before, pair.before())?;
+    write_image(
+        alloc,
+        text,
+        out,
+        table,
+        &before,
+        columns.places_before(&before),
+        pair.before(),
+    )?;
     out.key("after")?;
-    write_image(alloc, text, out, table, &after, pair.after())?;
-    write_diffs_of(alloc, text, out, table, &after, pair.after())?;
+    write_image(
+        alloc,
+        text,
+        out,
+        table,
+        &after,
+        columns.places_after(&after),
+        pair.after(),
+    )?;
+    write_diffs_of(
+        alloc,
+        text,
+        out,
+        table,
+        &after,
+        columns.places_after(&after),
+        pair.after(),
+    )?;
     out.end_object()?;
     Ok(())
 }
@@ -148,6 +180,7 @@ fn end_pair<P: Images>(
 pub(crate) fn write_images<P: Images, M: Members>(
     alloc: Global,
     text: &mut String,
+    columns: &mut ImageColumns,
     out: &mut Writer,
     table: &TableJson,
     event: &RowsEvent<'_>,
@@ -163,7 +196,7 @@ pub(crate) fn write_images<P: Images, M: Members>(
 {
     begin_pair(out, pair)?;
     members.write(out)?;
-    end_pair(alloc, text, out, table, event, pair)
+    end_pair(alloc, text, columns, out, table, event, pair)
 }
 
 // Writes a pair of rows of either kind, without members of a caller.
@@ -183,7 +216,8 @@ fn write_own_images<P: Images>(
     ensures stays { AddsSome out.old out.new }
 {
     begin_pair(out, pair)?;
-    end_pair(alloc, text, out, table, event, pair)
+    let mut columns = ImageColumns::new(alloc);
+    end_pair(alloc, text, &mut columns, out, table, event, pair)
 }
 
 /// Writes a pair of rows of an event as an object:
@@ -235,7 +269,8 @@ pub fn write_pair_with<M: Members>(
     ensures sound { OnOk result (HasNone (IsFaultOfPair table.now event.now pair.now)) }
     ensures stays { AddsSome out.old out.new }
 {
-    write_images(alloc, text, out, table, event, pair, members)
+    let mut columns = ImageColumns::new(alloc);
+    write_images(alloc, text, &mut columns, out, table, event, pair, members)
 }
 
 /// Writes a pair of rows that own their values, as `write_pair` writes one whose cells are lent: the

@@ -1,10 +1,11 @@
 //! Rows as JSON.
 #![tactic(auto, using(crate::proofs::Steps::stays))]
 
-ghost use Rattle.std.specs.Prelude.{◌≡◌, ◌≢◌, ◌<◌, OnOk, IfErr, Some, slice_index_or, false};
+ghost use Rattle.std.specs.Prelude.{◌≡◌, ◌≢◌, ◌<◌, OnOk, IfErr, Some};
 ghost use Rattle.std.specs.Option.{option_map};
 ghost use Rattle.binlog_base.specs.declared.fault.Fault.TheVariants as Fault;
 ghost use Rattle.binlog_cells.specs.LentCells.{lent_cell};
+ghost use Rattle.row_json.specs.Columns.{set_from};
 ghost use Rattle.row_json.specs.Rows.{IsMember, IsDiffsMember, IsMemberOf, AreMembers, IsObjectOf, IsRowJson};
 ghost use Rattle.row_json.specs.declared.row.Part.TheVariants as parts;
 ghost use Rattle.row_json.specs.Faults.{HasNone, IsFaultOfCell, IsFaultOfPart, IsFaultOfRow};
@@ -13,6 +14,7 @@ ghost use Rattle.row_json.specs.Wrote.{Wrote, WroteMembers, AddsSome};
 use crate::cell::write_cell;
 use crate::document::write_lent_diffs;
 use crate::images::Row;
+use crate::present::push_set;
 use crate::table::{ColumnJson, TableJson};
 use binlog_base::bits::BitView;
 use binlog_base::fault::Fault;
@@ -128,13 +130,6 @@ fn write_diffs_member(
     }
 }
 
-// Returns whether a column is in an image.
-pub(crate) fn is_present(present: &BitView<'_>, index: usize) -> bool
-    ensures { result ≡ slice_index_or present.now index false }
-{
-    present.get(index).unwrap_or(false)
-}
-
 /// Writes the member of a cell in its row, or in `diffs`. `APART` is whether long texts stand apart from
 /// the line: so rows of either kind have code of their own, in which this is inlined.
 pub(crate) fn write_member_of<const APART: bool>(
@@ -167,8 +162,10 @@ fn write_members<R: Row>(
     part: Part,
     columns: &[ColumnJson],
     present: &BitView<'_>,
+    places: &[usize],
     row: &R,
 ) -> Result<(), Fault>
+    requires { places.now ≡ set_from 0 present.now }
     ensures written { OnOk result (WroteMembers
         (AreMembers part columns.now present.now 0 (R.image row.now).values) out.old out.new) }
     ensures err { IfErr result (λ e. e ≢ Fault.Memory
@@ -177,13 +174,12 @@ fn write_members<R: Row>(
         (HasNone (IsFaultOfPart part columns.now present.now (R.image row.now))) }
     ensures stays { AddsSome out.old out.new }
 {
-    let mut place = 0;
-    for index in 0..columns.len() {
-        if !is_present(present, index) {
-            continue;
+    for place in 0..places.len() {
+        let index = places[place];
+        if index >= columns.len() {
+            return Ok(());
         }
         row.write_member(place, alloc, text, out, part, &columns[index])?;
-        place += 1;
     }
     Ok(())
 }
@@ -206,7 +202,9 @@ pub fn write_row(
     ensures sound { OnOk result (HasNone (IsFaultOfRow table.now present.now row.now)) }
     ensures stays { AddsSome out.old out.new }
 {
-    write_object(alloc, text, out, Part::Row, table, present, row)
+    let mut places = Vec::new(alloc);
+    push_set(&mut places, present)?;
+    write_object(alloc, text, out, Part::Row, table, present, &places, row)
 }
 
 /// Writes a row that owns its values as an object, as `write_row` writes one whose cells are lent: the
@@ -227,7 +225,9 @@ pub fn write_owned_row(
     ensures sound { OnOk result (HasNone (IsFaultOfRow table.now present.now row.now)) }
     ensures stays { AddsSome out.old out.new }
 {
-    write_object(alloc, text, out, Part::Row, table, present, row)
+    let mut places = Vec::new(alloc);
+    push_set(&mut places, present)?;
+    write_object(alloc, text, out, Part::Row, table, present, &places, row)
 }
 
 /// Writes a part of a row as an object.
@@ -238,8 +238,10 @@ pub(crate) fn write_object<R: Row>(
     part: Part,
     table: &TableJson,
     present: &BitView<'_>,
+    places: &[usize],
     row: &R,
 ) -> Result<(), Fault>
+    requires { places.now ≡ set_from 0 present.now }
     ensures written { OnOk result (Wrote
         (IsObjectOf part table.now present.now (R.image row.now)) out.old out.new) }
     ensures err { IfErr result (λ e. e ≢ Fault.Memory
@@ -249,7 +251,16 @@ pub(crate) fn write_object<R: Row>(
     ensures stays { AddsSome out.old out.new }
 {
     out.begin_object()?;
-    write_members(alloc, text, out, part, table.columns(), present, row)?;
+    write_members(
+        alloc,
+        text,
+        out,
+        part,
+        table.columns(),
+        present,
+        places,
+        row,
+    )?;
     out.end_object()?;
     Ok(())
 }

@@ -1,9 +1,8 @@
 -- The lines of pairs of rows, as bytes.
-use Rattle.std.specs.Prelude.{ℕ, Bool, true, false, zero, suc, ◌==◌, if◌then◌else◌, List, [], ◌∷◌, ◌++◌, length, codes, encode_utf8_all, Option, Some, None, slice_get, unwrap_or}
+use Rattle.std.specs.Prelude.{ℕ, Bool, true, false, zero, suc, ◌==◌, if◌then◌else◌, List, [], ◌∷◌, ◌++◌, length, codes, Option, Some, None, slice_get, unwrap_or}
 use Rattle.std.specs.List.{flat_map}
 use Rattle.std.specs.Fmt.{decimal, signed_decimal}
 use Rattle.std.specs.Int.{w32, w64, to_be_bytes}
-use Rattle.bstr.specs.Utf8.{lossy_chars}
 use Rattle.hex.specs.Hex.{encode_lower}
 use Rattle.binlog_base.specs.Writing.{IsPrefix}
 use Rattle.binlog_base.specs.Values.{PlainValue, Null, Bytes, Int, UInt, Float, Double, Date, Time, ColumnView, value_at}
@@ -11,6 +10,7 @@ use Rattle.binlog_values.specs.JsonbValues.{JsonbValue, is_array, count_in}
 use Rattle.binlog_cells.specs.Cells.{Cell, PlainCell, JsonCell, DiffsCell}
 use Rattle.binlog_cells.specs.OldTimes.{signed_old_cell}
 use Rattle.mysql_binlog_rows.specs.Images.{BinlogRow, Pair}
+use Rattle.row_lines.specs.Names.{quoted_name}
 
 -- numbers in decimal, separated by commas
 abbrev pub numbers_text : List ℕ → List ℕ
@@ -43,10 +43,10 @@ cell_text (Some (PlainCell value)) = plain_text value
 cell_text (Some (JsonCell value)) = json_text value
 cell_text (Some (DiffsCell diffs)) = codes "diffs(" ++ (decimal (length diffs) ++ codes ")")
 
--- the name of a column, with invalid UTF-8 replaced; empty if there is no column
+-- the name of a column, in backquotes if it needs them; empty if there is no column
 abbrev pub name_text : Option ColumnView → List ℕ
 name_text None = []
-name_text (Some column) = encode_utf8_all (lossy_chars column.name)
+name_text (Some column) = quoted_name column.name
 
 -- the value of a column as it is shown: with signs, a TIME of the old format has the sign that its digits mean
 abbrev pub shown_cell : Bool → Option ColumnView → Option Cell → Option Cell

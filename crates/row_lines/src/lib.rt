@@ -1,7 +1,7 @@
 //! Pairs of rows as lines of text, `BEFORE -> AFTER`.
 //!
 //! A row that isn't there is `-`. Any other row is its columns in braces, each as `name=cell`,
-//! separated by `, `. Invalid UTF-8 in a name is replaced.
+//! separated by `, `. A name stays on its line, and stands in backquotes if it needs them (`name`).
 //!
 //! A cell is `NULL`, a whole number, `x` and lower-case hexadecimal for bytes, `f32:` or `f64:` and
 //! the bits of a float in hexadecimal, `date(year,month,day,hour,minute,second,microseconds)`,
@@ -13,6 +13,8 @@
 
 mod bytes;
 mod cell;
+pub mod laws;
 mod line;
+pub mod name;
 
 pub use line::{push_line, push_signed_line};

@@ -10,31 +10,23 @@ ghost use Rattle.row_lines.specs.Lines.{image_text, pair_text, line_text, signed
 
 use crate::bytes::push_text;
 use crate::cell::push_cell;
+use crate::name::push_quoted;
 use binlog_base::below::Column;
-use bstr::ByteSlice;
 use mysql_binlog_rows::row::LentRow;
 use mysql_binlog_rows::rows_event::LentPair;
 use mysql_binlog_rows::value::LentCell;
 use std::alloc::{AllocError, Global};
 
-// Adds the name of the column at `index`, with invalid UTF-8 replaced; nothing where there is no
+// Adds the name of the column at `index`, in backquotes if it needs them; nothing where there is no
 // column.
-fn push_name(
-    alloc: Global,
-    buf: &mut Vec<u8>,
-    columns: &[Column],
-    index: usize,
-) -> Result<(), AllocError>
+fn push_name(buf: &mut Vec<u8>, columns: &[Column], index: usize) -> Result<(), AllocError>
     ensures added { OnOk result (buf.new.items
         ≡ buf.old.items ++ name_text (slice_get columns.now index)) }
     ensures kept { Keeps buf.old.items buf.new.items }
 {
     match columns.get(index) {
         None => Ok(()),
-        Some(column) => {
-            let name = column.name_ref().to_str_lossy(alloc)?;
-            push_text(buf, name.as_str().as_bytes())
-        }
+        Some(column) => push_quoted(buf, column.name_ref()),
     }
 }
 
@@ -98,7 +90,7 @@ fn push_field(
     ensures kept { Keeps buf.old.items buf.new.items }
 {
     push_comma(buf, index)?;
-    push_name(alloc, buf, row.columns_ref(), index)?;
+    push_name(buf, row.columns_ref(), index)?;
     push_text(buf, b"=")?;
     push_cell_at(alloc, buf, row, index, has_signs)
 }
@@ -179,7 +171,7 @@ fn push_pair(
 }
 
 /// Adds the line of a pair of rows to the end of the buffer. It takes memory of its own only for the
-/// diffs of a document, and for a name that isn't UTF-8.
+/// diffs of a document.
 ///
 /// Fails if memory is refused; the buffer then holds what it held.
 pub fn push_line(alloc: Global, buf: &mut Vec<u8>, pair: &LentPair<'_>) -> Result<(), AllocError>

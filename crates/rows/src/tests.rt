@@ -1,3 +1,4 @@
 //! Tests of the program.
 
+mod names;
 mod program;

@@ -15,8 +15,8 @@ use binlog_table::table_map::TableMapEvent;
 use json::Writer;
 use mysql_binlog_rows::rows_event::{LentPair, RowsEvent, RowsEventCtx, RowsEventRows};
 use row_json::{
-    Charset, ColumnJson, EscapeRoom, Kind, LineRoom, LongLine, Members, NoMembers, TableJson,
-    charset_of, write_line, write_line_with, write_owned_line,
+    Charset, ColumnJson, EscapeRoom, Fields, Kind, LineRoom, LongLine, Members, NoMembers, Scalar,
+    TableJson, charset_of, write_line, write_line_with, write_owned_line,
 };
 use std::alloc::{AllocError, Global};
 use std::fmt::{Display, InlineText, Write};
@@ -774,9 +774,62 @@ fn has_source(alloc: Global) -> Result<bool, Fault> {
     Ok(lines.as_slice() == expected.as_bytes())
 }
 
+/// Fields, and the member that they are.
+const FIELDS: &[(Fields<'static>, &str)] = &[
+    (
+        Fields {
+            name: "source",
+            fields: &[
+                ("file", Scalar::Text("binlog.\"1\"")),
+                ("pos", Scalar::Number(u64::MAX)),
+                ("shift", Scalar::Signed(-7)),
+                ("snapshot", Scalar::Bool(false)),
+                ("last", Scalar::Bool(true)),
+                ("gtid", Scalar::Null),
+            ],
+        },
+        "\"source\":{\"file\":\"binlog.\\\"1\\\"\",\"pos\":18446744073709551615,\"shift\":-7,\
+            \"snapshot\":false,\"last\":true,\"gtid\":null}",
+    ),
+    // The order is that of the fields, and a name may come twice.
+    (
+        Fields {
+            name: "\u{e4}",
+            fields: &[
+                ("b", Scalar::Number(0)),
+                ("a", Scalar::Null),
+                ("b", Scalar::Text("")),
+            ],
+        },
+        "\"\u{e4}\":{\"b\":0,\"a\":null,\"b\":\"\"}",
+    ),
+    (
+        Fields {
+            name: "",
+            fields: &[],
+        },
+        "\"\":{}",
+    ),
+];
+
+/// Whether the member that fields are stands between `op` and `before`.
+fn has_fields(alloc: Global, fields: &Fields<'_>, member: &str) -> Result<bool, Fault> {
+    let mut room = LineRoom::new(alloc);
+    let mut lines = Vec::new(alloc);
+    let rows = nested(alloc, 0)?;
+    add_first(alloc, &mut room, &mut lines, ONE_DOCUMENT, &rows, fields)?;
+    let expected = format!(in alloc;
+        "{{\"op\":\"c\",{member},\"before\":null,\"after\":{{\"@0\":[]}}}}\n"
+    )?;
+    Ok(lines.as_slice() == expected.as_bytes())
+}
+
 #[test]
 fn members(rt: HostRuntime) {
     assert!(rt; has_source(rt.alloc()) == Ok(true));
+    for (fields, member) in FIELDS {
+        assert!(rt; has_fields(rt.alloc(), fields, member) == Ok(true));
+    }
 }
 
 /// Whether lines stay as they are where a document nests too deep, and the room serves the next line.
@@ -830,6 +883,7 @@ fn types_cross_threads(_rt: HostRuntime) {
     crosses_threads::<LongLine<'static>>();
     crosses_threads::<EscapeRoom>();
     crosses_threads::<NoMembers>();
+    crosses_threads::<Fields<'static>>();
 }
 
 /// Some numbers of collations at the ends of ranges, and their character sets.

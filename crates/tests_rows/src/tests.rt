@@ -2,6 +2,7 @@
 //! made of them.
 
 mod cells;
+mod changed;
 mod images;
 mod lent;
 mod memory;

@@ -1,12 +1,17 @@
 //! Tests of what reads one event after the other: binlog files and their changes, plans that are
-//! kept for later events, and the events of two servers. And of which types go to other threads.
+//! kept for later events, the events of two servers, statements that are logged as text, and which tables
+//! are wanted. And of which types go to other threads.
 
 mod file;
 mod kept;
 mod lent;
 mod memory;
+mod resume;
 mod servers;
+mod statements;
+mod table_names;
 mod threads;
+mod types;
 
 use binlog_base::below::ParseBuf;
 use binlog_base::fault::Fault;

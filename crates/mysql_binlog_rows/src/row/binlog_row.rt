@@ -7,6 +7,7 @@ ghost use Rattle.binlog_cells.specs.Cells.{PlainCell, cell_of};
 ghost use Rattle.binlog_base.specs.Values.{plain_of, value_at};
 ghost use Rattle.binlog_cells.specs.Equality.{same_cell};
 ghost use Rattle.mysql_binlog_rows.specs.RowValues.{AreThere};
+ghost use Rattle.mysql_binlog_rows.specs.Changed.{value_named};
 ghost use Rattle.mysql_binlog_rows.specs.NotPlain.{IsNotPlain, IsRefused};
 ghost use Rattle.binlog_cells.specs.Lemmas.Equality.{same_cell_is_equivalence};
 ghost use Rattle.mysql_binlog_rows.specs.declared.row.binlog_row.BinlogRowToRowError.TheVariants as RowError;
@@ -16,6 +17,7 @@ ghost use Rattle.binlog_base.specs.contracts.below.columns.column.ColumnPartialE
 ghost use Rattle.std.specs.Cmp.{and_per, on_per, partial_equiv_from_equiv};
 ghost use Rattle.std.specs.Cmp.Lexicographic.{pointwise, lists_per, options_equiv};
 
+use super::named::place_named;
 use crate::value::{BinlogValue, BinlogValueToValueError};
 use binlog_base::below::{Column, Row, Value, new_row_raw};
 use std::alloc::{AllocError, AllocFailed, Global};
@@ -110,6 +112,18 @@ impl BinlogRow {
         match self.values.get(index) {
             Some(Some(value)) => Some(value),
             _ => None,
+        }
+    }
+
+    /// Returns the value of the first column with this name, byte for byte; `None` where no column has
+    /// it, or where the value was taken. Where the server writes no names, a column's name is `@` and
+    /// its number.
+    pub fn get(&self, name: &[u8]) -> Option<&BinlogValue<'static>>
+        ensures { option_map (λ v. cell_of v.now) result ≡ value_named name.now self.now }
+    {
+        match place_named(self.columns_ref(), name) {
+            None => None,
+            Some(place) => self.as_ref(place),
         }
     }
 

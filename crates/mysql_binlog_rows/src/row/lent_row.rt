@@ -12,8 +12,10 @@ ghost use Rattle.binlog_cells.specs.Cells.{cell_of};
 ghost use Rattle.binlog_cells.specs.Equality.{same_cell};
 ghost use Rattle.binlog_cells.specs.Lemmas.Equality.{same_cell_is_equivalence};
 ghost use Rattle.binlog_cells.specs.LentCells.{lent_cell, lent_values};
+ghost use Rattle.mysql_binlog_rows.specs.Changed.{value_named};
 
 use super::binlog_row::BinlogRow;
+use super::named::place_named;
 use crate::value::{BinlogValue, LentCell};
 use binlog_base::below::Column;
 use std::alloc::{AllocError, Global};
@@ -95,6 +97,17 @@ impl<'a> LentRow<'a> {
         ensures { option_map (λ c. lent_cell c.now) result ≡ value_at self.now.values index }
     {
         self.cells.get(index)
+    }
+
+    /// Returns the cell of the first column with this name, byte for byte; `None` where no column has
+    /// it. Where the server writes no names, a column's name is `@` and its number.
+    pub fn get(&self, name: &[u8]) -> Option<&LentCell<'a>>
+        ensures { option_map (λ c. lent_cell c.now) result ≡ value_named name.now self.now }
+    {
+        match place_named(self.columns_ref(), name) {
+            None => None,
+            Some(place) => self.as_ref(place),
+        }
     }
 
     /// Returns the row's columns.

@@ -452,7 +452,7 @@ fn next_bit(bits: &mut BitIter<'_>) -> bool
 }
 
 // Returns whether the bit at an index is set; false where there is no such bit.
-fn is_set(bits: &BitView<'_>, place: usize) -> bool
+pub(crate) fn is_set(bits: &BitView<'_>, place: usize) -> bool
     ensures { result ≡ slice_index_or bits.now place false }
 {
     bits.get(place).unwrap_or(false)

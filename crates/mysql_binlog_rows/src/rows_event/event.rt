@@ -231,18 +231,18 @@ impl<'a> RowsEvent<'a> {
         ))
     }
 
-    // Returns the bytes of the bitmap of the images before the change; `None` where the event has
-    // none.
-    pub(super) fn bitmap_before(&self) -> Option<&[u8]>
+    /// Returns the bytes of the bitmap of the images before the change; `None` where the event has
+    /// none.
+    pub fn bitmap_before(&self) -> Option<&[u8]>
         ensures bitmap { option_map (λ b. b.now) result ≡ self.now.before }
         ensures event { IsRowsEvent self.now }
     {
         Some(self.columns_before_image.as_ref()?.as_bytes())
     }
 
-    // Returns the bytes of the bitmap of the images after the change; `None` where the event has
-    // none.
-    pub(super) fn bitmap_after(&self) -> Option<&[u8]>
+    /// Returns the bytes of the bitmap of the images after the change; `None` where the event has
+    /// none.
+    pub fn bitmap_after(&self) -> Option<&[u8]>
         ensures { option_map (λ b. b.now) result ≡ self.now.after }
     {
         Some(self.columns_after_image.as_ref()?.as_bytes())

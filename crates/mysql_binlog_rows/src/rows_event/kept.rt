@@ -5,12 +5,12 @@ ghost use Rattle.std.specs.Option.{option_map};
 ghost use Rattle.std.specs.Arc.{arc_value};
 ghost use Rattle.std.specs.Rc.{rc_value};
 ghost use Rattle.binlog_base.specs.declared.fault.Fault.TheVariants as Fault;
-ghost use Rattle.binlog_table.specs.TableMap.{TableMap};
+ghost use Rattle.binlog_table.specs.TableMap.{TableMap, without_id};
 ghost use Rattle.mysql_binlog_rows.specs.RowsEvent.{RowsEvent as Event, bitmap_length};
 ghost use Rattle.mysql_binlog_rows.specs.RowsEventWritten.{IsRowsEvent};
 ghost use Rattle.mysql_binlog_rows.specs.Rows.{plans_of_events};
 ghost use Rattle.mysql_binlog_rows.specs.Workings.Plans.{Reads};
-ghost use Rattle.mysql_binlog_rows.specs.Kept.{Serves, KeptServes, kept_bytes, told_bytes};
+ghost use Rattle.mysql_binlog_rows.specs.Kept.{Fits, Serves, KeptServes, kept_bytes, told_bytes};
 ghost use Rattle.mysql_binlog_rows.specs.Memory.{in_usize};
 
 use super::event::RowsEvent;
@@ -159,11 +159,19 @@ impl Planned {
     fn serves(&self, table: &TableMapEvent<'_>, event: &RowsEvent<'_>) -> bool
         ensures { IsTrue result ↔ Serves self.now table.now event.now }
     {
+        self.fits(event) && self.table.tells_the_same(table)
+    }
+
+    // Returns whether the plan serves these rows events, if their table map event tells what that tells
+    // which the plan was made for.
+    #[inline(always)]
+    fn fits(&self, event: &RowsEvent<'_>) -> bool
+        ensures { IsTrue result ↔ Fits self.now event.now }
+    {
         self.num_columns == event.num_columns()
             && self.plans.has_options() == has_options(event.event_type())
             && is_same(&self.before, event.bitmap_before())
             && is_same(&self.after, event.bitmap_after())
-            && self.table.tells_the_same(table)
     }
 
     // Returns how many bytes the bitmaps take, and the names of the database and the table.
@@ -233,6 +241,20 @@ impl KeptPlan {
         ensures { self.new ≡ Some planned }
     {
         self.last = Some(planned);
+    }
+
+    // Returns the plan that is kept for a table map event that tells the same; `None` where it doesn't
+    // serve this rows event. The table map events aren't compared.
+    fn plans_told(&self, table: &TableMapEvent<'_>, event: &RowsEvent<'_>) -> Option<&Rc<Plans>>
+        requires { IfSome self.now (λ p. without_id p.table ≡ without_id table.now) }
+        ensures serves { IfSome result (λ p. KeptServes self.now table.now event.now
+            × Reads table.now event.now (rc_value p.now).plans) }
+        ensures none { IfNone result (¬ (KeptServes self.now table.now event.now)) }
+    {
+        match &self.last {
+            Some(planned) if planned.fits(event) => Some(planned.plans()),
+            _ => None,
+        }
     }
 
     // Returns the plan that is kept; `None` where it doesn't serve these events.
@@ -423,6 +445,37 @@ impl<'a> RowsEvent<'a> {
         ensures err { IfErr result (λ e. e ≡ Fault.Memory) }
     {
         match kept.plans(table, self) {
+            None => Ok(None),
+            Some(plans) => {
+                let plans = plans.clone()?;
+                let shared = Shared {
+                    plans,
+                    is_new: false,
+                };
+                Ok(Some(RowsEventRows::by_plans(alloc, rows_data, shared)))
+            }
+        }
+    }
+
+    /// Returns an iterator over the pairs of rows, as `lent_rows_if_served` does, for a table map event
+    /// that tells the same as that which the plan was made for. They aren't compared.
+    pub fn lent_rows_if_told<'d>(
+        &self,
+        alloc: Global,
+        rows_data: &'d [u8],
+        table: &TableMapEvent<'_>,
+        kept: &KeptPlan,
+    ) -> Result<Option<RowsEventRows<'d>>, Fault>
+        requires data { rows_data.now ≡ self.now.rows_data }
+        requires told { IfSome kept.now (λ p. without_id p.table ≡ without_id table.now) }
+        ensures reads { IfOk result (λ o. IfSome o (λ r. GivesPairsOf table.now self.now r)) }
+        ensures left { IfOk result (λ o. IfSome o (λ r. r.left ≡ self.now.rows_data)) }
+        ensures planned { IfOk result (λ o. IfSome o (λ r. r.is_planned ≡ true)) }
+        ensures again { IfOk result (λ o. IfSome o (λ r. r.steps ≡ 0)) }
+        ensures serves { IfOk result (λ o. IsSome o ↔ KeptServes kept.now table.now self.now) }
+        ensures err { IfErr result (λ e. e ≡ Fault.Memory) }
+    {
+        match kept.plans_told(table, self) {
             None => Ok(None),
             Some(plans) => {
                 let plans = plans.clone()?;

@@ -48,7 +48,7 @@ struct EventCase {
     printed: &'static str,
 }
 
-const EVENTS: [EventCase; 54] = [
+const EVENTS: [EventCase; 55] = [
     // Two inserted rows, and the same with digits in either case and a text of no bytes.
     EventCase {
         event_type: "1E",
@@ -256,6 +256,14 @@ const EVENTS: [EventCase; 54] = [
         rows: "01000000000001000200020102000700000001",
         status: 0,
         printed: "{a=7} -> {b=NULL}\n",
+    },
+    // A name of a letter, a backslash, a line feed and a backquote.
+    EventCase {
+        event_type: "1E",
+        table: "010000000000010001640001740002030F020A0002040504615C0A60",
+        rows: "010000000000010002000203002A00000002616202FFFFFFFF",
+        status: 0,
+        printed: "- -> {`a\\\\\\n```=42, @1=x6162}\n- -> {`a\\\\\\n```=-1, @1=NULL}\n",
     },
     // One name for two columns; key columns without and with a prefix. The fault of the keys
     // belongs to no column.

@@ -166,6 +166,7 @@ const DAMAGED: &[(usize, u8, u64, EventError)] = &[
     (175, 45, 166, EventError::Cut(1)),
     (170, 0x14, 166, EventError::NotSupported(0x14)),
     (170, 0x50, 166, EventError::NotSupported(0x50)),
+    (170, 0xa4, 166, EventError::NotSupported(0xa4)),
     (185, 2, 166, EventError::UnknownTable(2)),
     (195, 0xfb, 166, EventError::RowsEvent(Fault::BadLenEnc)),
 ];
@@ -345,6 +346,8 @@ fn passed_over(rt: HostRuntime) -> Result<(), Fail> {
     let mut file = with_rows(alloc, false, &[0])?;
     // An unknown type with the flag that it may be ignored, and MySQL's rows events without rows.
     push(&mut file, 0x50, 0x80, b"", false)?;
+    // MariaDB's event of encryption, as a server sends it to a client.
+    push(&mut file, 0xa4, 0x80, b"\x01\x01\0\0\0abcdefghijkl", false)?;
     for body in DUMMIES {
         push(&mut file, 0x1e, 0, *body, false)?;
     }
@@ -498,7 +501,7 @@ fn a_source_that_fails(rt: HostRuntime) -> Result<(), Fail> {
 }
 
 /// Reads so many events. Returns whether there are as many.
-fn reads(
+pub(super) fn reads(
     alloc: Global,
     reader: &mut EventStreamReader,
     left: &mut &[u8],

@@ -36,6 +36,13 @@ impl<T> Counted<T> {
         Counted { inner, failures: 0 }
     }
 
+    /// Returns the reader or the writer.
+    pub fn get_ref(&self) -> &T
+        ensures { result.now ≡ self.now.inner }
+    {
+        &self.inner
+    }
+
     /// Returns how many failures there were, at most 2^64 - 1.
     pub fn failures(&self) -> u64
         ensures { result ≡ self.now.failures }

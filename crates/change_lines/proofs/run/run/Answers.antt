@@ -1,21 +1,16 @@
-use Rattle.std.proofs.Common.{sym, subst}
-use Rattle.change_lines.specs.declared.run.Ended.{Ended}
-use Rattle.change_lines.specs.Runs.{EndsBy}
-use Rattle.change_lines.proofs.Errors.{of_error}
-use Rattle.change_lines.proofs.run.run.Goals.{then-eq, else-eq}
+use Rattle.std.proofs.Common.{[], refl, ap, ◌∙◌}
+use Rattle.change_lines.proofs.Ran.{run_failed}
+use Rattle.change_lines.proofs.Told.{tells_silent, tells_more}
 use Rattle.change_lines.proofs.run.run.Goals as goal
 
-pub returns-clause-first : goal.returns-clause-first
-returns-clause-first g c = λ not.
-    let why = c.in-Err.failure in (
-      why,
-      elim c.if-eq.branch [
-        | then-eq w ↦ subst (λ (e : Ended). EndsBy e why) (sym w.result-is) c.ended_by-ended.ensures
-        | else-eq w ↦ subst (λ (e : Ended). EndsBy e why) (sym w.result-is) c.ended_by-ended.ensures
-      ],
-      of_error c.print.result why _ c.in-Err.is c.print.ensures.cause,
-      of_error c.print.result why _ c.in-Err.is c.print.ensures.flushed_first,
-      λ x known small.
-          let h = of_error c.print.result why _ c.in-Err.is c.print.ensures.first c.new-4.ensures c.new.ensures x known small in
-          (h.0, h.1, h.2, λ same. of_error c.print.result why _ c.in-Err.is c.print.ensures.first_counts same x known small),
-    )
+pub returns-in_err-printed-clause-run : goal.returns-in_err-printed-clause-run
+returns-in_err-printed-clause-run g c = λ x known small. run_failed _ _ _ _ _ _ _ _ c.in_err-printed.field-0.0 c.from_residual.ensures.1 (c.in_err-printed.ensures.first c.new-4.ensures c.new.ensures x known small) (λ same. c.in_err-printed.ensures.first_counts same x known small)
+
+pub returns-clause-told : goal.returns-clause-told
+returns-clause-told g c = λ loud none sized x known small.
+    let h = c.in_ok-printed.ensures in
+    let silent = c.see_faulty.ensures.silent in
+    let broke = h.told none sized in
+    let gaps = c.tell_gaps.ensures.text (silent.quiet ∙ c.print-printed.ensures.quiet ∙ loud) in
+    let after = tells_more _ _ _ _ _ _ [] _ (tells_silent _ _ _ _ silent.lost (ap g.E.Write.contents silent.err)) gaps in
+    (c.print-printed.new.self.gaps, h.noted refl c.new-2.ensures x known small, (broke.0, broke.1, broke.2, tells_more _ _ _ _ _ _ _ _ broke.3 after))

@@ -1,81 +1,115 @@
-use Rattle.std.proofs.Common.{◌≡◌, ◌<◌, ◌≤◌, ℕ, true, false, List, [], ◌++◌, length, get_or, arith, sym, subst, append_assoc, append-nil}
+use Rattle.std.proofs.Common.{◌≡◌, ◌+◌, ◌<◌, ◌≤◌, ℕ, suc, true, false, List, [], ◌∷◌, ◌++◌, length, drop, get_or, arith, refl, sym, subst, ◌∙◌, append_assoc, append-nil}
 use Rattle.row_json.specs.Wrote.{Named}
 use Rattle.row_json.specs.Rows.{AreMembers}
-use Rattle.row_json.proofs.Steps.{adds_members}
 use Rattle.std.proofs.lemmas.Result.{err_from_is_err_and}
 use Rattle.binlog_base.specs.Values.{value_at}
-use Rattle.row_json.specs.Columns.{columns_in}
+use Rattle.row_json.specs.Columns.{columns_in, set_from}
 use Rattle.row_json.specs.Faults.{HasNone, IsFaultOfCell}
-use Rattle.row_json.proofs.Columns.{present_step, absent_step, last_step, count_present, count_absent, count_last}
+use Rattle.row_json.proofs.Columns.{present_step, last_step, count_present, count_last}
+use Rattle.row_json.proofs.Places.{next_at, no_more, after_set, after_counted}
 use Rattle.row_json.proofs.Diffs.{up_to}
 use Rattle.row_json.proofs.Faults.{none_of_all}
+use Rattle.row_json.proofs.Steps.{adds_members, adds_nothing}
 use Rattle.row_json.proofs.row.write_members.Goals as goal
 
-pub loop-index-preserved-then-not-is_present : goal.loop-index-preserved-then-not-is_present
-loop-index-preserved-then-not-is_present g c =
-    let inv = c.loop-index.invariant in
-    let i = c.loop-index.index in
-    let below : i < length c.args.columns.now = omega arith in
-    let e : get_or c.args.present.now i false ≡ false = grind arith in (
-      inv.0,
-      inv.1,
-      (λ more are. inv.2 more (absent_step c.args.part c.args.columns.now c.args.present.now i c.loop-index.place (g.R.Row.image c.args.row.now).values more below e are)),
-      omega (arith, inv.3),
-      omega (arith, inv.4, count_absent c.args.columns.now c.args.present.now i below e),
-      inv.5,
-    )
+pub loop-place-init : goal.loop-place-init
+loop-place-init g c = (0, c.requires, [], adds_nothing c.args.out.now, (λ more are. are), omega arith, λ k b. absurd (omega (arith, b)))
 
-pub overflow_add-place : goal.overflow_add-place
-overflow_add-place g c = omega (arith, c.loop-index.invariant.3)
-
-pub loop-index-preserved : goal.loop-index-preserved
-loop-index-preserved g c =
-    let inv = c.loop-index.invariant in
-    let i = c.loop-index.index in
+pub loop-place-preserved : goal.loop-place-preserved
+loop-place-preserved g c =
+    let inv = c.loop-place.invariant in
+    let next = inv.0 in
+    let k = c.loop-place.place in
     let p = c.args.part in
     let cs = c.args.columns.now in
     let bits = c.args.present.now in
     let values = (g.R.Row.image c.args.row.now).values in
-    let place = c.loop-index.place in
+    let places = c.args.places.now in
+    let i = get_or places k 0 in
+    let n = next_at bits places k next (omega arith) inv.1 in
     let column = c.index-columns-index.result in
     let w = c.in_ok-write_member.ensures.written in
-    let below : i < length cs = omega arith in
-    let e : get_or bits i false ≡ true = grind arith in (
-      inv.0 ++ w.0,
-      adds_members inv.0 w.0 inv.1 w.2,
-      (λ more are. subst (λ (ms : List Named). AreMembers p cs bits 0 values ms) (sym (append_assoc inv.0 w.0 more)) (inv.2 (w.0 ++ more) (present_step p cs bits i place values column w.0 more below c.index-columns-index.is e w.1 are))),
-      omega (arith, inv.3),
-      omega (arith, inv.4, count_present cs bits i below e),
-      up_to (λ (k : ℕ). HasNone (IsFaultOfCell p (value_at values k))) place inv.5 c.in_ok-write_member.ensures.sound,
+    let below : i < length cs = omega arith in (
+      i + 1,
+      n.rest,
+      inv.2 ++ w.0,
+      adds_members inv.2 w.0 inv.3 w.2,
+      (λ more are. subst (λ (ms : List Named). AreMembers p cs bits 0 values ms) (sym (append_assoc inv.2 w.0 more)) (inv.4 (w.0 ++ more) (n.members p cs k values (w.0 ++ more) (present_step p cs bits i k values column w.0 more below c.index-columns-index.is n.set w.1 are)))),
+      omega (arith, inv.5, n.count cs, count_present cs bits i below n.set),
+      up_to (λ (k : ℕ). HasNone (IsFaultOfCell p (value_at values k))) k inv.6 c.in_ok-write_member.ensures.sound,
     )
+
+pub returns-then-index-columns-clause-written : goal.returns-then-index-columns-clause-written
+returns-then-index-columns-clause-written g c =
+    let inv = c.loop-place.invariant in
+    let next = inv.0 in
+    let k = c.loop-place.place in
+    let p = c.args.part in
+    let cs = c.args.columns.now in
+    let bits = c.args.present.now in
+    let values = (g.R.Row.image c.args.row.now).values in
+    let places = c.args.places.now in
+    let i = get_or places k 0 in
+    let n = next_at bits places k next (omega arith) inv.1 in
+    let past : length cs ≤ i = omega arith in
+    (inv.2, subst (λ (ms : List Named). AreMembers p cs bits 0 values ms) (append-nil inv.2) (inv.4 [] (n.members p cs k values [] (last_step p cs bits i k values past))), inv.3)
 
 pub returns-clause-written : goal.returns-clause-written
 returns-clause-written g c =
-    let inv = c.loop-index.invariant in
+    let inv = c.loop-place.invariant in
+    let next = inv.0 in
+    let k = c.loop-place.place in
     let p = c.args.part in
     let cs = c.args.columns.now in
     let bits = c.args.present.now in
     let values = (g.R.Row.image c.args.row.now).values in
-    let past : length cs ≤ c.loop-index.index = omega arith in
-    (inv.0, subst (λ (ms : List Named). AreMembers p cs bits 0 values ms) (append-nil inv.0) (inv.2 [] (last_step p cs bits c.loop-index.index c.loop-index.place values past)), inv.1)
+    let places = c.args.places.now in
+    let end = no_more bits places k next (omega arith) inv.1 in
+    (inv.2, subst (λ (ms : List Named). AreMembers p cs bits 0 values ms) (append-nil inv.2) (inv.4 [] (after_set bits next end p cs k values)), inv.3)
 
 pub returns-in_err-write_member-clause-err : goal.returns-in_err-write_member-clause-err
 returns-in_err-write_member-clause-err g c =
-    let inv = c.loop-index.invariant in
-    let i = c.loop-index.index in
+    let inv = c.loop-place.invariant in
+    let next = inv.0 in
+    let k = c.loop-place.place in
+    let p = c.args.part in
     let cs = c.args.columns.now in
     let bits = c.args.present.now in
+    let values = (g.R.Row.image c.args.row.now).values in
+    let places = c.args.places.now in
+    let i = get_or places k 0 in
+    let n = next_at bits places k next (omega arith) inv.1 in
     let below : i < length cs = omega arith in
-    let e : get_or bits i false ≡ true = grind arith in
-    let within : c.loop-index.place < length (columns_in cs bits) = omega (arith, inv.4, count_present cs bits i below e) in
+    let within : k < length (columns_in cs bits) = omega (arith, inv.5, n.count cs, count_present cs bits i below n.set) in
     let p = err_from_is_err_and c.from_residual.result c.from_residual.ensures.1 in
-    rw (p.1, p.2) (λ other. record { place = c.loop-index.place; within = within; here = c.in_err-write_member.ensures.err other; before = inv.5 })
+    rw (p.1, p.2) (λ other. record { place = k; within = within; here = c.in_err-write_member.ensures.err other; before = inv.6 })
+
+pub returns-then-index-columns-clause-sound : goal.returns-then-index-columns-clause-sound
+returns-then-index-columns-clause-sound g c =
+    let inv = c.loop-place.invariant in
+    let next = inv.0 in
+    let k = c.loop-place.place in
+    let p = c.args.part in
+    let cs = c.args.columns.now in
+    let bits = c.args.present.now in
+    let values = (g.R.Row.image c.args.row.now).values in
+    let places = c.args.places.now in
+    let i = get_or places k 0 in
+    let n = next_at bits places k next (omega arith) inv.1 in
+    let past : length cs ≤ i = omega arith in
+    let all : k ≡ length (columns_in cs bits) = omega (arith, inv.5, n.count cs, count_last cs bits i past) in
+    none_of_all (length (columns_in cs bits)) (λ k. IsFaultOfCell p (value_at values k)) (λ k b. inv.6 k (omega (arith, b, all)))
 
 pub returns-clause-sound : goal.returns-clause-sound
 returns-clause-sound g c =
-    let inv = c.loop-index.invariant in
+    let inv = c.loop-place.invariant in
+    let next = inv.0 in
+    let k = c.loop-place.place in
+    let p = c.args.part in
     let cs = c.args.columns.now in
     let bits = c.args.present.now in
-    let past : length cs ≤ c.loop-index.index = omega arith in
-    let all : c.loop-index.place ≡ length (columns_in cs bits) = omega (arith, inv.4, count_last cs bits c.loop-index.index past) in
-    none_of_all (length (columns_in cs bits)) (λ k. IsFaultOfCell c.args.part (value_at (g.R.Row.image c.args.row.now).values k)) (λ k b. inv.5 k (omega (arith, b, all)))
+    let values = (g.R.Row.image c.args.row.now).values in
+    let places = c.args.places.now in
+    let end = no_more bits places k next (omega arith) inv.1 in
+    let all : k ≡ length (columns_in cs bits) = omega (arith, inv.5, after_counted bits next end cs) in
+    none_of_all (length (columns_in cs bits)) (λ k. IsFaultOfCell p (value_at values k)) (λ k b. inv.6 k (omega (arith, b, all)))

@@ -18,6 +18,7 @@ use Rattle.change_lines.proofs.First.{written_of, first_lines}
 use Rattle.change_lines.proofs.Written.{on_ok}
 use Rattle.change_lines.proofs.Whole.{whole}
 use Rattle.change_lines.proofs.CountedFiles.{counts_nothing, counted_of, file_counted}
+use Rattle.change_lines.proofs.Noted.{file_noted}
 use Rattle.change_lines.proofs.run.Printer.print.Goals as goal
 
 pub returns-clause-all : goal.returns-clause-all
@@ -107,6 +108,28 @@ returns-clause-first_counts g c =
     (on_error c.print_events-read.result _ _ (λ why f. f same c.new-changes.ensures.pending y finds) c.print_events-read.ensures.first_counts) is) in
     (first.1.0, inr (first.0, first.1.1), first.1.2))
     c.finish.ensures.failed
+
+pub returns-clause-noted : goal.returns-clause-noted
+returns-clause-noted g c =
+    let s = c.args.self.now in
+    let w = c.new-changes.result in
+    let file = c.in_ok-file.ensures in
+    let kept = ap (λ (k : EventStreamReader). kept_by k.kept) c.new-changes.ensures.reader ∙ file.kept in
+    let on = ap (λ (k : EventStreamReader). k.is_over) c.new-changes.ensures.reader ∙ file.goes_on in
+    on_ok c.finish.result _ _
+    (λ ended closed nothing x known small.
+    let read = if_ok c.print_events-read.result _ ended.0 c.print_events-read.ensures.noted in
+    let source = ap g.R.Read.remaining c.new.ensures.inner ∙ known in
+    let left : Consumes (Some x) (g.R.Read.remaining w.source.inner) magic =
+    subst (λ (o : Option (List ℕ)). Consumes o (g.R.Read.remaining w.source.inner) magic) source
+    (subst (λ (o : Option (List ℕ)). Consumes (g.R.Read.remaining c.new.result.inner) o magic) (sym (ap (λ (k : CountedState _). g.R.Read.remaining k.inner) c.new-changes.ensures.source)) file.ok) in
+    file_noted s.settings.now w.choice x (g.R.Read.remaining w.source.inner) (reading_in w.walk) s.is_open s.gaps c.print_events-read.new.self.gaps
+    left kept on small c.new-changes.ensures.choice closed nothing (λ y finds. read c.new-changes.ensures.pending y finds))
+    c.finish.ensures.all
+
+pub returns-clause-told : goal.returns-clause-told
+returns-clause-told g c =
+    on_ok c.finish.result _ _ (λ ended none known. if_ok c.print_events-read.result _ ended.0 c.print_events-read.ensures.told none known) c.finish.ensures.all
 
 pub returns-clause-cause : goal.returns-clause-cause
 returns-clause-cause g c =

@@ -2,10 +2,13 @@ use Rattle.std.proofs.Common.{◌≡◌, ◌⊎◌, ℕ, List, None}
 use Rattle.binlog_file.specs.SourceChanges.{Finds, spot_at, items_left}
 use Rattle.binlog_file.specs.Workings.SourceWalks.{reading_in, kept_in}
 use Rattle.changed_rows.specs.Filters.{wanted_by, start_sought}
+use Rattle.std.specs.Prelude.{IsSome}
 use Rattle.change_lines.specs.Printers.{IsSame}
+use Rattle.change_lines.specs.Silent.{IsSilent}
 use Rattle.change_lines.specs.declared.run.Form.TheVariants as form
 use Rattle.change_lines.proofs.Whole.{SoFar}
 use Rattle.change_lines.proofs.CountedFiles.{CountedSoFar}
+use Rattle.change_lines.proofs.Noted.{NotedSoFar}
 use Rattle.change_lines.proofs.run.Printer.print_events.Given as goal
 
 abbrev pub invariant-loop-bounds : goal.invariant-loop-bounds
@@ -21,6 +24,11 @@ invariant-loop-bounds g l =
     → CountedSoFar (wanted_by l.fn.changes.choice) (spot_at (kept_in l.fn.changes.walk) None x) l.fn.counts (g.S.Source.remaining l.changes.source) (reading_in l.changes.walk) l.changes.walk.pending l.counts
     l.fn.self.settings.now.filter.positions l.bounds.start)
     × ((l.bounds.start ≡ start_sought l.fn.self.settings.now.filter.positions) ⊎ (l.bounds.start ≡ None))
+    × (l.fn.changes.walk.pending ≡ None → (x : List ℕ) → Finds (reading_in l.fn.changes.walk) (g.S.Source.remaining l.fn.changes.source) x
+    → NotedSoFar (wanted_by l.fn.changes.choice) l.fn.self.settings.now.filter.positions (spot_at (kept_in l.fn.changes.walk) None x) l.fn.self.is_open l.fn.self.gaps
+    (g.S.Source.remaining l.changes.source) (reading_in l.changes.walk) l.changes.walk.pending l.self.is_open l.self.gaps)
+    × (l.fn.notes.meter ≡ None → IsSome l.fn.notes.len → IsSilent l.fn.notes l.notes)
+    × (l.notes.is_quiet ≡ l.fn.notes.is_quiet)
 
 abbrev pub decreases-loop-bounds : goal.decreases-loop-bounds
 decreases-loop-bounds g l = items_left (reading_in l.changes.walk) l.changes.walk.pending

@@ -9,7 +9,7 @@ use Rattle.std.proofs.lemmas.Map.Iter.{iter_end}
 use Rattle.changed_rows.specs.declared.count.Changed.{Changed}
 use Rattle.changed_rows.specs.declared.count.TableName.{TableName}
 use Rattle.changed_rows.specs.Counted.{name_text, numbers_text, plus, sum_of, others_text, head_text}
-use Rattle.changed_rows.proofs.Counted.{line_printed, entry_summed, table_printed, nothing_printed, others_printed, turned_false, turned_true, in_any_case}
+use Rattle.changed_rows.proofs.Counted.{line_printed, entry_summed, table_printed, names_ascend, nothing_printed, others_printed, turned_false, turned_true, in_any_case}
 use Rattle.changed_rows.proofs.count.Counts.print.Goals.{then-ne+in_ok-print-2, else-ne}
 use Rattle.changed_rows.proofs.count.Counts.print.Goals as goal
 
@@ -42,3 +42,6 @@ returns-clause-written g c =
           subst (λ o. Appends (g.O.Write.contents c.loop-name.out) (g.O.Write.contents o) (others_text others)) (sym w.out-is) (nothing_printed _ others (turned_true _ same))
     ] in
     in_any_case c.flush_once.result _ (table_printed _ _ _ _ _ _ others c.loop-name.sums tables rest sums c.in_ok-print-3.ensures c.flush_once.ensures.bytes)
+
+pub returns-clause-ascend : goal.returns-clause-ascend
+returns-clause-ascend g c = in_any_case c.flush_once.result _ (names_ascend c.args.self.now.tables.entries c.iter-name-items.ensures.ordered)

@@ -25,7 +25,7 @@ MODES = {"JSON": [], "--text": ["--text"], "--count": ["--count"]}
 
 # What is slow still of 1,024 KiB: the file, in which forms, and why.
 SLOW = [
-    ("alternating images, empty fields", MODES, "events whose images' columns aren't those of the one before make a plan anew, by a walk over all optional fields"),
+    ("five images by turns, empty fields", MODES, "events whose images' columns aren't those of one of the last four plans make a plan anew, by a walk over all optional fields"),
     ("wide tables by turns", ["JSON"], "what decides the JSON of all columns is found out anew for each event, where two tables take more than is kept"),
 ]
 KNOWN = {(name, 1024 * KIB, mode): why for name, modes, why in SLOW for mode in modes}
@@ -132,6 +132,12 @@ def alternating_images_with_empty_fields(size):
     return repeated(size, [table_map(2 * TINY, optional=empty_fields(size))], events)
 
 
+def five_images_with_empty_fields(size):
+    """One image more than plans are kept of the table map event that is open."""
+    events = [rows(WRITE, 5, [[place]], NULL) for place in range(5)]
+    return repeated(size, [table_map(5 * TINY, optional=empty_fields(size))], events)
+
+
 def values(size):
     """The names of the values of an ENUM, of so many bytes."""
     count = size // 256
@@ -212,6 +218,7 @@ MAKERS = {
     "alternating images of updates": alternating_images_of_an_update,
     "empty fields": with_empty_fields,
     "alternating images, empty fields": alternating_images_with_empty_fields,
+    "five images by turns, empty fields": five_images_with_empty_fields,
     "a large table map event": many_events_of_a_large_map,
     "two large table map events": two_large_maps,
     "alternating images, many values": alternating_images_with_values,

@@ -3,8 +3,7 @@
 ghost use Rattle.std.specs.Prelude.{◌≤◌};
 ghost use Rattle.binlog_file.specs.Changes.{most_left};
 ghost use Rattle.binlog_file.specs.Workings.Walks.{spot_of};
-ghost use Rattle.binlog_file.specs.SourceChanges.{items_left};
-ghost use Rattle.binlog_file.specs.Workings.SourceWalks.{reading_in};
+ghost use Rattle.binlog_file.specs.ItemsLeft.{left};
 
 use crate::count::Count;
 use binlog_base::below::{Counted, Source};
@@ -97,8 +96,7 @@ fn add_change_of<'b, S: Source + Drop>(
     mut change: LentChange<'b>,
     count: &mut Count,
 )
-    ensures { items_left (reading_in changes.new.walk) changes.new.walk.pending
-        ≤ items_left (reading_in changes.old.walk) changes.old.walk.pending }
+    ensures { left changes.new ≤ left changes.old }
 {
     count.add_event();
     let mut pair = LentPair::new(alloc);

@@ -100,15 +100,13 @@ impl<'a> Raw<'a> {
 
 /// What the changes of a file need of an event: where it begins, its header, what is needed to read it
 /// as a rows event, if it is one, and its body.
-#[derive(Drop)]
-#[derive_where(Debug)]
+#[derive(Debug, Drop)]
 pub struct Glance<'a> {
     /// Where the event begins in the file.
     pub position: u64,
     /// The event's header.
     pub header: BinlogEventHeader,
     /// What is needed to read the body as that of a rows event; none if the event is of another type.
-    #[derive_where(skip(Debug))]
     pub rows: Option<RowsEventCtx>,
     /// The bytes after the header, without a checksum.
     pub body: &'a [u8],
@@ -320,14 +318,12 @@ pub fn parts_of<'a>(has_checksum: bool, raw: &Raw<'a>) -> Result<Parts<'a>, Even
 
 /// An event of a file: its header, its body, and the checksum after it; and what the body says if
 /// it is a format description event or a table map event.
-#[derive(Drop)]
-#[derive_where(Debug)]
+#[derive(Debug, Drop)]
 pub struct Event<'a> {
     position: u64,
     header: BinlogEventHeader,
     body: &'a [u8],
     footer: BinlogEventFooter,
-    #[derive_where(skip(Debug))]
     rows: Option<RowsEventCtx>,
     description: Option<FormatDescriptionEvent<'a>>,
     table: Option<TableMapEvent<'a>>,
@@ -476,14 +472,12 @@ fn rows_ctx(description: &FormatDescriptionEvent<'_>, number: u8) -> Option<Rows
 
 /// An event that is neither a format description nor a table map event. It is smaller than an
 /// `Event`, so that the many events that are passed over cost less.
-#[derive(Drop)]
-#[derive_where(Debug)]
+#[derive(Debug, Drop)]
 pub struct PlainEvent<'a> {
     position: u64,
     header: BinlogEventHeader,
     body: &'a [u8],
     footer: BinlogEventFooter,
-    #[derive_where(skip(Debug))]
     rows: Option<RowsEventCtx>,
 }
 

@@ -55,9 +55,9 @@ covers_on old p (Some (Err e)) new h = elim h.3 [
 opened_gives : (w : Wanted) (ts : Tables) (from : Origin) (rows : RowsEvent) (t : TableMap) (ps : List Pair) (end : Option Fault) → Opens w ts from rows (unread from rows t) → Covers (pair t rows) rows.rows_data ps end
     → RowsGive w ts from rows (Some (change_with (unread from rows t) ps)) (error_after ps end)
 opened_gives w ts from rows t ps None o covers =
-    (o.is_real, record { is_from = refl; is_of = refl; table = t; in_force = o.in_force; is_wanted = o.is_wanted; covers = covers })
+    (o.is_real, record { is_from = refl; is_of = refl; in_force = o.in_force; is_wanted = o.is_wanted; covers = covers })
 opened_gives w ts from rows t ps (Some f) o covers =
-    (o.is_real, f, record { is_from = refl; is_of = refl; table = t; in_force = o.in_force; is_wanted = o.is_wanted; covers = covers }, refl)
+    (o.is_real, f, record { is_from = refl; is_of = refl; in_force = o.in_force; is_wanted = o.is_wanted; covers = covers }, refl)
 
 -- what an event gives whose pairs are these
 abbrev given_with : LentChange → List Pair → Option Fault → Given
@@ -177,8 +177,9 @@ event_failed O w old q t e g err new wider none gives is kept given ended = (
 
 -- ---- in memory
 
-pub item_shown : (w : Wanted) (old : Spot) (q : Place) (t : InForce) (g : Glance) (x : LentEvent) → old.pending ≡ None → GlanceSteps old.place old.in_force (Some (Ok g)) q t → Shows w t.tables g x → NextEvent IsMemory w old (Some (Ok x)) (spot q t None)
-item_shown w old q t g x none steps shows = event_shown IsMemory w old q t t steps.0 g x (spot q t None) none steps.2.gives steps.1 steps.3 shows refl
+pub item_shown : (w : Wanted) (old : Spot) (q : Place) (t u : InForce) (g : Glance) (x : LentEvent) → old.pending ≡ None → GlanceSteps old.place old.in_force (Some (Ok g)) q t → Shows w t.tables g x → u ≡ t → NextEvent IsMemory w old (Some (Ok x)) (spot q u None)
+item_shown w old q t u g x none steps shows held =
+    subst (λ (v : InForce). NextEvent IsMemory w old (Some (Ok x)) (spot q v None)) (sym held) (event_shown IsMemory w old q t t steps.0 g x (spot q t None) none steps.2.gives steps.1 steps.3 shows refl)
 
 pub item_failed : (w : Wanted) (old : Spot) (q : Place) (t : InForce) (g : Glance) (err : FileError) (new : Spot) → old.pending ≡ None → GlanceSteps old.place old.in_force (Some (Ok g)) q t → events.GivesError w t.tables g err → IsAtEnd new → NextEvent IsMemory w old (Some (Err err)) new
 item_failed w old q t g err new none steps given ended = event_failed IsMemory w old q t steps.0 g err new (λ d m. m) none steps.2.gives steps.1 steps.3 given ended

@@ -8,22 +8,22 @@ use Rattle.mysql_binlog_rows.specs.RowsEvent.{RowsEvent, rows_event}
 use Rattle.binlog_events.specs.declared.error.EventError.{EventError}
 use Rattle.binlog_events.specs.declared.error.EventError.TheVariants as error
 use Rattle.binlog_events.specs.declared.error.FileError.{FileError}
+use Rattle.binlog_events.specs.declared.origin.Origin.{Origin}
 use Rattle.binlog_file.specs.declared.lent_changes.LentEvent.{LentEvent}
 use Rattle.binlog_file.specs.declared.lent_changes.LentEvent.TheVariants as lent
 use Rattle.binlog_file.specs.Events.{Glance}
 use Rattle.binlog_file.specs.Tables.{Tables}
-use Rattle.binlog_file.specs.Changes.{Wanted, is_dummy, Gives, nothing, failure}
+use Rattle.binlog_file.specs.Changes.{Wanted, is_dummy, Gives, nothing, failure, IsChosen}
 use Rattle.binlog_file.specs.LentChanges.{unread, Opens}
-use Rattle.binlog_file.specs.LentEvents.{other_of, RowsOpen, RowsFail, Shows, GivesError, IsChosen, IsRefused}
+use Rattle.binlog_file.specs.LentEvents.{other_of, RowsOpen, RowsFail, Shows, GivesError}
 
-chosen : (w : Wanted) (ts : Tables) (g : Glance) (rows : RowsEvent) (t : TableMap) (o : Option TableMap) → is_dummy rows ≡ false → ts rows.table_id ≡ Some t → IsChosen w t g rows o → RowsOpen w ts g rows o
+chosen : (w : Wanted) (ts : Tables) (g : Glance) (rows : RowsEvent) (t : TableMap) (o : Option TableMap) → is_dummy rows ≡ false → ts rows.table_id ≡ Some t → IsChosen w t g.origin.position rows o → RowsOpen w ts g rows o
 chosen w ts g rows t (Some u) real e h =
     subst (λ (v : TableMap). Opens w ts g.origin rows (unread g.origin rows v)) (sym h.1) (record { is_real = real; in_force = e; is_wanted = h.0; is_unread = refl })
 chosen w ts g rows t None real e h = inr (real, record { table = t; in_force = e; not_wanted = h })
 
-pub chosen_if : (A : Type 0) (f : A → Option TableMap) (w : Wanted) (ts : Tables) (g : Glance) (id : ℕ) (rows : RowsEvent) (t : TableMap) (r : Result A FileError) → is_dummy rows ≡ false → id ≡ rows.table_id → ts id ≡ Some t → IfOk r (λ o. IsChosen w t g rows (f o)) → IfOk r (λ o. RowsOpen w ts g rows (f o))
-chosen_if A f w ts g id rows t (Ok o) real same e h = chosen w ts g rows t (f o) real (ap ts (sym same) ∙ e) h
-chosen_if A f w ts g id rows t (Err d) real same e h = tt
+pub chosen_in : (w : Wanted) (ts : Tables) (g : Glance) (id : ℕ) (rows : RowsEvent) (t : TableMap) (o : Option TableMap) → is_dummy rows ≡ false → id ≡ rows.table_id → ts id ≡ Some t → IsChosen w t g.origin.position rows o → RowsOpen w ts g rows o
+chosen_in w ts g id rows t o real same e h = chosen w ts g rows t o real (ap ts (sym same) ∙ e) h
 
 pub dummy_opened : (w : Wanted) (ts : Tables) (g : Glance) (rows : RowsEvent) → is_dummy rows ≡ true → RowsOpen w ts g rows None
 dummy_opened w ts g rows dummy = inl dummy
@@ -52,9 +52,11 @@ body_failed w ts g ctx f e has refuses at is =
     let given : Gives w ts g.origin g.rows g.body (failure (error.RowsEvent f)) = subst (λ (r : Option RowsEventCtx). Gives w ts g.origin r g.body (failure (error.RowsEvent f))) (sym has) (inl (f, refuses, refl)) in
     (at, inr (subst (λ (d : EventError). Gives w ts g.origin g.rows g.body (failure d)) (sym is) given))
 
-pub refused : (A : Type 0) (w : Wanted) (ts : Tables) (g : Glance) (rows : RowsEvent) (r : Result A FileError) → IfErr r (IsRefused g) → IfErr r (RowsFail w ts g rows)
-refused A w ts g rows (Ok x) h = tt
-refused A w ts g rows (Err e) h = (h.0, inl h.1)
+pub memory_refused : (w : Wanted) (ts : Tables) (g : Glance) (rows : RowsEvent) (e : FileError) → e.position ≡ g.origin.position → e.error ≡ error.Memory → RowsFail w ts g rows e
+memory_refused w ts g rows e at is = (at, inl is)
+
+pub opened_in_force : (w : Wanted) (ts : Tables) (from : Origin) (rows : RowsEvent) (t : TableMap) → Opens w ts from rows (unread from rows t) → ts rows.table_id ≡ Some t
+opened_in_force w ts from rows t h = h.in_force
 
 pub no_table : (w : Wanted) (ts : Tables) (g : Glance) (id : ℕ) (rows : RowsEvent) (e : FileError) → is_dummy rows ≡ false → id ≡ rows.table_id → ts id ≡ None → e.position ≡ g.origin.position → e.error ≡ error.UnknownTable id → RowsFail w ts g rows e
 no_table w ts g id rows e real same none at is = (at, inr (real, ap ts (sym same) ∙ none, is ∙ ap error.UnknownTable same))

@@ -14,6 +14,7 @@ pub mod EventErrors
 pub mod EventRead
 pub mod Sized
 pub mod SourceFollowed
+pub mod KeptOn
 pub mod SourceLent
 pub mod SourceAsked
 pub mod Headers

@@ -125,11 +125,13 @@ error_taken_from w old new r s e on gives = λ x finds.
 no_end : (b : Bool) (P : Type 0) → b ≡ false → b ≡ true → P
 no_end b P isnt is = absurd (let bad : true ≡ false = sym is ∙ isnt in cc)
 
-as_reading : (old new : Option (List ℕ)) (r s : Reading) (g : Option Glance) (e : Option Event) → r.is_over ≡ false → EventGives old r.kept (Ok e) new s.kept → IsTrue s.is_over ↔ IsErr {E = FileError} (Ok g) → ReaderGives old r (Ok e) new s
-as_reading old new r s g e on h ended = record {
+as_reading : (old new : Option (List ℕ)) (r s : Reading) (g : Option Glance) (e : Option Event) → r.is_over ≡ false → EventGives old r.kept (Ok e) new s.kept → IsTrue s.is_over ↔ IsErr {E = FileError} (Ok g) → s.is_lost ≡ r.is_lost → ReaderGives old r (Ok e) new s
+as_reading old new r s g e on h ended lost = record {
   reads = λ _. h;
   over = λ o. no_end r.is_over _ on o;
   ended = (λ t. inr (ended.0 t), λ x. elim x [ inl o ↦ no_end r.is_over _ on o | inr bad ↦ ended.1 bad ]);
+  lost = lost;
+  stays = tt;
 }
 
 pub glance_taken_from : (w : Wanted) (old new : Option (List ℕ)) (r s t : Reading) (g : Glance) (c : Option Change) (pending : Option FileError) → MayGoOn r → ReaderGlances old r (Ok (Some g)) new s
@@ -137,12 +139,12 @@ pub glance_taken_from : (w : Wanted) (old new : Option (List ℕ)) (r s t : Read
     → t.kept ≡ s.kept → (pending ≡ None → t.is_over ≡ s.is_over) → SourceTakes w old r None c new t pending
 glance_taken_from w old new r s t g c pending on gives takes kept over =
     let h = gives.glances in
-    event_taken_from w old new r s t h.0 c pending on (as_reading old new r s (Some g) (Some h.0) on.0 h.2 gives.ended) (λ p q place state next. takes h.0 p q place state h.1 next) kept over
+    event_taken_from w old new r s t h.0 c pending on (as_reading old new r s (Some g) (Some h.0) on.0 h.2 gives.ended gives.lost) (λ p q place state next. takes h.0 p q place state h.1 next) kept over
 
 pub fewer_turns_after : (old new : Option (List ℕ)) (r s t : Reading) (g : Glance) → MayGoOn r → ReaderGlances old r (Ok (Some g)) new s → t.kept ≡ s.kept → turns t < turns r
 fewer_turns_after old new r s t g on gives kept =
     let h = gives.glances in
-    fewer_turns old new r s t h.0 on (as_reading old new r s (Some g) (Some h.0) on.0 h.2 gives.ended) kept
+    fewer_turns old new r s t h.0 on (as_reading old new r s (Some g) (Some h.0) on.0 h.2 gives.ended gives.lost) kept
 
 pub glance_refused_from : (w : Wanted) (old new : Option (List ℕ)) (r s : Reading) (e : FileError) → MayGoOn r → ReaderGlances old r (Err e) new s → SourceTakes w old r None None new s (Some e)
 glance_refused_from w old new r s e on gives =
@@ -150,4 +152,6 @@ glance_refused_from w old new r s e on gives =
       reads = λ _. gives.glances;
       over = λ o. no_end r.is_over _ on.0 o;
       ended = (λ t. inr (gives.ended.0 t), λ x. elim x [ inl o ↦ no_end r.is_over _ on.0 o | inr bad ↦ gives.ended.1 bad ]);
+      lost = gives.lost;
+      stays = gives.stays;
     })

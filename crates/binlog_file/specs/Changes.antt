@@ -19,10 +19,11 @@ use Rattle.binlog_file.specs.Tables.{Tables, InForce, nothing_in_force, in_force
 abbrev pub Wanted : Type 0
 Wanted = ℕ → TableMap → EventType → Bool
 
--- a rows event, and its pairs of rows
+-- a rows event, the table map event that it is read with, and its pairs of rows
 pub record Change : Type 0 where
   pub origin : Origin
   pub rows : RowsEvent
+  pub table : TableMap
   pub pairs : List Pair
 
 -- the table ids of MySQL's rows events that only end a statement: six bytes FF, or three
@@ -41,10 +42,9 @@ is_dummy rows = (is_id_of_dummy rows.table_id && nat_eq (rows.flags % 2) 1) && n
 pub record IsChange (wanted : Wanted) (ts : Tables) (from : Origin) (rows : RowsEvent) (c : Change) (end : Option Fault) : Type 0 where
   pub is_from : c.origin ≡ from
   pub is_of : c.rows ≡ rows
-  pub table : TableMap
-  pub in_force : ts rows.table_id ≡ Some table
-  pub is_wanted : wanted from.position table rows.event_type ≡ true
-  pub covers : Covers (pair table rows) rows.rows_data c.pairs end
+  pub in_force : ts rows.table_id ≡ Some c.table
+  pub is_wanted : wanted from.position c.table rows.event_type ≡ true
+  pub covers : Covers (pair c.table rows) rows.rows_data c.pairs end
 
 -- the rows event isn't wanted
 pub record IsUnwanted (wanted : Wanted) (ts : Tables) (from : Origin) (rows : RowsEvent) : Type 0 where
@@ -193,11 +193,10 @@ pub record ChangeSteps (wanted : Wanted) (old : Spot) (r : Option (Result Change
 -- a rows event from there and its pairs by this table, and the error that ends them
 abbrev pub IsCovered : TableMap → Origin → RowsEvent → Option Change → Option EventError → Type 0
 IsCovered t from rows None err = ⊥
-IsCovered t from rows (Some c) None = (c.origin ≡ from) × (c.rows ≡ rows) × Covers (pair t rows) rows.rows_data c.pairs None
-IsCovered t from rows (Some c) (Some err) = (f : Fault) × (c.origin ≡ from) × (c.rows ≡ rows) × Covers (pair t rows) rows.rows_data c.pairs (Some f) × (err ≡ error.RowsData (length c.pairs) f)
+IsCovered t from rows (Some c) None = (c.origin ≡ from) × (c.rows ≡ rows) × (c.table ≡ t) × Covers (pair t rows) rows.rows_data c.pairs None
+IsCovered t from rows (Some c) (Some err) = (f : Fault) × (c.origin ≡ from) × (c.rows ≡ rows) × (c.table ≡ t) × Covers (pair t rows) rows.rows_data c.pairs (Some f) × (err ≡ error.RowsData (length c.pairs) f)
 
--- the same if the rows event is wanted, else nothing
-abbrev pub IsChosen : Bool → TableMap → Origin → RowsEvent → Option Change → Option EventError → Type 0
-IsChosen is_wanted t from rows None None = is_wanted ≡ false
-IsChosen is_wanted t from rows None (Some err) = ⊥
-IsChosen is_wanted t from rows (Some c) err = (is_wanted ≡ true) × IsCovered t from rows (Some c) err
+-- a rows event that begins there is read with this table map event if it is wanted, else with none
+abbrev pub IsChosen : Wanted → TableMap → ℕ → RowsEvent → Option TableMap → Type 0
+IsChosen wanted t at rows None = wanted at t rows.event_type ≡ false
+IsChosen wanted t at rows (Some u) = (wanted at t rows.event_type ≡ true) × (u ≡ t)

@@ -14,9 +14,9 @@ use Rattle.binlog_file.specs.Stream.{Kept, Reading, first_kept, kept_after}
 abbrev pub checkpoint_of : Kept → List ℕ
 checkpoint_of k = magic ++ k.stored.description ++ k.stored.gtid ++ (if k.in_force.ended then [] else k.stored.tables)
 
--- a reader has a checkpoint unless it is at its end
+-- a reader has a checkpoint unless it was lost
 abbrev pub checkpoint : Reading → Option (List ℕ)
-checkpoint r = if r.is_over then None else Some (checkpoint_of r.kept)
+checkpoint r = if r.is_lost then None else Some (checkpoint_of r.kept)
 
 -- what a reader keeps after events that were read from the start
 pub data Reached : Kept → Type 0 where

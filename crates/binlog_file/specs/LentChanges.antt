@@ -54,7 +54,7 @@ PairGives old p (Some (Err e)) new =
 
 -- the change of an event whose rows data is these pairs
 abbrev pub change_with : LentChange → List Pair → Change
-change_with c ps = record { origin = c.origin; rows = c.rows; pairs = ps }
+change_with c ps = record { origin = c.origin; rows = c.rows; table = c.table; pairs = ps }
 
 -- the error of the pair that comes after these, if it has a fault
 abbrev pub error_after : List Pair → Option Fault → Option EventError

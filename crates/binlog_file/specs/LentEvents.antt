@@ -30,10 +30,6 @@ Shows wanted ts g (lent.Other o) = Gives wanted ts g.origin g.rows g.body nothin
 abbrev pub GivesError : Wanted → Tables → Glance → FileError → Type 0
 GivesError wanted ts g e = (e.position ≡ g.origin.position) × (IsMemory e.error ⊎ Gives wanted ts g.origin g.rows g.body (failure e.error))
 
--- memory was refused at such an event
-abbrev pub IsRefused : Glance → FileError → Type 0
-IsRefused g e = (e.position ≡ g.origin.position) × IsMemory e.error
-
 -- the error of a rows event that was read, or that memory was refused
 abbrev pub RowsFail : Wanted → Tables → Glance → RowsEvent → FileError → Type 0
 RowsFail wanted ts g rows e = (e.position ≡ g.origin.position) × (IsMemory e.error ⊎ RowsGive wanted ts g.origin rows None (Some e.error))
@@ -95,11 +91,6 @@ GoesOnUnless Ends (Some (Ok _)) old new = new ≡ old
 GoesOnUnless Ends (Some (Err _)) old new = Ends
 
 -- ---- what the functions give
-
--- a rows event is read with this table map event if it is wanted, else with none
-abbrev pub IsChosen : Wanted → TableMap → Glance → RowsEvent → Option TableMap → Type 0
-IsChosen wanted t g rows (Some u) = (wanted g.origin.position t rows.event_type ≡ true) × (u ≡ t)
-IsChosen wanted t g rows None = wanted g.origin.position t rows.event_type ≡ false
 
 -- a rows event that is wanted is read with the table map event that is in force for it, and one that gives
 -- no change with none

@@ -17,5 +17,6 @@ pub mod LentEvents
 pub mod CollectedChanges
 pub mod Stream
 pub mod SourceChanges
+pub mod ItemsLeft
 pub mod Checkpoints
 pub mod Workings

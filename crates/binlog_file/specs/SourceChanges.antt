@@ -1,8 +1,10 @@
 -- Reading the changes of a file from a source, one at a time.
-use Rattle.std.specs.Prelude.{◌≡◌, ℕ, IfSome, ◌+◌, ◌-◌, ◌*◌, ◌^◌, ◌<◌, Bool, true, false, if◌then◌else◌, List, [], length, Result, Option, Some, None}
+use Rattle.std.specs.Prelude.{◌≡◌, ℕ, IfSome, ◌+◌, ◌-◌, ◌*◌, ◌^◌, ◌<◌, Bool, true, false, if◌then◌else◌, List, [], length, Result, Ok, Err, Option, Some, None}
 use Rattle.binlog_events.specs.declared.error.FileError.{FileError}
-use Rattle.binlog_file.specs.Events.{Place}
-use Rattle.binlog_file.specs.Stream.{Kept, Reading, IsOutside, IsNotReader, count_after, CountsItem}
+use Rattle.binlog_file.specs.Events.{Event, event, Place}
+use Rattle.std.specs.Io.KnownBytes.{Consumes}
+use Rattle.binlog_base.specs.Sources.{IsLeft}
+use Rattle.binlog_file.specs.Stream.{Kept, Reading, IsOutside, HasBytes, lost_after, kept_after, count_after, CountsItem}
 use Rattle.binlog_file.specs.declared.lent_changes.LentEvent.{LentEvent}
 use Rattle.binlog_file.specs.LentEvents.{NextEvent, PassesOver, NextAsked}
 use Rattle.binlog_file.specs.Changes.{Wanted, Change, Spot, spot, TakeGives, ChangeGives, count, LessensTo}
@@ -45,9 +47,10 @@ pub record SourceSteps (wanted : Wanted) (old : Option (List ℕ)) (r : Reading)
 
 -- ---- counting the failures of the source
 
--- no failure of the source waits to be told: an error that is pending is another
+-- no failure of the source waits to be told: an error that is pending is that of an event whose bytes were
+-- there
 abbrev pub AreTold : Option FileError → Type 0
-AreTold pending = IfSome pending (λ e. IsNotReader e.error)
+AreTold pending = IfSome pending (λ e. HasBytes e.error)
 
 -- An item that is Reader adds one to the source's count of failures, and any other item, or none, leaves
 -- the count as it is. So each failure is told by the call that it comes in.
@@ -58,6 +61,29 @@ CountsNext p item q old new = AreTold p → CountsItem item old new × AreTold q
 abbrev pub CountsPending : Option FileError → ℕ → ℕ → Type 0
 CountsPending None old new = new ≡ old
 CountsPending (Some e) old new = new ≡ count_after e.error old
+
+-- ---- what a reading keeps, and its checkpoint
+
+-- Events that were left at the old source were read, one after the other, and the rest is left at the new one.
+-- What was kept before them and what is kept after them.
+pub data ReadsOn (old : Option (List ℕ)) (k : Kept) : Option (List ℕ) → Kept → Type 0 where
+  here : ReadsOn old k old k
+  past : (mid new : Option (List ℕ)) (l : Kept) (y : List ℕ) (e : Event) → ReadsOn old k mid l → (event l.at l.description).spells y e → Consumes mid new y → ReadsOn old k new (kept_after l y e)
+
+-- A reading keeps what its reader keeps after the events that were read: with an item those up to its own;
+-- without one all that were left, unless it was at its end before, or is at the greatest position; and with an
+-- error that doesn't lose it those before the error.
+abbrev pub KeepsOn : {X : Type 0} → Option (List ℕ) → Reading → Option (Result X FileError) → Option (List ℕ) → Reading → Type 0
+KeepsOn old r (Some (Ok _)) new s = ReadsOn old r.kept new s.kept
+KeepsOn old r (Some (Err _)) new s = s.is_lost ≡ false → (mid : Option (List ℕ)) × ReadsOn old r.kept mid s.kept
+KeepsOn old r None new s = (mid : Option (List ℕ)) × ReadsOn old r.kept mid s.kept × (r.is_over ≡ false → s.kept.at < 2 ^ 64 - 1 → IsLeft mid [])
+
+-- whether the reading is lost: by an error that it gives, if bytes aren't lacking, and by one that is pending
+abbrev pub lost_by : {X : Type 0} → Option FileError → Bool → Option (Result X FileError) → Option FileError → Bool
+lost_by (Some _) lost item q = lost
+lost_by None lost (Some item) None = lost_after lost item
+lost_by None lost None None = lost
+lost_by None lost item (Some _) = true
 
 -- ---- events whose pairs of rows are lent
 

@@ -1,6 +1,6 @@
 -- Reading events from a source. The bytes of a source are Some of those that are left in it, or None
 -- where they aren't known.
-use Rattle.std.specs.Prelude.{◌≡◌, ◌≢◌, ◌↔◌, ℕ, ◌+◌, ◌-◌, ◌^◌, ◌<◌, ◌≤◌, min, Bool, true, false, IsTrue, List, [], length, Result, Ok, Err, IsErr, Option, Some, None, ◌⊎◌}
+use Rattle.std.specs.Prelude.{◌≡◌, ◌≢◌, ◌↔◌, ℕ, ◌+◌, ◌-◌, ◌^◌, ◌<◌, ◌≤◌, min, Bool, true, false, not, ◌||◌, IsTrue, List, [], length, Result, Ok, Err, IsErr, IfErr, Option, Some, None, ◌⊎◌}
 use Rattle.std.specs.Io.KnownBytes.{Consumes, IsAtEnd}
 use Rattle.binlog_base.specs.Sources.{IsLeft}
 use Rattle.binlog_base.specs.Failures.{one_more_failure}
@@ -24,9 +24,15 @@ IsOutside e = (e ≡ error.Reader) ⊎ (e ≡ error.Memory)
 
 -- ---- counting the failures of a source
 
--- the error isn't that of a source that failed
-abbrev pub IsNotReader : EventError → Type 0
-IsNotReader e = e ≢ error.Reader
+-- bytes are lacking: the source ended within an event, or failed
+abbrev pub lacks_bytes : EventError → Bool
+lacks_bytes (error.Cut n) = true
+lacks_bytes error.Reader = true
+lacks_bytes _ = false
+
+-- the bytes were there
+abbrev pub HasBytes : EventError → Type 0
+HasBytes e = lacks_bytes e ≡ false
 
 -- the count of failures after an error: only Reader adds one
 abbrev pub count_after : EventError → ℕ → ℕ
@@ -99,27 +105,39 @@ EventGives old k (Err e) new l = (e.position ≡ k.at) × ReadGives old k (Err e
 abbrev pub NoHeader : Option (List ℕ) → FileError → Type 0
 NoHeader old e = ((e.position ≡ 0) × IsOutside e.error) ⊎ ((x : List ℕ) × (is_binlog x ≡ false) × (e ≡ no_binlog x) × IsLeft old x)
 
--- what a reader keeps, and whether it is at its end
+-- what a reader keeps, whether it is at its end, and whether it was lost there: an event couldn't be read
+-- whose bytes were there
 pub record Reading : Type 0 where
   pub kept : Kept
   pub is_over : Bool
+  pub is_lost : Bool
+
+-- an error but one of bytes that are lacking loses the reading
+abbrev pub lost_after : {A : Type 0} → Bool → Result A FileError → Bool
+lost_after lost (Ok _) = lost
+lost_after lost (Err e) = lost || not (lacks_bytes e.error)
 
 -- the same, and the error with the position where the bytes begin
 abbrev pub GlanceAt : Option (List ℕ) → Kept → Result (Option Glance) FileError → Option (List ℕ) → Kept → Type 0
 GlanceAt old k (Ok g) new l = GlanceGives old k (Ok g) new l
 GlanceAt old k (Err e) new l = EventGives old k (Err e) new l
 
--- A glance at the next event of a reader that isn't at its end, or the error, after which it is.
+-- A glance at the next event of a reader that isn't at its end, or the error, after which it is. Where bytes
+-- are lacking, what is kept stays.
 pub record ReaderGlances (old : Option (List ℕ)) (r : Reading) (result : Result (Option Glance) FileError) (new : Option (List ℕ)) (s : Reading) : Type 0 where
   pub glances : GlanceAt old r.kept result new s.kept
   pub ended : IsTrue s.is_over ↔ IsErr result
+  pub lost : s.is_lost ≡ lost_after r.is_lost result
+  pub stays : IfErr result (λ e. lacks_bytes e.error ≡ true → s.kept ≡ r.kept)
 
 -- The next event, or the error, after which the reader is at its end. At its end it gives nothing, and
--- leaves all as it is.
+-- leaves all as it is. Where bytes are lacking, what is kept stays.
 pub record ReaderGives (old : Option (List ℕ)) (r : Reading) (result : Result (Option Event) FileError) (new : Option (List ℕ)) (s : Reading) : Type 0 where
   pub reads : r.is_over ≡ false → EventGives old r.kept result new s.kept
   pub over : r.is_over ≡ true → (result ≡ Ok None) × (s ≡ r) × (new ≡ old)
   pub ended : IsTrue s.is_over ↔ ((r.is_over ≡ true) ⊎ IsErr result)
+  pub lost : s.is_lost ≡ lost_after r.is_lost result
+  pub stays : IfErr result (λ e. lacks_bytes e.error ≡ true → s.kept ≡ r.kept)
 
 -- the type of the event that was read last: that of the one that was read now, if one was
 abbrev pub last_type_after : {E A : Type 0} → (A → ℕ) → Option ℕ → Result (Option A) E → Option ℕ

@@ -4,6 +4,7 @@ pub use Rattle.binlog_events.specs.Workings.Stored
 pub mod Glances
 pub mod AskedGlances
 pub mod Taken
+pub mod KeptSteps
 pub mod Walks
 pub mod SourceWalks
 pub mod Readers

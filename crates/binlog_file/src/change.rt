@@ -1,10 +1,12 @@
 //! The changes of rows events.
 
 ghost use Rattle.std.specs.Prelude.{◌≡◌, Some, None, Ok, Err, IfOk, IfErr};
+ghost use Rattle.std.specs.Option.{option_map};
 ghost use Rattle.std.specs.Arc.{arc_value};
 ghost use Rattle.binlog_base.specs.declared.fault.Fault.TheVariants as Fault;
 ghost use Rattle.binlog_events.specs.declared.error.EventError.TheVariants as EventError;
-ghost use Rattle.binlog_file.specs.TableMaps.{in_maps};
+ghost use Rattle.binlog_file.specs.TableMaps.{in_maps, held_by, most_kept, opened_in};
+ghost use Rattle.binlog_kept.specs.Opened.{IsOpened};
 ghost use Rattle.binlog_file.specs.Changes as Spec;
 
 use crate::choice::Choice;
@@ -13,28 +15,36 @@ use crate::origin::Origin;
 use binlog_base::below::{MyDeserialize, ParseBuf};
 use binlog_base::fault::Fault;
 use binlog_events::event::Glance;
+use binlog_kept::opened::rows_in_force;
 use binlog_kept::plans::KeptPlans;
 use binlog_kept::tables::TableMaps;
 use binlog_table::table_map::TableMapEvent;
-use mysql_binlog_rows::rows_event::{RowPair, RowsEvent, RowsEventCtx};
+use mysql_binlog_rows::rows_event::{RowPair, RowsEvent, RowsEventCtx, pairs_given};
 use std::alloc::{AllocError, Global};
 use std::marker::Model;
 use std::sync::Arc;
 
-/// A rows event, and its pairs of rows.
-#[derive(Drop)]
+/// A rows event, its table, and its pairs of rows.
+#[derive(Debug, Drop)]
 pub struct Change<'a> {
     origin: Origin,
     rows: RowsEvent<'a>,
+    table: Arc<TableMapEvent<'static>>,
     pairs: Vec<RowPair>,
 }
 
 impl<'a> Model for Change<'a> {
+    ghost use Rattle.std.specs.Arc.{arc_value};
     ghost use Rattle.binlog_file.specs.Changes as Spec;
 
     ghost Value = { Spec.Change };
 
-    ghost view = { λ c. record { origin = c.origin; rows = c.rows; pairs = c.pairs.items } };
+    ghost view = { λ c. record {
+      origin = c.origin;
+      rows = c.rows;
+      table = arc_value c.table;
+      pairs = c.pairs.items;
+    } };
 }
 
 impl<'a> Change<'a> {
@@ -59,6 +69,13 @@ impl<'a> Change<'a> {
         &self.rows
     }
 
+    /// Returns the table map event that is in force for the event.
+    pub fn table(&self) -> &TableMapEvent<'static>
+        ensures { result.now ≡ self.now.table }
+    {
+        &self.table
+    }
+
     /// Returns the pairs of rows. If an error follows the change, they are those before the pair
     /// that can't be read.
     pub fn pairs(&self) -> &[RowPair]
@@ -74,6 +91,7 @@ impl<'a> Change<'a> {
         Ok(Change {
             origin: self.origin,
             rows: self.rows.into_owned(alloc)?,
+            table: self.table,
             pairs: self.pairs,
         })
     }
@@ -93,7 +111,7 @@ fn maybe_owned(
 }
 
 /// What an event gives: a change, an error, both or nothing.
-#[derive(Drop)]
+#[derive(Debug, Drop)]
 pub(crate) struct Given<'a> {
     change: Option<Change<'a>>,
     error: Option<EventError>,
@@ -166,15 +184,23 @@ pub(crate) fn is_dummy(rows: &RowsEvent<'_>) -> bool
 fn with_table<'a>(
     alloc: Global,
     plans: &mut KeptPlans,
-    table: &Arc<TableMapEvent<'static>>,
+    tables: &mut TableMaps,
+    table: Arc<TableMapEvent<'static>>,
     origin: Origin,
     rows: RowsEvent<'a>,
 ) -> Result<Given<'a>, Fault>
-    ensures given { IfOk result (λ g. Spec.IsCovered (arc_value table.now) origin rows.entry g.change g.error) }
+    requires in_force { in_maps tables.old rows.table_id ≡ Some (arc_value table) }
+    requires opened { IsOpened plans.old.opened (opened_in tables.old) }
+    ensures given { IfOk result
+        (λ g. Spec.IsCovered (arc_value table.entry) origin rows.entry g.change g.error) }
     ensures err { IfErr result (λ e. e ≡ Fault.Memory) }
     ensures most { plans.new.stored.most ≡ plans.old.stored.most }
+    ensures opened { IsOpened plans.new.opened (opened_in tables.new) }
+    ensures held { held_by tables.new ≡ held_by tables.old }
+    ensures most_tables { most_kept tables.new ≡ most_kept tables.old }
 {
-    let decoded = plans.pairs(alloc, table, &rows)?;
+    let rows_left = rows_in_force(alloc, tables, plans, &table, &rows, rows.rows_data())?;
+    let decoded = pairs_given(alloc, rows_left)?;
     let pairs = decoded.pairs;
     let error = match decoded.fault {
         None => None,
@@ -184,46 +210,48 @@ fn with_table<'a>(
         change: Some(Change {
             origin,
             rows,
+            table,
             pairs,
         }),
         error,
     })
 }
 
-// Returns the change of a rows event if it is wanted.
-fn if_wanted<'a>(
-    alloc: Global,
-    is_wanted: bool,
-    plans: &mut KeptPlans,
+/// Returns the table map event of a rows event at this position if the event is wanted. Fails if memory
+/// is refused.
+pub(crate) fn if_wanted<C: Choice>(
+    choice: &C,
     table: &Arc<TableMapEvent<'static>>,
-    origin: Origin,
-    rows: RowsEvent<'a>,
-) -> Result<Given<'a>, Fault>
-    ensures given { IfOk result
-        (λ g. Spec.IsChosen is_wanted (arc_value table.now) origin rows.entry g.change g.error) }
-    ensures err { IfErr result (λ e. e ≡ Fault.Memory) }
-    ensures most { plans.new.stored.most ≡ plans.old.stored.most }
+    position: u64,
+    rows: &RowsEvent<'_>,
+) -> Result<Option<Arc<TableMapEvent<'static>>>, AllocError>
+    ensures { IfOk result (λ o. Spec.IsChosen (C.wanted choice.now) (arc_value table.now) position rows.now
+        (option_map arc_value o)) }
 {
-    if is_wanted {
-        with_table(alloc, plans, table, origin, rows)
-    } else {
-        Ok(nothing())
+    if !choice.wants(position, table, rows.event_type()) {
+        return Ok(None);
     }
+    Ok(Some(table.clone()?))
 }
 
 // Returns what a rows event gives that was read.
+#[tactic(auto, using(crate::proofs::Changed::unwanted, crate::proofs::Changed::covered_if))]
 fn change_of<'a, C: Choice>(
     alloc: Global,
     choice: &C,
     plans: &mut KeptPlans,
-    tables: &TableMaps,
+    tables: &mut TableMaps,
     origin: Origin,
     rows: RowsEvent<'a>,
 ) -> Result<Given<'a>, Fault>
-    ensures given { IfOk result (λ g. Spec.RowsGive (C.wanted choice.now) (in_maps tables.now) origin
+    requires { IsOpened plans.old.opened (opened_in tables.old) }
+    ensures given { IfOk result (λ g. Spec.RowsGive (C.wanted choice.now) (in_maps tables.old) origin
         rows.entry g.change g.error) }
     ensures err { IfErr result (λ e. e ≡ Fault.Memory) }
     ensures most { plans.new.stored.most ≡ plans.old.stored.most }
+    ensures opened { IsOpened plans.new.opened (opened_in tables.new) }
+    ensures held { held_by tables.new ≡ held_by tables.old }
+    ensures most_tables { most_kept tables.new ≡ most_kept tables.old }
 {
     if is_dummy(&rows) {
         return Ok(nothing());
@@ -231,10 +259,10 @@ fn change_of<'a, C: Choice>(
     let table_id = rows.table_id();
     match tables.shared_tme(table_id) {
         None => Ok(failure(EventError::UnknownTable(table_id))),
-        Some(table) => {
-            let is_wanted = choice.wants(origin.position, table, rows.event_type());
-            if_wanted(alloc, is_wanted, plans, table, origin, rows)
-        }
+        Some(table) => match if_wanted(choice, table, origin.position, &rows)? {
+            None => Ok(nothing()),
+            Some(table) => with_table(alloc, plans, tables, table, origin, rows),
+        },
     }
 }
 
@@ -243,15 +271,19 @@ fn body_gives<'a, C: Choice>(
     alloc: Global,
     choice: &C,
     plans: &mut KeptPlans,
-    tables: &TableMaps,
+    tables: &mut TableMaps,
     origin: Origin,
     ctx: RowsEventCtx,
     body: &'a [u8],
 ) -> Result<Given<'a>, Fault>
-    ensures given { IfOk result (λ g. Spec.BodyGives (C.wanted choice.now) (in_maps tables.now) origin
+    requires { IsOpened plans.old.opened (opened_in tables.old) }
+    ensures given { IfOk result (λ g. Spec.BodyGives (C.wanted choice.now) (in_maps tables.old) origin
         ctx body.now g) }
     ensures err { IfErr result (λ e. e ≡ Fault.Memory) }
     ensures most { plans.new.stored.most ≡ plans.old.stored.most }
+    ensures opened { IsOpened plans.new.opened (opened_in tables.new) }
+    ensures held { held_by tables.new ≡ held_by tables.old }
+    ensures most_tables { most_kept tables.new ≡ most_kept tables.old }
 {
     match RowsEvent::deserialize(ctx, &mut ParseBuf(body)) {
         Err(fault) => Ok(failure(EventError::RowsEvent(fault))),
@@ -264,13 +296,17 @@ pub(crate) fn glance_gives<'a, C: Choice>(
     alloc: Global,
     choice: &C,
     plans: &mut KeptPlans,
-    tables: &TableMaps,
+    tables: &mut TableMaps,
     glance: Glance<'a>,
 ) -> Result<Given<'a>, Fault>
-    ensures given { IfOk result (λ g. Spec.Gives (C.wanted choice.now) (in_maps tables.now)
+    requires { IsOpened plans.old.opened (opened_in tables.old) }
+    ensures given { IfOk result (λ g. Spec.Gives (C.wanted choice.now) (in_maps tables.old)
         glance.entry.origin glance.entry.rows glance.entry.body g) }
     ensures err { IfErr result (λ e. e ≡ Fault.Memory) }
     ensures most { plans.new.stored.most ≡ plans.old.stored.most }
+    ensures opened { IsOpened plans.new.opened (opened_in tables.new) }
+    ensures held { held_by tables.new ≡ held_by tables.old }
+    ensures most_tables { most_kept tables.new ≡ most_kept tables.old }
 {
     match glance.rows {
         None => Ok(nothing()),

@@ -20,6 +20,7 @@ use crate::choice::Choice;
 use crate::error::{EventError, FileError};
 use crate::events::Events;
 use crate::lent_changes::{LentChange, LentEvent, show};
+use crate::walk::Walk;
 use binlog_events::event::Glance;
 use binlog_kept::plans::{KeptPlans, MOST_BYTES};
 use binlog_kept::tables::TableMaps;
@@ -27,22 +28,15 @@ use binlog_table::table_map::TableMapEvent;
 use mysql_binlog_rows::rows_event::LentPair;
 use std::alloc::{AllocError, Global};
 
-/// Where a reading of changes is: the events that are left, the tables in force, the plans that are
-/// kept, and the error with which it ends, if it does.
-#[derive(Drop)]
-struct Walk<'a> {
-    events: Events<'a>,
-    tables: TableMaps,
-    plans: KeptPlans,
-    pending: Option<FileError>,
-}
-
 /// An iterator over the changes of a file that are wanted, up to and including its first error.
 ///
 /// Its changes own their rows. `next_event` and `next_pair` lend them, one pair at a time.
 #[derive(Drop)]
+#[derive_where(Debug)]
 pub struct FileChanges<'a, C: Choice + Drop> {
+    #[derive_where(skip(Debug))]
     alloc: Global,
+    #[derive_where(skip(Debug))]
     choice: C,
     walk: Walk<'a>,
 }
@@ -116,6 +110,14 @@ impl<'a, C: Choice + Drop> FileChanges<'a, C> {
                 pending: None,
             },
         })
+    }
+
+    /// Returns where the next event begins in the file: that after the change or event that was given
+    /// last.
+    pub fn position(&self) -> u64
+        ensures { result ≡ (spot_of self.now.walk).place.at }
+    {
+        self.walk.events.position()
     }
 
     /// Returns the table map event that is in force for a table id after the change or event that was
@@ -222,7 +224,7 @@ fn take_glance<'a, C: Choice>(
         return None;
     }
     let position = glance.position;
-    match glance_gives(alloc, choice, &mut walk.plans, &walk.tables, glance) {
+    match glance_gives(alloc, choice, &mut walk.plans, &mut walk.tables, glance) {
         Ok(given) => {
             let (change, error) = given.into_parts();
             walk.pending = at_position(position, error);
@@ -304,7 +306,7 @@ fn show_item<'a, C: Choice>(
             return Err(error);
         }
     };
-    let shown = show(alloc, choice, &mut walk.plans, &walk.tables, glance);
+    let shown = show(alloc, choice, &mut walk.plans, &mut walk.tables, glance);
     if shown.is_err() {
         walk.stop();
     }
@@ -403,7 +405,7 @@ impl<'a, C: Choice + Drop> Iterator for FileChanges<'a, C> {
 }
 
 /// The changes of a file, and the error that follows them, if one does.
-#[derive(Drop)]
+#[derive(Debug, Drop)]
 pub struct ChangeList<'a> {
     pub changes: Vec<Change<'a>>,
     pub error: Option<FileError>,

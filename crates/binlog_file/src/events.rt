@@ -5,7 +5,7 @@ ghost use Rattle.binlog_base.specs.Format.{SpellsPrefix};
 ghost use Rattle.binlog_file.specs.Events as Spec;
 ghost use Rattle.binlog_file.specs.Changes.{IsMemory};
 ghost use Rattle.binlog_file.specs.Workings.Glances.{SeesAt, GlanceSteps};
-ghost use Rattle.binlog_file.specs.TableMaps.{held_by, most_kept};
+ghost use Rattle.binlog_file.specs.TableMaps.{held_by, most_kept, opened_in};
 
 use crate::error::{EventError, FileError};
 use crate::file::{MAGIC, no_binlog};
@@ -19,7 +19,9 @@ use std::marker::Model;
 
 /// An iterator over the events of a file, up to and including its first error.
 #[derive(Drop)]
+#[derive_where(Debug)]
 pub struct Events<'a> {
+    #[derive_where(skip(Debug))]
     left: &'a [u8],
     position: u64,
     in_force: Option<FormatDescriptionEvent<'a>>,
@@ -104,6 +106,7 @@ fn see_at<'a>(
         r.left.now (held_by tables.new)) }
     ensures err { IfErr result (λ e. IsMemory e ⊎ (Spec.event position in_force.now).refuses bytes.now e) }
     ensures most { most_kept tables.new ≡ most_kept tables.old }
+    ensures opened { opened_in tables.new ≡ opened_in tables.old }
 {
     let mut buf = ParseBuf(bytes);
     let raw = read_raw(&mut buf)?;
@@ -114,6 +117,13 @@ fn see_at<'a>(
 impl<'a> Events<'a> {
     ghost use Rattle.std.specs.Prelude.{◌≡◌, true, false, None, drop};
 
+    // Returns where the next event begins in the file.
+    pub(crate) fn position(&self) -> u64
+        ensures { result ≡ self.now.at }
+    {
+        self.position
+    }
+
     // Takes the next event, and what it says of tables. Returns a glance at it.
     pub(crate) fn glance(
         &mut self,
@@ -122,6 +132,7 @@ impl<'a> Events<'a> {
     ) -> Option<Result<Glance<'a>, FileError>>
         ensures steps { GlanceSteps self.old (held_by tables.old) result self.new (held_by tables.new) }
         ensures most { most_kept tables.new ≡ most_kept tables.old }
+        ensures opened { opened_in tables.new ≡ opened_in tables.old }
     {
         if self.left.is_empty() {
             return None;
@@ -175,7 +186,7 @@ impl<'a> Events<'a> {
 }
 
 /// The events of a file, and the error that follows them, if one does.
-#[derive(Drop)]
+#[derive(Debug, Drop)]
 pub struct EventList<'a> {
     pub events: Vec<Event<'a>>,
     pub error: Option<FileError>,

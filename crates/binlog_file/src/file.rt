@@ -74,7 +74,9 @@ impl BinlogFileHeader {
 
 /// A binlog file over a source of bytes: a reader of its events, which holds the source.
 #[derive(Drop)]
+#[derive_where(Debug)]
 pub struct BinlogFile<S> {
+    #[derive_where(skip(Debug))]
     pub(crate) source: S,
     pub(crate) reader: EventStreamReader,
 }
@@ -87,6 +89,7 @@ impl<S: Source + Drop> BinlogFile<S> {
         ensures counts { IfOk result (λ f. S.failures f.source ≡ S.failures source) }
         ensures kept { IfOk result (λ f. kept_by f.reader.kept ≡ Spec.first_kept) }
         ensures goes_on { IfOk result (λ f. f.reader.is_over ≡ false) }
+        ensures lost { IfOk result (λ f. f.reader.is_lost ≡ false) }
         ensures most { IfOk result (λ f. most_kept f.reader.kept.tables ≡ 8 * 1024 * 1024) }
     {
         let mut source = source;
@@ -100,6 +103,7 @@ impl<S: Source + Drop> BinlogFile<S> {
         ensures source { result.source ≡ source }
         ensures kept { kept_by result.reader.kept ≡ Spec.first_kept }
         ensures goes_on { result.reader.is_over ≡ false }
+        ensures lost { result.reader.is_lost ≡ false }
         ensures most { most_kept result.reader.kept.tables ≡ 8 * 1024 * 1024 }
     {
         BinlogFile {
@@ -122,6 +126,7 @@ impl<S: Source + Drop> BinlogFile<S> {
         ensures kept { IfOk result (λ f. RestoresAt checkpoint.now position (kept_by f.reader.kept)) }
         ensures err { IfErr result (λ e. (e.position ≡ 0) × IsRefused checkpoint.now e.error) }
         ensures goes_on { IfOk result (λ f. f.reader.is_over ≡ false) }
+        ensures lost { IfOk result (λ f. f.reader.is_lost ≡ false) }
         ensures last { IfOk result (λ f. f.reader.last_type ≡ None) }
         ensures most { IfOk result (λ f. most_kept f.reader.kept.tables ≡ 8 * 1024 * 1024) }
     {

@@ -13,18 +13,22 @@ ghost use Rattle.binlog_file.specs.Changes.{AreChangesOfFile};
 ghost use Rattle.binlog_file.specs.LentChanges.{LentChange, PairGives, CoversOn};
 ghost use Rattle.binlog_file.specs.LentEvents.{NextEvent, NextAsked, ChangesOn};
 ghost use Rattle.binlog_file.specs.CollectedChanges.{CollectsAll};
+ghost use Rattle.binlog_file.specs.SourceChanges.{ReadsOn};
 ghost use Rattle.binlog_file.specs.Checkpoints.{Reached, LeadsTo, LeadsBack, GoesOnWith, checkpoint_of};
 
 /// The checkpoint of a reader leads back to where the reader is: after its events, the same
 /// description is in force, and from the next event on the same tables. And so, whatever follows is
 /// read in the same way after a checkpoint: the same events, with the same error, at other positions.
-/// `resume` takes each of them, at any position.
+/// `resume` takes each of them, at any position. What a reading of changes keeps after events that were
+/// read (`ReadsOn`) is what a reader keeps after them, so its checkpoints lead back too.
 pub fn checkpoints_lead_back()
     ensures leads { (k : Kept) → Reached k → LeadsTo (checkpoint_of k) k.description k.in_force }
     ensures goes_on { (c : List ℕ) (d : Option Description) (s : InForce) → LeadsTo c d s
         → (rest : List ℕ) (at : ℕ) (es : List Event) (end : Option FileError)
         → AreEvents at d rest es end → GoesOnWith c rest es end }
     ensures resumes { (k : Kept) → Reached k → (at : ℕ) → LeadsBack k at }
+    ensures reads { (old new : Option (List ℕ)) (k l : Kept)
+        → Reached k → ReadsOn old k new l → Reached l }
 {}
 
 /// The changes whose pairs are lent are the changes that own their pairs: the pairs that `next_pair`

@@ -7,12 +7,13 @@ ghost use Rattle.binlog_base.specs.declared.fault.Fault.TheVariants as Fault;
 ghost use Rattle.binlog_events.specs.declared.error.EventError.TheVariants as EventError;
 ghost use Rattle.binlog_file.specs.declared.lent_changes.LentEvent.TheVariants as lent;
 ghost use Rattle.mysql_binlog_rows.specs.Rows.{GivesPairsOf};
-ghost use Rattle.binlog_file.specs.TableMaps.{in_maps};
+ghost use Rattle.binlog_file.specs.TableMaps.{in_maps, held_by, most_kept, opened_in};
+ghost use Rattle.binlog_kept.specs.Opened.{IsOpened};
 ghost use Rattle.binlog_file.specs.Changes.{IsMemory, RowsGive, Gives, failure};
 ghost use Rattle.binlog_file.specs.LentChanges as Spec;
 ghost use Rattle.binlog_file.specs.LentEvents as events;
 
-use crate::change::is_dummy;
+use crate::change::{if_wanted, is_dummy};
 use crate::choice::Choice;
 use crate::error::{EventError, FileError};
 use crate::header::BinlogEventHeader;
@@ -20,6 +21,7 @@ use crate::origin::Origin;
 use binlog_base::below::ParseBuf;
 use binlog_base::fault::Fault;
 use binlog_events::event::Glance;
+use binlog_kept::opened::rows_in_force;
 use binlog_kept::plans::KeptPlans;
 use binlog_kept::tables::TableMaps;
 use binlog_table::table_map::TableMapEvent;
@@ -28,13 +30,15 @@ use std::alloc::Global;
 use std::marker::Model;
 use std::sync::Arc;
 
-/// A rows event that is wanted, with its table. Its pairs of rows are lent one at a time, by
-/// `next_pair` of the reading that gave it.
+/// A rows event that is wanted, with its table. Its pairs of rows are lent one at a time: by `next_pair`
+/// of the reading that gave it, which an error ends, or by its own, which ends the event alone.
 #[derive(Drop)]
+#[derive_where(Debug)]
 pub struct LentChange<'a> {
     origin: Origin,
     rows: RowsEvent<'a>,
     table: Arc<TableMapEvent<'static>>,
+    #[derive_where(skip(Debug))]
     pairs: RowsEventRows<'a>,
     count: u64,
 }
@@ -61,7 +65,7 @@ impl<'a> Model for LentChange<'a> {
 
 /// An event that gives no change: one of another type, a rows event that isn't wanted, or MySQL's rows
 /// event that only ends a statement.
-#[derive(Drop)]
+#[derive(Debug, Drop)]
 pub struct OtherEvent<'a> {
     origin: Origin,
     header: BinlogEventHeader,
@@ -77,7 +81,7 @@ impl<'a> Model for OtherEvent<'a> {
 }
 
 /// An event of a reading: a rows event that is wanted, or any other one.
-#[derive(Drop)]
+#[derive(Debug, Drop)]
 pub enum LentEvent<'a> {
     Rows(LentChange<'a>),
     Other(OtherEvent<'a>),
@@ -134,8 +138,14 @@ impl<'a> LentChange<'a> {
         }
     }
 
-    // Reads the next pair of rows into a buffer. `None` where no rows data is left.
-    pub(crate) fn next_pair(&mut self, pair: &mut LentPair<'a>) -> Option<Result<(), FileError>>
+    /// Reads the next pair of rows into a buffer, whose cells then borrow the event's bytes. `None` where
+    /// all pairs were read.
+    ///
+    /// Fails with `RowsData` if the pair can't be read, and with `Memory` if memory is refused. After an
+    /// error nothing is left of the event, and the buffer holds no row, as after `None`. The reading that
+    /// gave the event isn't touched, so that it goes on with the next event: `SourceChanges::next_pair` ends
+    /// it.
+    pub fn next_pair(&mut self, pair: &mut LentPair<'a>) -> Option<Result<(), FileError>>
         ensures gives { Spec.PairGives self.old pair.new result self.new }
         ensures shrinks { IsSome result → length self.new.left < length self.old.left }
     {
@@ -208,72 +218,18 @@ struct Opened<'a> {
     pairs: RowsEventRows<'a>,
 }
 
-// Opens a rows event with this table, by the plan that is kept for it. Fails if memory is refused.
-fn open<'a>(
-    alloc: Global,
-    plans: &mut KeptPlans,
-    table: &Arc<TableMapEvent<'static>>,
-    rows: &RowsEvent<'_>,
-    rows_data: &'a [u8],
-) -> Result<Opened<'a>, Fault>
-    requires { rows_data.now ≡ rows.now.rows_data }
-    ensures table { IfOk result (λ o. arc_value o.table ≡ arc_value table.now) }
-    ensures reads { IfOk result (λ o. GivesPairsOf (arc_value table.now) rows.now o.pairs) }
-    ensures left { IfOk result (λ o. o.pairs.left ≡ rows.now.rows_data) }
-    ensures err { IfErr result (λ e. e ≡ Fault.Memory) }
-    ensures most { plans.new.stored.most ≡ plans.old.stored.most }
-{
-    let pairs = plans.rows(alloc, table, rows, rows_data)?;
-    let table = Arc::try_clone(table)?;
-    Ok(Opened { table, pairs })
-}
-
-// Opens a rows event if it is wanted.
-fn open_if_wanted<'a, C: Choice>(
-    alloc: Global,
+// Returns the table map event of a rows event that was read, if the event is wanted.
+#[tactic(auto, using(crate::proofs::LentShown::dummy_opened, crate::proofs::LentShown::chosen_in, crate::proofs::LentShown::memory_refused, crate::proofs::LentShown::no_table))]
+fn wanted_table<C: Choice>(
     choice: &C,
-    plans: &mut KeptPlans,
-    table: &Arc<TableMapEvent<'static>>,
-    glance: &Glance<'_>,
-    rows: &RowsEvent<'_>,
-    rows_data: &'a [u8],
-) -> Result<Option<Opened<'a>>, FileError>
-    requires { rows_data.now ≡ rows.now.rows_data }
-    ensures ok { IfOk result (λ o. events.IsChosen (C.wanted choice.now) (arc_value table.now)
-        glance.now rows.now (option_map (λ it. arc_value it.table) o)) }
-    ensures reads { IfOk result (λ o. IfSome o (λ it.
-        GivesPairsOf (arc_value it.table) rows.now it.pairs × (it.pairs.left ≡ rows.now.rows_data))) }
-    ensures err { IfErr result (events.IsRefused glance.now) }
-    ensures most { plans.new.stored.most ≡ plans.old.stored.most }
-{
-    if !choice.wants(glance.position, table, rows.event_type()) {
-        return Ok(None);
-    }
-    match open(alloc, plans, table, rows, rows_data) {
-        Ok(opened) => Ok(Some(opened)),
-        Err(_) => Err(error_at(glance, EventError::Memory)),
-    }
-}
-
-// Opens a rows event that was read if it is wanted.
-#[tactic(auto, using(crate::proofs::LentShown::dummy_opened, crate::proofs::LentShown::chosen_if, crate::proofs::LentShown::refused, crate::proofs::LentShown::no_table))]
-fn open_rows<'a, C: Choice>(
-    alloc: Global,
-    choice: &C,
-    plans: &mut KeptPlans,
     tables: &TableMaps,
     glance: &Glance<'_>,
     rows: &RowsEvent<'_>,
-    rows_data: &'a [u8],
-) -> Result<Option<Opened<'a>>, FileError>
-    requires { rows_data.now ≡ rows.now.rows_data }
+) -> Result<Option<Arc<TableMapEvent<'static>>>, FileError>
     ensures ok { IfOk result (λ o. events.RowsOpen (C.wanted choice.now) (in_maps tables.now)
-        glance.now rows.now (option_map (λ it. arc_value it.table) o)) }
-    ensures reads { IfOk result (λ o. IfSome o (λ it.
-        GivesPairsOf (arc_value it.table) rows.now it.pairs × (it.pairs.left ≡ rows.now.rows_data))) }
+        glance.now rows.now (option_map arc_value o)) }
     ensures err { IfErr result (events.RowsFail (C.wanted choice.now) (in_maps tables.now) glance.now
         rows.now) }
-    ensures most { plans.new.stored.most ≡ plans.old.stored.most }
 {
     if is_dummy(rows) {
         return Ok(None);
@@ -281,7 +237,46 @@ fn open_rows<'a, C: Choice>(
     let table_id = rows.table_id();
     match tables.shared_tme(table_id) {
         None => Err(error_at(glance, EventError::UnknownTable(table_id))),
-        Some(table) => open_if_wanted(alloc, choice, plans, table, glance, rows, rows_data),
+        Some(table) => match if_wanted(choice, table, glance.position, rows) {
+            Ok(table) => Ok(table),
+            Err(_) => Err(error_at(glance, EventError::Memory)),
+        },
+    }
+}
+
+// Opens a rows event that was read if it is wanted.
+#[tactic(auto, using(crate::proofs::LentShown::opened_in_force, crate::proofs::LentShown::memory_refused))]
+fn open_rows<'a, C: Choice>(
+    alloc: Global,
+    choice: &C,
+    plans: &mut KeptPlans,
+    tables: &mut TableMaps,
+    glance: &Glance<'_>,
+    rows: &RowsEvent<'_>,
+    rows_data: &'a [u8],
+) -> Result<Option<Opened<'a>>, FileError>
+    requires data { rows_data.now ≡ rows.now.rows_data }
+    requires opened { IsOpened plans.old.opened (opened_in tables.old) }
+    ensures ok { IfOk result (λ o. events.RowsOpen (C.wanted choice.now) (in_maps tables.old)
+        glance.now rows.now (option_map (λ it. arc_value it.table) o)) }
+    ensures reads { IfOk result (λ o. IfSome o (λ it.
+        GivesPairsOf (arc_value it.table) rows.now it.pairs × (it.pairs.left ≡ rows.now.rows_data))) }
+    ensures err { IfErr result (events.RowsFail (C.wanted choice.now) (in_maps tables.old) glance.now
+        rows.now) }
+    ensures most { plans.new.stored.most ≡ plans.old.stored.most }
+    ensures opened { IsOpened plans.new.opened (opened_in tables.new) }
+    ensures held { held_by tables.new ≡ held_by tables.old }
+    ensures most_tables { most_kept tables.new ≡ most_kept tables.old }
+{
+    match wanted_table(choice, tables, glance, rows) {
+        Err(error) => Err(error),
+        Ok(None) => Ok(None),
+        Ok(Some(table)) => {
+            match rows_in_force(alloc, tables, plans, &table, rows, rows_data) {
+                Ok(pairs) => Ok(Some(Opened { table, pairs })),
+                Err(_) => Err(error_at(glance, EventError::Memory)),
+            }
+        }
     }
 }
 
@@ -294,15 +289,19 @@ fn show_body<'a, C: Choice>(
     alloc: Global,
     choice: &C,
     plans: &mut KeptPlans,
-    tables: &TableMaps,
+    tables: &mut TableMaps,
     glance: Glance<'a>,
     ctx: RowsEventCtx,
 ) -> Result<LentEvent<'a>, FileError>
-    requires { glance.rows ≡ Some ctx }
-    ensures ok { IfOk result (events.Shows (C.wanted choice.now) (in_maps tables.now) glance.entry) }
-    ensures err { IfErr result (events.GivesError (C.wanted choice.now) (in_maps tables.now)
+    requires rows { glance.rows ≡ Some ctx }
+    requires opened { IsOpened plans.old.opened (opened_in tables.old) }
+    ensures ok { IfOk result (events.Shows (C.wanted choice.now) (in_maps tables.old) glance.entry) }
+    ensures err { IfErr result (events.GivesError (C.wanted choice.now) (in_maps tables.old)
         glance.entry) }
     ensures most { plans.new.stored.most ≡ plans.old.stored.most }
+    ensures opened { IsOpened plans.new.opened (opened_in tables.new) }
+    ensures held { held_by tables.new ≡ held_by tables.old }
+    ensures most_tables { most_kept tables.new ≡ most_kept tables.old }
 {
     match RowsEvent::read_lent(ctx, &mut ParseBuf(glance.body)) {
         Err(fault) => Err(error_at(&glance, EventError::RowsEvent(fault))),
@@ -328,13 +327,17 @@ pub(crate) fn show<'a, C: Choice>(
     alloc: Global,
     choice: &C,
     plans: &mut KeptPlans,
-    tables: &TableMaps,
+    tables: &mut TableMaps,
     glance: Glance<'a>,
 ) -> Result<LentEvent<'a>, FileError>
-    ensures ok { IfOk result (events.Shows (C.wanted choice.now) (in_maps tables.now) glance.entry) }
-    ensures err { IfErr result (events.GivesError (C.wanted choice.now) (in_maps tables.now)
+    requires { IsOpened plans.old.opened (opened_in tables.old) }
+    ensures ok { IfOk result (events.Shows (C.wanted choice.now) (in_maps tables.old) glance.entry) }
+    ensures err { IfErr result (events.GivesError (C.wanted choice.now) (in_maps tables.old)
         glance.entry) }
     ensures most { plans.new.stored.most ≡ plans.old.stored.most }
+    ensures opened { IsOpened plans.new.opened (opened_in tables.new) }
+    ensures held { held_by tables.new ≡ held_by tables.old }
+    ensures most_tables { most_kept tables.new ≡ most_kept tables.old }
 {
     match glance.rows {
         None => Ok(other(glance)),

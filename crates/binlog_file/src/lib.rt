@@ -15,6 +15,7 @@ mod seen;
 mod sighting;
 pub mod source_changes;
 mod stored;
+mod walk;
 
 pub use binlog_events::{crc, error, header, origin, types};
 pub use binlog_kept::tables;

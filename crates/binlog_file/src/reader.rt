@@ -1,6 +1,6 @@
 //! Reading events one at a time from a source of bytes.
 
-ghost use Rattle.std.specs.Prelude.{◌≡◌, ◌≤◌, ◌<◌, ◌+◌, ◌*◌, ◌++◌, ◌↔◌, ◌⊎◌, ◌≢◌, ℕ, [], false, true, Ok, None, is_some, is_none, if◌then◌else◌, length, take, slice_range, OnOk, IfOk, IfErr, IsErr, IsSome, IsTrue};
+ghost use Rattle.std.specs.Prelude.{◌≡◌, ◌≤◌, ◌<◌, ◌+◌, ◌*◌, ◌++◌, ◌↔◌, ◌⊎◌, ◌≢◌, ℕ, [], false, true, Ok, None, is_some, is_none, if◌then◌else◌, length, take, slice_range, OnOk, IfOk, IfErr, not, ◌||◌, IsErr, IsSome, IsTrue};
 ghost use Rattle.std.specs.Option.{option_map};
 ghost use Rattle.std.specs.Io.KnownBytes.{Consumes, IsAtEnd};
 ghost use Rattle.binlog_file.specs.Events.{after, is_plain, magic};
@@ -11,7 +11,7 @@ ghost use Rattle.binlog_base.specs.Failures.{Counts};
 ghost use Rattle.binlog_file.specs.Stream as Spec;
 ghost use Rattle.binlog_file.specs.Workings.Readers.{kept_by, reading_of, found, raw_in, glance_in};
 ghost use Rattle.binlog_file.specs.Tables.{no_tables};
-ghost use Rattle.binlog_file.specs.TableMaps.{in_maps, most_kept};
+ghost use Rattle.binlog_file.specs.TableMaps.{in_maps, most_kept, opened_in};
 ghost use Rattle.binlog_file.specs.Checkpoints.{checkpoint, checkpoint_of, ReadsStored, TakesStored, NothingStored, Restores, RestoresAt, IsRefused};
 ghost use Rattle.binlog_events.specs.declared.error.EventError.TheVariants as EventError;
 
@@ -34,9 +34,12 @@ const PIECE: usize = 4096;
 
 /// The bytes of an event that was read. It is used for one event after the other.
 #[derive(Drop)]
+#[derive_where(Debug)]
 pub struct EventBuffer {
     // The bytes are at the start of each of them. What follows is left from longer events.
+    #[derive_where(skip(Debug))]
     head: Vec<u8>,
+    #[derive_where(skip(Debug))]
     rest: Vec<u8>,
 }
 
@@ -200,10 +203,12 @@ fn take_raw<'b, S: Source>(
 
 /// What a reader keeps between events.
 #[derive(Drop)]
-struct Kept {
+#[derive_where(Debug)]
+pub(crate) struct Kept {
     position: u64,
     description: Option<OwnedDescription>,
-    tables: TableMaps,
+    pub(crate) tables: TableMaps,
+    #[derive_where(skip(Debug))]
     stored: StoredEvents,
 }
 
@@ -237,6 +242,7 @@ impl Kept {
         ensures kept { OnOk result (kept_by self.new ≡ Spec.kept_after (kept_by self.old)
             (raw.now.head ++ raw.now.rest) event.now) }
         ensures most { most_kept self.new.tables ≡ most_kept self.old.tables }
+        ensures opened { opened_in self.new.tables ≡ opened_in self.old.tables }
     {
         self.description = description_after(alloc, self.description.take(), event)?;
         self.stored.take(self.tables.ended(), event, raw)?;
@@ -253,6 +259,7 @@ impl Kept {
         ensures kept { OnOk result (kept_by self.new ≡ Spec.kept_after (kept_by self.old)
             (raw.now.head ++ raw.now.rest) event.now) }
         ensures most { most_kept self.new.tables ≡ most_kept self.old.tables }
+        ensures opened { opened_in self.new.tables ≡ opened_in self.old.tables }
     {
         self.stored.take_plain(self.tables.ended(), event, raw)?;
         self.tables.take_plain(event);
@@ -271,6 +278,7 @@ impl Kept {
         ensures kept { OnOk result (kept_by self.new ≡ Spec.kept_after (kept_by self.old)
             (raw.now.head ++ raw.now.rest) (event_with event.now (arc_value table.entry))) }
         ensures most { most_kept self.new.tables ≡ most_kept self.old.tables }
+        ensures opened { opened_in self.new.tables ≡ opened_in self.old.tables }
     {
         self.stored.take_table(self.tables.ended(), raw)?;
         self.tables.take_table(table)?;
@@ -296,6 +304,8 @@ fn read_event<'b, S: Source>(
     ensures gives { Spec.ReadGives (S.remaining source.old) (kept_by kept.old) result
         (S.remaining source.new) (kept_by kept.new) }
     ensures most { most_kept kept.new.tables ≡ most_kept kept.old.tables }
+    ensures opened { opened_in kept.new.tables ≡ opened_in kept.old.tables }
+    ensures stays { IfErr result (λ e. Spec.lacks_bytes e ≡ true → kept_by kept.new ≡ kept_by kept.old) }
     ensures counts { Spec.CountsError result (S.failures source.old) (S.failures source.new) }
 {
     let Some(raw) = take_raw(source, buffer)? else {
@@ -379,8 +389,9 @@ fn restore(alloc: Global, bytes: &[u8], kept: &mut Kept) -> Result<(), EventErro
 fn take_plain<'b>(kept: &mut Kept, raw: &Raw<'b>) -> Result<Glance<'b>, EventError>
     requires { is_plain raw.now ≡ true }
     ensures takes { TakesRaw (kept_by kept.old) raw.now result (kept_by kept.new) }
-    ensures error { IfErr result Spec.IsNotReader }
+    ensures error { IfErr result Spec.HasBytes }
     ensures most { most_kept kept.new.tables ≡ most_kept kept.old.tables }
+    ensures opened { opened_in kept.new.tables ≡ opened_in kept.old.tables }
 {
     let in_force = lend(&kept.description);
     let event = PlainEvent::of_raw(kept.position, &in_force, raw)?;
@@ -392,8 +403,9 @@ fn take_plain<'b>(kept: &mut Kept, raw: &Raw<'b>) -> Result<Glance<'b>, EventErr
 fn take_table<'b>(alloc: Global, kept: &mut Kept, raw: &Raw<'b>) -> Result<Glance<'b>, EventError>
     requires { raw.now.header.event_type ≡ 0x13 }
     ensures takes { TakesRaw (kept_by kept.old) raw.now result (kept_by kept.new) }
-    ensures error { IfErr result Spec.IsNotReader }
+    ensures error { IfErr result Spec.HasBytes }
     ensures most { most_kept kept.new.tables ≡ most_kept kept.old.tables }
+    ensures opened { opened_in kept.new.tables ≡ opened_in kept.old.tables }
 {
     let in_force = lend(&kept.description);
     let event = UnreadTable::of_raw(kept.position, &in_force, raw)?;
@@ -405,8 +417,9 @@ fn take_table<'b>(alloc: Global, kept: &mut Kept, raw: &Raw<'b>) -> Result<Glanc
 // Takes an event of these bytes, and returns a glance at it.
 fn take_other<'b>(alloc: Global, kept: &mut Kept, raw: &Raw<'b>) -> Result<Glance<'b>, EventError>
     ensures takes { TakesRaw (kept_by kept.old) raw.now result (kept_by kept.new) }
-    ensures error { IfErr result Spec.IsNotReader }
+    ensures error { IfErr result Spec.HasBytes }
     ensures most { most_kept kept.new.tables ≡ most_kept kept.old.tables }
+    ensures opened { opened_in kept.new.tables ≡ opened_in kept.old.tables }
 {
     let in_force = lend(&kept.description);
     let event = Event::of_raw(kept.position, &in_force, raw)?;
@@ -417,8 +430,9 @@ fn take_other<'b>(alloc: Global, kept: &mut Kept, raw: &Raw<'b>) -> Result<Glanc
 // Takes the event of these bytes, and returns a glance at it.
 fn take_glance<'b>(alloc: Global, kept: &mut Kept, raw: &Raw<'b>) -> Result<Glance<'b>, EventError>
     ensures takes { TakesRaw (kept_by kept.old) raw.now result (kept_by kept.new) }
-    ensures error { IfErr result Spec.IsNotReader }
+    ensures error { IfErr result Spec.HasBytes }
     ensures most { most_kept kept.new.tables ≡ most_kept kept.old.tables }
+    ensures opened { opened_in kept.new.tables ≡ opened_in kept.old.tables }
 {
     if raw.is_plain() {
         take_plain(kept, raw)
@@ -439,6 +453,8 @@ fn sight<S: Source>(
     ensures gives { Spec.GlanceGives (S.remaining source.old) (kept_by kept.old)
         (found (glance_in buffer.new) result) (S.remaining source.new) (kept_by kept.new) }
     ensures most { most_kept kept.new.tables ≡ most_kept kept.old.tables }
+    ensures opened { opened_in kept.new.tables ≡ opened_in kept.old.tables }
+    ensures stays { IfErr result (λ e. Spec.lacks_bytes e ≡ true → kept_by kept.new ≡ kept_by kept.old) }
     ensures counts { Spec.CountsError result (S.failures source.old) (S.failures source.new) }
 {
     let Some(filled) = fill_event(source, buffer)? else {
@@ -462,15 +478,30 @@ fn take_checkpoint(alloc: Global, checkpoint: &[u8], kept: &mut Kept) -> Result<
     }
 }
 
+// Returns whether it is bytes that are lacking: the source ended within an event, or failed.
+fn lacks_bytes(error: &EventError) -> bool
+    ensures { result ≡ Spec.lacks_bytes error.now }
+{
+    matches!(error, EventError::Cut(_) | EventError::Reader)
+}
+
 /// A reader of the events of a binlog file, or of a stream with the same bytes, one at a time.
 ///
 /// It keeps the format description event and the table map events that are in force. After an error
 /// it is at its end.
+///
+/// Where the source ends within an event (`Cut`), or fails (`Reader`), the reader still has a checkpoint, and
+/// its position is that of this event: whoever follows a file that grows, or a connection that breaks, goes
+/// on there.
 #[derive(Drop)]
+#[derive_where(Debug)]
 pub struct EventStreamReader {
+    #[derive_where(skip(Debug))]
     alloc: Global,
-    kept: Kept,
+    pub(crate) kept: Kept,
     is_over: bool,
+    // Whether it is there because of an event that couldn't be read, though its bytes were there.
+    is_lost: bool,
     // The type of the event that was read last.
     last_type: Option<u8>,
 }
@@ -487,16 +518,35 @@ impl EventStreamReader {
     pub(crate) fn stop(&mut self)
         ensures kept { self.new.kept ≡ self.old.kept }
         ensures over { self.new.is_over ≡ true }
+        ensures lost { self.new.is_lost ≡ self.old.is_lost }
         ensures last { self.new.last_type ≡ self.old.last_type }
     {
         self.is_over = true;
     }
 
-    // Returns the table map events that are in force.
-    pub(crate) fn tables(&self) -> &TableMaps
-        ensures { result.now ≡ self.now.kept.tables }
+    // Puts the reader at its end, where it has no checkpoint.
+    pub(crate) fn lose(&mut self)
+        ensures kept { self.new.kept ≡ self.old.kept }
+        ensures over { self.new.is_over ≡ true }
+        ensures lost { self.new.is_lost ≡ true }
+        ensures last { self.new.last_type ≡ self.old.last_type }
     {
-        &self.kept.tables
+        self.is_over = true;
+        self.is_lost = true;
+    }
+
+    // Puts the reader at its end, after an error of the event at this position.
+    fn fail(&mut self, position: u64, error: EventError) -> FileError
+        ensures position { result.position ≡ position }
+        ensures error { result.error ≡ error }
+        ensures kept { self.new.kept ≡ self.old.kept }
+        ensures over { self.new.is_over ≡ true }
+        ensures lost { self.new.is_lost ≡ (self.old.is_lost || not (Spec.lacks_bytes error)) }
+        ensures last { self.new.last_type ≡ self.old.last_type }
+    {
+        self.is_over = true;
+        self.is_lost = self.is_lost || !lacks_bytes(&error);
+        FileError { position, error }
     }
 
     // Reads the next event into the buffer, as `read` does, and returns what is seen of it.
@@ -511,6 +561,7 @@ impl EventStreamReader {
         ensures last { self.new.last_type
             ≡ Spec.last_type_after (λ s. s.header.event_type) self.old.last_type result }
         ensures most { most_kept self.new.kept.tables ≡ most_kept self.old.kept.tables }
+        ensures opened { opened_in self.new.kept.tables ≡ opened_in self.old.kept.tables }
         ensures counts { Spec.CountsAt result (S.failures source.old) (S.failures source.new) }
     {
         let position = self.kept.position;
@@ -520,10 +571,7 @@ impl EventStreamReader {
                 Ok(Some(sighting))
             }
             Ok(None) => Ok(None),
-            Err(error) => {
-                self.is_over = true;
-                Err(FileError { position, error })
-            }
+            Err(error) => Err(self.fail(position, error)),
         }
     }
 
@@ -539,6 +587,7 @@ impl EventStreamReader {
         ensures last { self.new.last_type
             ≡ Spec.last_type_after (λ g. g.header.event_type) self.old.last_type result }
         ensures most { most_kept self.new.kept.tables ≡ most_kept self.old.kept.tables }
+        ensures opened { opened_in self.new.kept.tables ≡ opened_in self.old.kept.tables }
         ensures counts { Spec.CountsAt result (S.failures source.old) (S.failures source.new) }
     {
         match self.sight(source, buffer) {
@@ -553,6 +602,7 @@ impl EventStreamReader {
     pub fn new(alloc: Global) -> EventStreamReader
         ensures kept { kept_by result.kept ≡ Spec.first_kept }
         ensures goes_on { result.is_over ≡ false }
+        ensures lost { result.is_lost ≡ false }
         ensures last { result.last_type ≡ None }
         ensures most { most_kept result.kept.tables ≡ 8 * 1024 * 1024 }
     {
@@ -564,6 +614,7 @@ impl EventStreamReader {
     pub fn with_kept_bytes(alloc: Global, most: usize) -> EventStreamReader
         ensures kept { kept_by result.kept ≡ Spec.first_kept }
         ensures goes_on { result.is_over ≡ false }
+        ensures lost { result.is_lost ≡ false }
         ensures last { result.last_type ≡ None }
         ensures most { most_kept result.kept.tables ≡ most }
     {
@@ -576,6 +627,7 @@ impl EventStreamReader {
         requires ended { tables.ended ≡ false }
         ensures kept { kept_by result.kept ≡ Spec.first_kept }
         ensures goes_on { result.is_over ≡ false }
+        ensures lost { result.is_lost ≡ false }
         ensures last { result.last_type ≡ None }
         ensures tables { result.kept.tables ≡ tables }
     {
@@ -588,6 +640,7 @@ impl EventStreamReader {
                 stored: StoredEvents::new(alloc),
             },
             is_over: false,
+            is_lost: false,
             last_type: None,
         }
     }
@@ -608,6 +661,7 @@ impl EventStreamReader {
         ensures kept { IfOk result (λ r. RestoresAt checkpoint.now position (kept_by r.kept)) }
         ensures err { IfErr result (λ e. (e.position ≡ 0) × IsRefused checkpoint.now e.error) }
         ensures goes_on { IfOk result (λ r. r.is_over ≡ false) }
+        ensures lost { IfOk result (λ r. r.is_lost ≡ false) }
         ensures last { IfOk result (λ r. r.last_type ≡ None) }
         ensures most { IfOk result (λ r. most_kept r.kept.tables ≡ 8 * 1024 * 1024) }
     {
@@ -627,6 +681,7 @@ impl EventStreamReader {
         ensures reading { reading_of self.new ≡ reading_of self.old }
         ensures last { self.new.last_type ≡ self.old.last_type }
         ensures most { most_kept self.new.kept.tables ≡ most }
+        ensures opened { opened_in self.new.kept.tables ≡ opened_in self.old.kept.tables }
     {
         self.kept.tables.keep_at_most(self.alloc, most);
     }
@@ -657,12 +712,12 @@ impl EventStreamReader {
     /// Returns a checkpoint: bytes that are themselves the beginning of a binlog file. They are the
     /// four bytes with which a file begins, the format description event, the last GTID event after
     /// it, and the table map events that the next event finds, as they were read. Whoever reads them
-    /// and then the rest of the file from `position()` on reads the rest as this reader does. There
-    /// is no checkpoint after an error. Fails if memory is refused.
+    /// and then the rest of the file from `position()` on reads the rest as this reader does. After an
+    /// error there is one only where bytes are lacking, after `Cut` and `Reader`. Fails if memory is refused.
     pub fn checkpoint(&self, alloc: Global) -> Result<Option<Vec<u8>>, AllocError>
         ensures { IfOk result (λ c. option_map (λ b. b.items) c ≡ checkpoint (reading_of self.now)) }
     {
-        if self.is_over {
+        if self.is_lost {
             return Ok(None);
         }
         Ok(Some(self.kept.checkpoint(alloc)?))
@@ -684,6 +739,7 @@ impl EventStreamReader {
         ensures last { self.new.last_type
             ≡ Spec.last_type_after (λ e. e.header.event_type) self.old.last_type result }
         ensures most { most_kept self.new.kept.tables ≡ most_kept self.old.kept.tables }
+        ensures opened { opened_in self.new.kept.tables ≡ opened_in self.old.kept.tables }
         ensures counts { Spec.CountsAt result (S.failures source.old) (S.failures source.new) }
     {
         if self.is_over {
@@ -696,10 +752,7 @@ impl EventStreamReader {
                 Ok(Some(event))
             }
             Ok(None) => Ok(None),
-            Err(error) => {
-                self.is_over = true;
-                Err(FileError { position, error })
-            }
+            Err(error) => Err(self.fail(position, error)),
         }
     }
 }

@@ -3,7 +3,7 @@
 ghost use Rattle.std.specs.Prelude.{◌≡◌, true};
 ghost use Rattle.binlog_file.specs.Events.{is_plain};
 ghost use Rattle.binlog_file.specs.Workings.Glances.{SeesRaw};
-ghost use Rattle.binlog_file.specs.TableMaps.{held_by, most_kept};
+ghost use Rattle.binlog_file.specs.TableMaps.{held_by, most_kept, opened_in};
 
 use crate::error::EventError;
 use binlog_events::description::FormatDescriptionEvent;
@@ -38,6 +38,7 @@ fn see_plain<'a>(
     requires { is_plain raw.now ≡ true }
     ensures sees { SeesRaw position in_force.now (held_by tables.old) raw.now result (held_by tables.new) }
     ensures most { most_kept tables.new ≡ most_kept tables.old }
+    ensures opened { opened_in tables.new ≡ opened_in tables.old }
 {
     let event = PlainEvent::of_raw(position, in_force, raw)?;
     tables.take_plain(&event);
@@ -58,6 +59,7 @@ fn see_table<'a>(
     requires { raw.now.header.event_type ≡ 0x13 }
     ensures sees { SeesRaw position in_force.now (held_by tables.old) raw.now result (held_by tables.new) }
     ensures most { most_kept tables.new ≡ most_kept tables.old }
+    ensures opened { opened_in tables.new ≡ opened_in tables.old }
 {
     let event = UnreadTable::of_raw(position, in_force, raw)?;
     let table = event.table(alloc, tables)?;
@@ -78,6 +80,7 @@ fn see_other<'a>(
 ) -> Result<Seen<'a>, EventError>
     ensures sees { SeesRaw position in_force.now (held_by tables.old) raw.now result (held_by tables.new) }
     ensures most { most_kept tables.new ≡ most_kept tables.old }
+    ensures opened { opened_in tables.new ≡ opened_in tables.old }
 {
     let event = Event::of_raw(position, in_force, raw)?;
     tables.take(alloc, &event)?;
@@ -97,6 +100,7 @@ pub(crate) fn see<'a>(
 ) -> Result<Seen<'a>, EventError>
     ensures sees { SeesRaw position in_force.now (held_by tables.old) raw.now result (held_by tables.new) }
     ensures most { most_kept tables.new ≡ most_kept tables.old }
+    ensures opened { opened_in tables.new ≡ opened_in tables.old }
 {
     if raw.is_plain() {
         see_plain(position, in_force, tables, raw)

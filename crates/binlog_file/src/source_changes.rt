@@ -1,18 +1,20 @@
 //! The changes of a file one at a time, from a source of bytes.
 
-ghost use Rattle.std.specs.Prelude.{◌≡◌, ◌<◌, ◌≤◌, ◌+◌, ◌*◌, ◌↔◌, ◌⊎◌, true, false, length, Some, None, Ok, IfOk, IfErr, IsErr, IsTrue, IsSome};
+ghost use Rattle.std.specs.Prelude.{◌≡◌, ◌<◌, ◌≤◌, ◌+◌, ◌*◌, ◌↔◌, ◌⊎◌, true, false, length, Some, None, Ok, IfOk, IfErr, IsErr, IsTrue, IsSome, IfSome};
 ghost use Rattle.binlog_file.specs.Events.{Event, Place, NextGives, glance_of};
 ghost use Rattle.binlog_file.specs.Tables.{InForce, in_force_after};
 ghost use Rattle.binlog_file.specs.TableMaps.{most_kept};
 ghost use Rattle.binlog_file.specs.Checkpoints.{RestoresAt, IsRefused};
 ghost use Rattle.binlog_file.specs.Changes.{Gives, TakeGives, spot, LessensTo};
-ghost use Rattle.binlog_file.specs.Stream.{IsOutside, IsNotReader, MayGoOn};
+ghost use Rattle.binlog_file.specs.Stream.{IsOutside, HasBytes, MayGoOn, lost_after};
 ghost use Rattle.binlog_file.specs.SourceChanges as Spec;
+ghost use Rattle.binlog_file.specs.ItemsLeft.{left};
 ghost use Rattle.binlog_file.specs.LentChanges.{PairGives};
 ghost use Rattle.binlog_file.specs.LentEvents.{Shows, GivesError, GoesOnUnless};
 ghost use Rattle.binlog_file.specs.Workings.SourceWalks.{reading_in, kept_in, most_kept_by};
 ghost use Rattle.binlog_file.specs.Workings.Readers.{reading_of, item_in};
 ghost use Rattle.binlog_file.specs.Workings.AskedGlances.{SourceSights};
+ghost use Rattle.binlog_file.specs.Workings.KeptSteps.{KeepsTo};
 
 use crate::asked::is_asked;
 use crate::change::{Change, Given, glance_gives};
@@ -23,21 +25,13 @@ use crate::file::BinlogFile;
 use crate::lent_changes::{LentChange, LentEvent, show};
 use crate::reader::{EventBuffer, EventStreamReader};
 use crate::sighting::Sighting;
+use crate::walk::SourceWalk;
 use binlog_base::below::Source;
 use binlog_base::fault::Fault;
 use binlog_events::event::Glance;
 use binlog_kept::plans::{KeptPlans, MOST_BYTES};
 use mysql_binlog_rows::rows_event::LentPair;
 use std::alloc::Global;
-
-/// Where a reading of changes from a source is: its reader, the plans that are kept, and the error
-/// with which it ends, if it does.
-#[derive(Drop)]
-struct SourceWalk {
-    reader: EventStreamReader,
-    plans: KeptPlans,
-    pending: Option<FileError>,
-}
 
 impl SourceWalk {
     // Returns whether there may be more events.
@@ -53,10 +47,12 @@ impl SourceWalk {
         ensures kept { kept_in self.new ≡ kept_in self.old }
         ensures over { IsSome error → self.new.reader.is_over ≡ true }
         ensures on { error ≡ None → self.new.reader.is_over ≡ self.old.reader.is_over }
+        ensures lost { IsSome error → self.new.reader.is_lost ≡ true }
+        ensures not_lost { error ≡ None → self.new.reader.is_lost ≡ self.old.reader.is_lost }
         ensures most { most_kept_by self.new ≡ most_kept_by self.old }
     {
         if error.is_some() {
-            self.reader.stop();
+            self.reader.lose();
         }
         self.pending = error;
     }
@@ -67,10 +63,23 @@ impl SourceWalk {
         ensures pending { self.new.pending ≡ None }
         ensures kept { kept_in self.new ≡ kept_in self.old }
         ensures over { self.new.reader.is_over ≡ true }
+        ensures lost { self.new.reader.is_lost ≡ self.old.reader.is_lost }
         ensures most { most_kept_by self.new ≡ most_kept_by self.old }
     {
         self.reader.stop();
         self.pending.take()
+    }
+
+    // Ends the reading, where it has no checkpoint.
+    fn lose(&mut self)
+        ensures pending { self.new.pending ≡ None }
+        ensures kept { kept_in self.new ≡ kept_in self.old }
+        ensures over { self.new.reader.is_over ≡ true }
+        ensures lost { self.new.reader.is_lost ≡ true }
+        ensures most { most_kept_by self.new ≡ most_kept_by self.old }
+    {
+        self.reader.lose();
+        self.pending = None;
     }
 }
 
@@ -84,16 +93,18 @@ fn show_event<'b, C: Choice>(
     ensures ok { IfOk result (Shows (C.wanted choice.now) (kept_in walk.old).in_force.tables glance.entry) }
     ensures err { IfErr result (GivesError (C.wanted choice.now) (kept_in walk.old).in_force.tables
         glance.entry) }
-    ensures error { IfErr result (λ e. IsNotReader e.error) }
+    ensures error { IfErr result (λ e. HasBytes e.error) }
     ensures over { IsTrue walk.new.reader.is_over
         ↔ (IsErr result ⊎ (walk.old.reader.is_over ≡ true)) }
+    ensures lost { walk.new.reader.is_lost ≡ lost_after walk.old.reader.is_lost result }
     ensures kept { kept_in walk.new ≡ kept_in walk.old }
     ensures pending { walk.new.pending ≡ walk.old.pending }
     ensures most { most_kept_by walk.new ≡ most_kept_by walk.old }
 {
-    let shown = show(alloc, choice, &mut walk.plans, walk.reader.tables(), glance);
+    let tables = &mut walk.reader.kept.tables;
+    let shown = show(alloc, choice, &mut walk.plans, tables, glance);
     if shown.is_err() {
-        walk.reader.stop();
+        walk.reader.lose();
     }
     shown
 }
@@ -109,6 +120,10 @@ fn next_event<'b, S: Source, C: Choice>(
 ) -> Option<Result<LentEvent<'b>, FileError>>
     ensures event { Spec.SourceEvent (C.wanted choice.now) (S.remaining source.old) (reading_in walk.old)
         walk.old.pending result (S.remaining source.new) (reading_in walk.new) walk.new.pending }
+    ensures keeps { Spec.KeepsOn (S.remaining source.old) (reading_in walk.old) result
+        (S.remaining source.new) (reading_in walk.new) }
+    ensures lost { walk.new.reader.is_lost
+        ≡ Spec.lost_by walk.old.pending walk.old.reader.is_lost result walk.new.pending }
     ensures fewer { IsSome result → Spec.items_left (reading_in walk.new) walk.new.pending
         < Spec.items_left (reading_in walk.old) walk.old.pending }
     ensures most { most_kept_by walk.new ≡ most_kept_by walk.old }
@@ -140,6 +155,12 @@ fn pass_over<S: Source>(
     ensures sights { SourceSights types.now (S.remaining source.old) (reading_in walk.old)
         walk.old.pending (item_in buffer.new result) (S.remaining source.new) (reading_in walk.new)
         walk.new.pending }
+    ensures pending { IfSome result (λ r. IfOk r
+        (λ _. (walk.old.pending ≡ None) × (walk.new.pending ≡ None))) }
+    ensures keeps { Spec.KeepsOn (S.remaining source.old) (reading_in walk.old) result
+        (S.remaining source.new) (reading_in walk.new) }
+    ensures lost { walk.new.reader.is_lost
+        ≡ Spec.lost_by walk.old.pending walk.old.reader.is_lost result walk.new.pending }
     ensures fewer { IsSome result → Spec.items_left (reading_in walk.new) walk.new.pending
         < Spec.items_left (reading_in walk.old) walk.old.pending }
     ensures most { most_kept_by walk.new ≡ most_kept_by walk.old }
@@ -176,6 +197,10 @@ fn next_event_of<'b, S: Source, C: Choice>(
     ensures event { Spec.SourceAsked (C.wanted choice.now) types.now (S.remaining source.old)
         (reading_in walk.old) walk.old.pending result (S.remaining source.new) (reading_in walk.new)
         walk.new.pending }
+    ensures keeps { Spec.KeepsOn (S.remaining source.old) (reading_in walk.old) result
+        (S.remaining source.new) (reading_in walk.new) }
+    ensures lost { walk.new.reader.is_lost
+        ≡ Spec.lost_by walk.old.pending walk.old.reader.is_lost result walk.new.pending }
     ensures fewer { IsSome result → Spec.items_left (reading_in walk.new) walk.new.pending
         < Spec.items_left (reading_in walk.old) walk.old.pending }
     ensures most { most_kept_by walk.new ≡ most_kept_by walk.old }
@@ -199,9 +224,10 @@ fn owned_gives<C: Choice>(
         (kept_in walk.old).in_force.tables glance.entry.origin glance.entry.rows glance.entry.body g) }
     ensures kept { kept_in walk.new ≡ kept_in walk.old }
     ensures over { walk.new.reader.is_over ≡ walk.old.reader.is_over }
+    ensures lost { walk.new.reader.is_lost ≡ walk.old.reader.is_lost }
     ensures most { most_kept_by walk.new ≡ most_kept_by walk.old }
 {
-    let tables = walk.reader.tables();
+    let tables = &mut walk.reader.kept.tables;
     let given = glance_gives(alloc, choice, &mut walk.plans, tables, glance)?;
     Ok(given.into_owned(alloc)?)
 }
@@ -221,6 +247,9 @@ fn take<C: Choice>(
         (spot r (kept_in walk.old).in_force walk.new.pending) }
     ensures kept { kept_in walk.new ≡ kept_in walk.old }
     ensures on { walk.new.pending ≡ None → walk.new.reader.is_over ≡ walk.old.reader.is_over }
+    ensures lost { IsSome walk.new.pending → walk.new.reader.is_lost ≡ true }
+    ensures not_lost { walk.new.pending ≡ None
+        → walk.new.reader.is_lost ≡ walk.old.reader.is_lost }
     ensures most { most_kept_by walk.new ≡ most_kept_by walk.old }
     ensures told { Spec.AreTold walk.new.pending }
 {
@@ -256,6 +285,8 @@ fn read_one<S: Source, C: Choice>(
     requires on { MayGoOn (reading_in walk.old) }
     ensures takes { Spec.SourceTakes (C.wanted choice.now) (S.remaining source.old) (reading_in walk.old)
         None result (S.remaining source.new) (reading_in walk.new) walk.new.pending }
+    ensures keeps { KeepsTo (S.remaining source.old) (reading_in walk.old) result
+        (S.remaining source.new) (reading_in walk.new) walk.new.pending }
     ensures fewer { Spec.turns (reading_in walk.new) < Spec.turns (reading_in walk.old) }
     ensures most { most_kept_by walk.new ≡ most_kept_by walk.old }
     ensures counts { Spec.CountsPending walk.new.pending (S.failures source.old) (S.failures source.new) }
@@ -284,6 +315,10 @@ fn next_change<S: Source, C: Choice>(
 ) -> Option<Result<Change<'static>, FileError>>
     ensures steps { Spec.SourceSteps (C.wanted choice.now) (S.remaining source.old) (reading_in walk.old)
         walk.old.pending result (S.remaining source.new) (reading_in walk.new) walk.new.pending }
+    ensures keeps { Spec.KeepsOn (S.remaining source.old) (reading_in walk.old) result
+        (S.remaining source.new) (reading_in walk.new) }
+    ensures lost { walk.new.reader.is_lost
+        ≡ Spec.lost_by walk.old.pending walk.old.reader.is_lost result walk.new.pending }
     ensures most { most_kept_by walk.new ≡ most_kept_by walk.old }
     ensures counts { Spec.CountsNext walk.old.pending result walk.new.pending (S.failures source.old)
         (S.failures source.new) }
@@ -303,10 +338,15 @@ fn next_change<S: Source, C: Choice>(
 ///
 /// Its changes own their rows. `next_event` and `next_pair` lend them, one pair at a time.
 #[derive(Drop)]
+#[derive_where(Debug)]
 pub struct SourceChanges<S, C> {
+    #[derive_where(skip(Debug))]
     alloc: Global,
+    #[derive_where(skip(Debug))]
     choice: C,
+    #[derive_where(skip(Debug))]
     source: S,
+    #[derive_where(skip(Debug))]
     buffer: EventBuffer,
     walk: SourceWalk,
 }
@@ -365,6 +405,7 @@ impl<S: Source + Drop, C: Choice + Drop> SourceChanges<S, C> {
         ensures kept { IfOk result (λ c. RestoresAt checkpoint.now position (kept_in c.walk)) }
         ensures err { IfErr result (λ e. (e.position ≡ 0) × IsRefused checkpoint.now e.error) }
         ensures goes_on { IfOk result (λ c. c.walk.reader.is_over ≡ false) }
+        ensures lost { IfOk result (λ c. c.walk.reader.is_lost ≡ false) }
         ensures pending { IfOk result (λ c. c.walk.pending ≡ None) }
         ensures most { IfOk result (λ c. most_kept_by c.walk ≡ 32 * 1024 * 1024) }
     {
@@ -391,13 +432,14 @@ impl<S: Source + Drop, C: Choice + Drop> SourceChanges<S, C> {
         ensures pending { result.walk.pending ≡ None }
         ensures most { most_kept_by result.walk ≡ most }
     {
-        let mut changes = SourceChanges::with_plans(alloc, file, choice, most - most / 4);
-        changes.walk.reader.keep_at_most(most / 4);
-        changes
+        let mut file = file;
+        file.reader.keep_at_most(most / 4);
+        SourceChanges::with_plans(alloc, file, choice, most - most / 4)
     }
 
     /// Returns the reader: where it is, and the table map events that are in force after the change or
-    /// event that was given last.
+    /// event that was given last. It has a checkpoint at the end too, and where bytes are lacking there; after
+    /// any other error, and after a change that one follows, it has none.
     pub fn reader(&self) -> &EventStreamReader
         ensures { result.now ≡ self.now.walk.reader }
     {
@@ -426,8 +468,11 @@ impl<S: Source + Drop, C: Choice + Drop> SourceChanges<S, C> {
         ensures event { Spec.SourceEvent (C.wanted self.old.choice) (S.remaining self.old.source)
             (reading_in self.old.walk) self.old.walk.pending result (S.remaining self.new.source)
             (reading_in self.new.walk) self.new.walk.pending }
-        ensures fewer { IsSome result → Spec.items_left (reading_in self.new.walk) self.new.walk.pending
-            < Spec.items_left (reading_in self.old.walk) self.old.walk.pending }
+        ensures keeps { Spec.KeepsOn (S.remaining self.old.source) (reading_in self.old.walk) result
+            (S.remaining self.new.source) (reading_in self.new.walk) }
+        ensures lost { self.new.walk.reader.is_lost ≡ Spec.lost_by self.old.walk.pending
+            self.old.walk.reader.is_lost result self.new.walk.pending }
+        ensures fewer { IsSome result → left self.new < left self.old }
         ensures choice { self.new.choice ≡ self.old.choice }
         ensures most { most_kept_by self.new.walk ≡ most_kept_by self.old.walk }
         ensures counts { Spec.CountsNext self.old.walk.pending result self.new.walk.pending
@@ -460,8 +505,11 @@ impl<S: Source + Drop, C: Choice + Drop> SourceChanges<S, C> {
         ensures event { Spec.SourceAsked (C.wanted self.old.choice) types.now
             (S.remaining self.old.source) (reading_in self.old.walk) self.old.walk.pending result
             (S.remaining self.new.source) (reading_in self.new.walk) self.new.walk.pending }
-        ensures fewer { IsSome result → Spec.items_left (reading_in self.new.walk) self.new.walk.pending
-            < Spec.items_left (reading_in self.old.walk) self.old.walk.pending }
+        ensures keeps { Spec.KeepsOn (S.remaining self.old.source) (reading_in self.old.walk) result
+            (S.remaining self.new.source) (reading_in self.new.walk) }
+        ensures lost { self.new.walk.reader.is_lost ≡ Spec.lost_by self.old.walk.pending
+            self.old.walk.reader.is_lost result self.new.walk.pending }
+        ensures fewer { IsSome result → left self.new < left self.old }
         ensures choice { self.new.choice ≡ self.old.choice }
         ensures most { most_kept_by self.new.walk ≡ most_kept_by self.old.walk }
         ensures counts { Spec.CountsNext self.old.walk.pending result self.new.walk.pending
@@ -490,8 +538,8 @@ impl<S: Source + Drop, C: Choice + Drop> SourceChanges<S, C> {
     ) -> Option<Result<(), FileError>>
         ensures pair { PairGives change.old pair.new result change.new }
         ensures fewer { IsSome result → length change.new.left < length change.old.left }
-        ensures reading { GoesOnUnless
-            ((self.new.walk.reader.is_over ≡ true) × (self.new.walk.pending ≡ None)) result
+        ensures reading { GoesOnUnless ((self.new.walk.reader.is_over ≡ true)
+            × (self.new.walk.reader.is_lost ≡ true) × (self.new.walk.pending ≡ None)) result
             self.old.walk self.new.walk }
         ensures kept { kept_in self.new.walk ≡ kept_in self.old.walk }
         ensures source { self.new.source ≡ self.old.source }
@@ -501,7 +549,7 @@ impl<S: Source + Drop, C: Choice + Drop> SourceChanges<S, C> {
         match change.next_pair(pair)? {
             Ok(()) => Some(Ok(())),
             Err(error) => {
-                self.walk.end();
+                self.walk.lose();
                 Some(Err(error))
             }
         }
@@ -513,16 +561,19 @@ impl<S: Source + Drop, C: Choice + Drop> Iterator for SourceChanges<S, C> {
 
     ghost use Rattle.std.specs.Prelude.{◌≡◌};
     ghost use Rattle.std.specs.Iterator.{at_most};
-    ghost use Rattle.binlog_file.specs.SourceChanges.{SourceSteps, CountsNext, items_left};
+    ghost use Rattle.binlog_file.specs.SourceChanges.{SourceSteps, KeepsOn, lost_by, CountsNext};
+    ghost use Rattle.binlog_file.specs.ItemsLeft.{left};
     ghost use Rattle.binlog_file.specs.Workings.SourceWalks.{reading_in, most_kept_by};
 
     ghost next_gives = { λ s r t. (t.choice ≡ s.choice)
         × SourceSteps (C.wanted s.choice) (S.remaining s.source) (reading_in s.walk) s.walk.pending r
         (S.remaining t.source) (reading_in t.walk) t.walk.pending
+        × KeepsOn (S.remaining s.source) (reading_in s.walk) r (S.remaining t.source) (reading_in t.walk)
+        × (t.walk.reader.is_lost ≡ lost_by s.walk.pending s.walk.reader.is_lost r t.walk.pending)
         × (most_kept_by t.walk ≡ most_kept_by s.walk)
         × CountsNext s.walk.pending r t.walk.pending (S.failures s.source) (S.failures t.source) };
 
-    ghost remaining = { λ s. at_most (items_left (reading_in s.walk) s.walk.pending) };
+    ghost remaining = { λ s. at_most (left s) };
 
     fn next(&mut self) -> Option<Result<Change<'static>, FileError>> {
         next_change(

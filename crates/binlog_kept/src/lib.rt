@@ -3,7 +3,10 @@
 #![tactic(auto)]
 
 pub mod generations;
+mod in_force;
 mod notes;
+mod open_plans;
+pub mod opened;
 pub mod plans;
 pub mod tables;
 pub mod unread;

@@ -1,20 +1,18 @@
 //! The plans of tables.
 
-ghost use Rattle.std.specs.Prelude.{◌≡◌, ◌<◌, IfOk, IfErr, IfSome};
+ghost use Rattle.std.specs.Prelude.{◌≡◌, ◌<◌, ◌↔◌, Some, None, IfOk, IfErr, IfSome, IsSome, IsSomeAnd, IsTrue};
 ghost use Rattle.std.specs.Arc.{arc_value};
 ghost use Rattle.binlog_base.specs.declared.fault.Fault.TheVariants as Fault;
-ghost use Rattle.mysql_binlog_rows.specs.Images.{pair};
-ghost use Rattle.mysql_binlog_rows.specs.Cover.{Covers};
 ghost use Rattle.mysql_binlog_rows.specs.Rows.{GivesPairsOf};
 ghost use Rattle.binlog_kept.specs.StoredPlans as Spec;
+ghost use Rattle.binlog_kept.specs.Opened.{IsToldBy};
 
 use crate::generations::{Found, Generations, Weighed};
+use crate::open_plans::OpenPlans;
 use binlog_base::fault::Fault;
 use binlog_consts::consts::EventType;
 use binlog_table::table_map::TableMapEvent;
-use mysql_binlog_rows::rows_event::{
-    Decoded, KeptPlan, RowsEvent, RowsEventRows, pairs_by_shared, pairs_if_served,
-};
+use mysql_binlog_rows::rows_event::{KeptPlan, RowsEvent, RowsEventRows};
 use std::alloc::{AllocError, Global};
 use std::marker::Model;
 use std::sync::Arc;
@@ -157,21 +155,10 @@ impl RecentPlans {
         Ok(self.plans.len() - 1)
     }
 
-    // Returns the pairs of rows of an event by the plan at a place.
-    fn pairs(
-        &mut self,
-        alloc: Global,
-        place: usize,
-        table: &Arc<TableMapEvent<'static>>,
-        rows: &RowsEvent<'_>,
-    ) -> Result<Decoded, Fault>
-        requires { place < self.old }
-        ensures covers { IfOk result (λ d. Covers (pair (arc_value table.now) rows.now)
-            rows.now.rows_data d.pairs.items d.fault) }
-        ensures err { IfErr result (λ e. e ≡ Fault.Memory) }
-    {
-        let recent = &mut self.plans[place];
-        pairs_by_shared(alloc, table, rows, &mut recent.plan)
+    // Returns the plan with a key.
+    fn plan(&self, key: u64) -> Option<&KeptPlan> {
+        let recent = self.plans.iter().find(|recent| recent.key == key)?;
+        Some(&recent.plan)
     }
 
     // Returns an iterator over the pairs that this rows data has, by the plan at a place.
@@ -204,6 +191,7 @@ impl RecentPlans {
 pub struct KeptPlans {
     recent: RecentPlans,
     stored: Generations<StoredPlan>,
+    opened: OpenPlans,
 }
 
 // Returns the number of a kind of change, below 4: events of one kind have the same images.
@@ -224,11 +212,13 @@ fn key_of(rows: &RowsEvent<'_>) -> u64 {
 impl KeptPlans {
     /// Keeps no plan yet, and stores plans of at most so many bytes later.
     pub fn new(alloc: Global, most: usize) -> KeptPlans
-        ensures { result.stored.most ≡ most }
+        ensures most { result.stored.most ≡ most }
+        ensures opened { result.opened ≡ None }
     {
         KeptPlans {
             recent: RecentPlans::new(alloc),
             stored: Generations::new(alloc, most),
+            opened: OpenPlans::new(alloc),
         }
     }
 
@@ -236,6 +226,7 @@ impl KeptPlans {
     fn store(&mut self, recent: RecentPlan) -> Result<(), AllocError>
         ensures recent { self.new.recent ≡ self.old.recent }
         ensures most { self.new.stored.most ≡ self.old.stored.most }
+        ensures opened { self.new.opened ≡ self.old.opened }
     {
         let bytes = weight_of(&recent.plan);
         if !self.stored.make_room(recent.key, bytes)? {
@@ -250,6 +241,7 @@ impl KeptPlans {
     fn place_of(&mut self, key: u64) -> Result<usize, AllocError>
         ensures place { IfOk result (λ i. i < self.new.recent) }
         ensures most { self.new.stored.most ≡ self.old.stored.most }
+        ensures opened { self.new.opened ≡ self.old.opened }
     {
         if let Some(place) = self.recent.place_of(key) {
             return Ok(place);
@@ -258,32 +250,6 @@ impl KeptPlans {
             self.store(oldest)?;
         }
         self.recent.add(key)
-    }
-
-    // Returns the pairs of rows of an event by a stored plan, if there is one that serves. One that
-    // doesn't is given up.
-    fn stored_pairs(
-        &mut self,
-        alloc: Global,
-        key: u64,
-        table: &TableMapEvent<'_>,
-        rows: &RowsEvent<'_>,
-    ) -> Result<Option<Decoded>, Fault>
-        ensures covers { IfOk result (λ o. IfSome o (λ d. Covers (pair table.now rows.now)
-            rows.now.rows_data d.pairs.items d.fault)) }
-        ensures err { IfErr result (λ e. e ≡ Fault.Memory) }
-        ensures most { self.new.stored.most ≡ self.old.stored.most }
-    {
-        let Some(Found { value, is_old }) = self.stored.get(key) else {
-            return Ok(None);
-        };
-        let decoded = pairs_if_served(alloc, table, rows, value.plan())?;
-        if decoded.is_none() {
-            self.stored.remove(key);
-        } else if is_old {
-            self.stored.renew(key)?;
-        }
-        Ok(decoded)
     }
 
     // Returns an iterator over the pairs that this rows data has by a stored plan, if there is one that
@@ -301,6 +267,7 @@ impl KeptPlans {
         ensures left { IfOk result (λ o. IfSome o (λ r. r.left ≡ rows.now.rows_data)) }
         ensures err { IfErr result (λ e. e ≡ Fault.Memory) }
         ensures most { self.new.stored.most ≡ self.old.stored.most }
+        ensures opened { self.new.opened ≡ self.old.opened }
     {
         let Some(Found { value, is_old }) = self.stored.get(key) else {
             return Ok(None);
@@ -328,6 +295,7 @@ impl KeptPlans {
         ensures left { IfOk result (λ r. r.left ≡ rows.now.rows_data) }
         ensures err { IfErr result (λ e. e ≡ Fault.Memory) }
         ensures most { self.new.stored.most ≡ self.old.stored.most }
+        ensures opened { self.new.opened ≡ self.old.opened }
     {
         let key = key_of(rows);
         if let Some(pairs) = self.stored_rows(alloc, key, table, rows, rows_data)? {
@@ -337,24 +305,74 @@ impl KeptPlans {
         self.recent.rows(alloc, place, table, rows, rows_data)
     }
 
-    /// Returns the pairs of rows of an event, up to its first fault, by the plan that is kept for the
-    /// table. `Memory` if memory can't be allocated.
-    pub fn pairs(
+    /// Opens a table map event: `open_rows` reads by it. Plans of the one that was open before are kept
+    /// as others are.
+    pub fn open(&mut self, table: Arc<TableMapEvent<'static>>)
+        ensures opened { self.new.opened ≡ Some (arc_value table.entry) }
+        ensures most { self.new.stored.most ≡ self.old.stored.most }
+    {
+        self.opened.open(table);
+    }
+
+    /// Returns whether a table map event is open.
+    pub fn is_open(&self) -> bool
+        ensures { IsTrue result ↔ IsSome self.now.opened }
+    {
+        self.opened.is_open()
+    }
+
+    /// Returns an iterator over the pairs of rows of an event of the table that is open, whose rows data
+    /// this is; `None` if no plan that is kept for the open table map event serves. That isn't compared
+    /// with anything.
+    pub fn open_rows<'d>(
+        &self,
+        alloc: Global,
+        rows: &RowsEvent<'_>,
+        rows_data: &'d [u8],
+    ) -> Result<Option<RowsEventRows<'d>>, Fault>
+        requires data { rows_data.now ≡ rows.now.rows_data }
+        ensures reads { IfOk result (λ o. IfSome o (λ r. IsSomeAnd self.now.opened
+            (λ t. GivesPairsOf t rows.now r))) }
+        ensures left { IfOk result (λ o. IfSome o (λ r. r.left ≡ rows.now.rows_data)) }
+        ensures err { IfErr result (λ e. e ≡ Fault.Memory) }
+    {
+        self.opened.rows(alloc, rows, rows_data)
+    }
+
+    // Returns the plan that is kept for an event, to be kept elsewhere too; `None` if none is kept that
+    // serves.
+    fn shared(
+        &self,
+        alloc: Global,
+        table: &TableMapEvent<'_>,
+        rows: &RowsEvent<'_>,
+    ) -> Result<Option<KeptPlan>, AllocError>
+        ensures { IfOk result (λ o. IfSome o (λ plan. IsToldBy table.now plan)) }
+    {
+        let key = key_of(rows);
+        if let Some(Found { value, .. }) = self.stored.get(key) {
+            return value.plan().share_if_served(alloc, table, rows);
+        }
+        match self.recent.plan(key) {
+            Some(plan) => plan.share_if_served(alloc, table, rows),
+            None => Ok(None),
+        }
+    }
+
+    /// Keeps the plan by which an event was read for the table map event that is open, which is this one.
+    pub fn keep_open(
         &mut self,
         alloc: Global,
         table: &Arc<TableMapEvent<'static>>,
         rows: &RowsEvent<'_>,
-    ) -> Result<Decoded, Fault>
-        ensures covers { IfOk result (λ d. Covers (pair (arc_value table.now) rows.now)
-            rows.now.rows_data d.pairs.items d.fault) }
-        ensures err { IfErr result (λ e. e ≡ Fault.Memory) }
+    ) -> Result<(), AllocError>
+        requires { self.old.opened ≡ Some (arc_value table.now) }
+        ensures opened { self.new.opened ≡ self.old.opened }
         ensures most { self.new.stored.most ≡ self.old.stored.most }
     {
-        let key = key_of(rows);
-        if let Some(decoded) = self.stored_pairs(alloc, key, table, rows)? {
-            return Ok(decoded);
+        match self.shared(alloc, table, rows)? {
+            Some(plan) => self.opened.add(plan),
+            None => Ok(()),
         }
-        let place = self.place_of(key)?;
-        self.recent.pairs(alloc, place, table, rows)
     }
 }

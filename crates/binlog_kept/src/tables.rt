@@ -1,15 +1,16 @@
 //! The table map events in force.
 
-ghost use Rattle.std.specs.Prelude.{◌≡◌, ◌≤◌, ◌*◌, ◌⊎◌, ℕ, false, Ok, Err, None, length, OnOk, OnErr, IfOk, IfErr, IfSome, IsSome};
+ghost use Rattle.std.specs.Prelude.{◌≡◌, ◌≤◌, ◌*◌, ◌⊎◌, ℕ, false, Ok, Err, Some, None, IsTrue, length, OnOk, OnErr, IfOk, IfErr, IfSome, IsSome};
 ghost use Rattle.std.specs.Option.{option_map};
 ghost use Rattle.std.specs.Arc.{arc_value};
 ghost use Rattle.binlog_events.specs.declared.error.EventError.TheVariants as error;
 ghost use Rattle.binlog_events.specs.Tables.{no_tables, with_table, with_map, found, given_up, ends_statement, in_force_after};
 ghost use Rattle.binlog_events.specs.Workings.TableBodies.{ReadsTable, table_weight};
-ghost use Rattle.binlog_kept.specs.TableMaps.{in_maps, held_by, most_kept};
+ghost use Rattle.binlog_kept.specs.TableMaps.{in_force_at, in_maps, held_by, most_kept, opened_in};
 ghost use Rattle.binlog_kept.specs.Kept.{all_bytes};
 
 use crate::generations::{Found, Generations, Weighed};
+use crate::in_force::InForce;
 use binlog_base::below::{Server, same_bytes};
 use binlog_events::error::EventError;
 use binlog_events::event::{Event, PlainEvent, read_table};
@@ -108,18 +109,120 @@ fn key_of(body: &[u8]) -> u64 {
     LittleEndian::read_u64(body) & 0xffff_ffff_ffff
 }
 
+impl InForce {
+    // Returns that no event is in force.
+    fn new(alloc: Global) -> InForce
+        ensures tables { (id : ℕ) → in_force_at result id ≡ None }
+        ensures opened { option_map arc_value result.opened ≡ None }
+    {
+        InForce {
+            first: None,
+            others: BTreeMap::new(alloc),
+            opened: None,
+            open_id: None,
+            met_id: None,
+        }
+    }
+
+    // Returns the event that is in force for a table id.
+    fn get(&self, table_id: u64) -> Option<&Arc<TableMapEvent<'static>>>
+        ensures { option_map (λ t. arc_value t.now) result ≡ in_force_at self.now table_id }
+    {
+        if let Some(first) = &self.first {
+            if first.table_id() == table_id {
+                return Some(first);
+            }
+        }
+        self.others.get(&table_id)
+    }
+
+    // Closes the event that was opened.
+    fn close(&mut self)
+        ensures closed { self.new.open_id ≡ None }
+        ensures first { self.new.first ≡ self.old.first }
+        ensures others { self.new.others ≡ self.old.others }
+        ensures opened { self.new.opened ≡ self.old.opened }
+    {
+        self.open_id = None;
+        self.met_id = None;
+    }
+
+    // Gives up all events. What was opened is open no more.
+    fn clear(&mut self)
+        ensures tables { (id : ℕ) → in_force_at self.new id ≡ None }
+        ensures first { self.new.first ≡ None }
+        ensures opened { self.new.opened ≡ self.old.opened }
+    {
+        self.close();
+        self.first = None;
+        self.others.clear();
+    }
+
+    // Puts an event in force, in place of one with the same table id. Memory is asked for beside a first
+    // one alone, and where it is refused all stay. What was opened is open no more.
+    fn put(&mut self, table: Arc<TableMapEvent<'static>>) -> Result<(), AllocError>
+        ensures tables { OnOk result ((id : ℕ) → in_force_at self.new id
+            ≡ with_table (in_force_at self.old) (arc_value table.entry) id) }
+        ensures beside { OnErr result (IsSome self.old.first) }
+        ensures refused { OnErr result (in_force_at self.new ≡ in_force_at self.old) }
+        ensures opened { self.new.opened ≡ self.old.opened }
+    {
+        self.close();
+        let table_id = table.table_id();
+        if let Some(first) = &self.first {
+            if first.table_id() != table_id {
+                self.others.insert(table_id, table)?;
+                return Ok(());
+            }
+        }
+        self.first = Some(table);
+        Ok(())
+    }
+
+    // Returns whether what was opened is in force under this table id.
+    fn is_open(&self, table_id: u64) -> bool
+        ensures { IsTrue result → option_map arc_value self.now.opened ≡ in_force_at self.now table_id }
+    {
+        match self.open_id {
+            Some(open_id) => open_id == table_id,
+            None => false,
+        }
+    }
+
+    // Notes that a rows event of the table comes, and returns whether the last one was of it too.
+    fn meet(&mut self, table_id: u64) -> bool
+        ensures tables { in_force_at self.new ≡ in_force_at self.old }
+        ensures opened { self.new.opened ≡ self.old.opened }
+    {
+        let is_met = self.met_id == Some(table_id);
+        self.met_id = Some(table_id);
+        is_met
+    }
+
+    // Opens the event that is in force for a table id.
+    fn open(&mut self, table_id: u64, table: Arc<TableMapEvent<'static>>)
+        requires { in_force_at self.old table_id ≡ Some (arc_value table) }
+        ensures opened { option_map arc_value self.new.opened ≡ Some (arc_value table.entry) }
+        ensures tables { in_force_at self.new ≡ in_force_at self.old }
+    {
+        self.opened = Some(table);
+        self.open_id = Some(table_id);
+    }
+}
+
 /// The table map events in force, one for each table id. They own their bytes.
 ///
 /// A server writes the same table map event again before each statement. So they are kept past the
 /// end of their statements, with their bodies, and one whose body comes again is neither read nor
 /// copied again. What is kept takes a bounded number of bytes of memory together: each event twice
 /// its body, and 768 bytes for what holds it. None with a body above 8 KiB is kept.
+///
+/// One of the events may be opened: whoever keeps plans by which its rows are read needn't compare them
+/// with it again for as long as `is_open` says that it is in force still.
 #[derive(Drop)]
 #[derive_where(Debug)]
 pub struct TableMaps {
-    // Most statements change one table: theirs takes no node of a map.
-    first: Option<Arc<TableMapEvent<'static>>>,
-    others: BTreeMap<u64, Arc<TableMapEvent<'static>>>,
+    in_force: InForce,
     #[derive_where(skip(Debug))]
     kept: Generations<KeptTable>,
     ended: bool,
@@ -131,6 +234,7 @@ impl TableMaps {
         ensures tables { (id : ℕ) → in_maps result id ≡ no_tables id }
         ensures ended { result.ended ≡ false }
         ensures most { most_kept result ≡ 8 * 1024 * 1024 }
+        ensures opened { opened_in result ≡ None }
     {
         TableMaps::with_kept_bytes(alloc, MOST_KEPT)
     }
@@ -141,10 +245,10 @@ impl TableMaps {
         ensures tables { (id : ℕ) → in_maps result id ≡ no_tables id }
         ensures ended { result.ended ≡ false }
         ensures most { most_kept result ≡ most }
+        ensures opened { opened_in result ≡ None }
     {
         TableMaps {
-            first: None,
-            others: BTreeMap::new(alloc),
+            in_force: InForce::new(alloc),
             kept: Generations::new(alloc, most),
             ended: false,
         }
@@ -164,6 +268,7 @@ impl TableMaps {
     pub fn keep_at_most(&mut self, alloc: Global, most: usize)
         ensures held { held_by self.new ≡ held_by self.old }
         ensures most { most_kept self.new ≡ most }
+        ensures opened { opened_in self.new ≡ opened_in self.old }
     {
         self.kept = Generations::new(alloc, most);
     }
@@ -172,12 +277,7 @@ impl TableMaps {
     pub fn shared_tme(&self, table_id: u64) -> Option<&Arc<TableMapEvent<'static>>>
         ensures { option_map (λ t. arc_value t.now) result ≡ in_maps self.now table_id }
     {
-        if let Some(first) = &self.first {
-            if first.table_id() == table_id {
-                return Some(first);
-            }
-        }
-        self.others.get(&table_id)
+        self.in_force.get(table_id)
     }
 
     /// Returns the table map event that is in force for a table id.
@@ -190,6 +290,33 @@ impl TableMaps {
         }
     }
 
+    /// Returns whether the table map event that was opened last is in force under this table id.
+    pub fn is_open(&self, table_id: u64) -> bool
+        ensures { IsTrue result → opened_in self.now ≡ in_maps self.now table_id }
+    {
+        self.in_force.is_open(table_id)
+    }
+
+    /// Notes that a rows event of the table comes. Returns whether the one before it was of the table
+    /// too, and by the same table map event.
+    pub fn meet(&mut self, table_id: u64) -> bool
+        ensures held { held_by self.new ≡ held_by self.old }
+        ensures most { most_kept self.new ≡ most_kept self.old }
+        ensures opened { opened_in self.new ≡ opened_in self.old }
+    {
+        self.in_force.meet(table_id)
+    }
+
+    /// Opens the table map event that is in force for a table id, until another is opened.
+    pub fn open(&mut self, table_id: u64, table: Arc<TableMapEvent<'static>>)
+        requires { in_maps self.old table_id ≡ Some (arc_value table) }
+        ensures opened { opened_in self.new ≡ Some (arc_value table.entry) }
+        ensures held { held_by self.new ≡ held_by self.old }
+        ensures most { most_kept self.new ≡ most_kept self.old }
+    {
+        self.in_force.open(table_id, table);
+    }
+
     /// Returns whether a statement ended with the last event.
     pub fn ended(&self) -> bool
         ensures { result ≡ self.now.ended }
@@ -200,21 +327,22 @@ impl TableMaps {
     // Gives up all tables.
     fn clear(&mut self)
         ensures tables { (id : ℕ) → in_maps self.new id ≡ None }
-        ensures first { self.new.first ≡ None }
+        ensures first { self.new.in_force.first ≡ None }
         ensures ended { self.new.ended ≡ self.old.ended }
         ensures most { most_kept self.new ≡ most_kept self.old }
+        ensures opened { opened_in self.new ≡ opened_in self.old }
     {
-        self.first = None;
-        self.others.clear();
+        self.in_force.clear();
     }
 
     // Gives up all tables if the event before was the last of its statement. So where one is left,
     // all are.
     fn end_statement(&mut self)
         ensures tables { (id : ℕ) → in_maps self.new id ≡ found (in_maps self.old) self.old.ended id }
-        ensures left { IsSome self.new.first → self.new ≡ self.old }
+        ensures left { IsSome self.new.in_force.first → self.new ≡ self.old }
         ensures ended { self.new.ended ≡ self.old.ended }
         ensures most { most_kept self.new ≡ most_kept self.old }
+        ensures opened { opened_in self.new ≡ opened_in self.old }
     {
         if self.ended {
             self.clear();
@@ -226,9 +354,10 @@ impl TableMaps {
     fn give_up(&mut self, event: &Event<'_>)
         ensures tables { (id : ℕ) → in_maps self.new id
             ≡ given_up (found (in_maps self.old) self.old.ended) event.now.description id }
-        ensures left { IsSome self.new.first → self.new ≡ self.old }
+        ensures left { IsSome self.new.in_force.first → self.new ≡ self.old }
         ensures ended { self.new.ended ≡ self.old.ended }
         ensures most { most_kept self.new ≡ most_kept self.old }
+        ensures opened { opened_in self.new ≡ opened_in self.old }
     {
         if self.ended || event.description().is_some() {
             self.clear();
@@ -243,6 +372,7 @@ impl TableMaps {
             ≡ (in_force_after (held_by self.old) event.now).tables id }
         ensures ended { self.new.ended ≡ ends_statement event.now }
         ensures most { most_kept self.new ≡ most_kept self.old }
+        ensures opened { opened_in self.new ≡ opened_in self.old }
     {
         self.end_statement();
         self.ended = event.ends_statement();
@@ -253,20 +383,13 @@ impl TableMaps {
     fn put(&mut self, table: Arc<TableMapEvent<'static>>) -> Result<(), AllocError>
         ensures tables { OnOk result ((id : ℕ) → in_maps self.new id
             ≡ with_table (in_maps self.old) (arc_value table.entry) id) }
-        ensures beside { OnErr result (IsSome self.old.first) }
+        ensures beside { OnErr result (IsSome self.old.in_force.first) }
         ensures refused { OnErr result (held_by self.new ≡ held_by self.old) }
         ensures ended { self.new.ended ≡ self.old.ended }
         ensures most { most_kept self.new ≡ most_kept self.old }
+        ensures opened { opened_in self.new ≡ opened_in self.old }
     {
-        let table_id = table.table_id();
-        if let Some(first) = &self.first {
-            if first.table_id() != table_id {
-                self.others.insert(table_id, table)?;
-                return Ok(());
-            }
-        }
-        self.first = Some(table);
-        Ok(())
+        self.in_force.put(table)
     }
 
     // Returns the kept table map event of a body.
@@ -280,6 +403,7 @@ impl TableMaps {
             (λ o. IfSome o (λ t. ReadsTable server post_header_len body.now (Ok (arc_value t)))) }
         ensures held { held_by self.new ≡ held_by self.old }
         ensures most { most_kept self.new ≡ most_kept self.old }
+        ensures opened { opened_in self.new ≡ opened_in self.old }
     {
         let key = key_of(body);
         let Some(Found { value, is_old }) = self.kept.get(key) else {
@@ -304,6 +428,7 @@ impl TableMaps {
         requires { ReadsTable server post_header_len body.now (Ok (arc_value table.now)) }
         ensures held { held_by self.new ≡ held_by self.old }
         ensures most { most_kept self.new ≡ most_kept self.old }
+        ensures opened { opened_in self.new ≡ opened_in self.old }
     {
         let key = key_of(body);
         if body.len() > MOST_BODY || !self.kept.make_room(key, weight_of(body))? {
@@ -331,6 +456,7 @@ impl TableMaps {
         ensures copied { IfOk result (λ t. arc_value t ≡ table.now) }
         ensures held { held_by self.new ≡ held_by self.old }
         ensures most { most_kept self.new ≡ most_kept self.old }
+        ensures opened { opened_in self.new ≡ opened_in self.old }
     {
         let copy = Arc::new(alloc, table.clone(alloc)?.into_owned(alloc)?)?;
         self.keep(alloc, server, post_header_len, body, &copy)?;
@@ -350,6 +476,7 @@ impl TableMaps {
             (λ e. (e ≡ error.Memory) ⊎ ReadsTable server post_header_len body.now (Err e)) }
         ensures held { held_by self.new ≡ held_by self.old }
         ensures most { most_kept self.new ≡ most_kept self.old }
+        ensures opened { opened_in self.new ≡ opened_in self.old }
     {
         if let Some(kept) = self.kept_as(server, post_header_len, body)? {
             return Ok(kept);
@@ -370,6 +497,7 @@ impl TableMaps {
         ensures same { IfOk result (λ t. arc_value t ≡ table.now) }
         ensures held { held_by self.new ≡ held_by self.old }
         ensures most { most_kept self.new ≡ most_kept self.old }
+        ensures opened { opened_in self.new ≡ opened_in self.old }
     {
         let server = table.server();
         match self.kept_as(server, post_header_len, body)? {
@@ -387,6 +515,7 @@ impl TableMaps {
         ensures same { IfOk result (λ t. option_map arc_value t ≡ event.now.table) }
         ensures held { held_by self.new ≡ held_by self.old }
         ensures most { most_kept self.new ≡ most_kept self.old }
+        ensures opened { opened_in self.new ≡ opened_in self.old }
     {
         match event.table() {
             None => Ok(None),
@@ -403,10 +532,11 @@ impl TableMaps {
     fn put_maybe(&mut self, table: Option<Arc<TableMapEvent<'static>>>) -> Result<(), AllocError>
         ensures tables { OnOk result ((id : ℕ) → in_maps self.new id
             ≡ with_map (in_maps self.old) (option_map arc_value table.entry) id) }
-        ensures beside { OnErr result (IsSome self.old.first) }
+        ensures beside { OnErr result (IsSome self.old.in_force.first) }
         ensures refused { OnErr result (held_by self.new ≡ held_by self.old) }
         ensures ended { self.new.ended ≡ self.old.ended }
         ensures most { most_kept self.new ≡ most_kept self.old }
+        ensures opened { opened_in self.new ≡ opened_in self.old }
     {
         match table {
             None => Ok(()),
@@ -422,6 +552,7 @@ impl TableMaps {
         ensures ended { OnOk result (self.new.ended ≡ false) }
         ensures refused { OnErr result (held_by self.new ≡ held_by self.old) }
         ensures most { most_kept self.new ≡ most_kept self.old }
+        ensures opened { opened_in self.new ≡ opened_in self.old }
     {
         self.end_statement();
         self.put(table)?;
@@ -438,6 +569,7 @@ impl TableMaps {
         ensures ended { OnOk result (self.new.ended ≡ ends_statement event.now) }
         ensures refused { OnErr result (held_by self.new ≡ held_by self.old) }
         ensures most { most_kept self.new ≡ most_kept self.old }
+        ensures opened { opened_in self.new ≡ opened_in self.old }
     {
         let table = self.table_in(alloc, event)?;
         self.give_up(event);

@@ -6,7 +6,7 @@ ghost use Rattle.binlog_table.specs.TableMap.{TableMap};
 ghost use Rattle.binlog_events.specs.Events.{event_of_raw, glance_of};
 ghost use Rattle.binlog_events.specs.declared.error.EventError.TheVariants as error;
 ghost use Rattle.binlog_events.specs.Workings.TableBodies.{ReadsTable, event_with, LeavesTable};
-ghost use Rattle.binlog_kept.specs.TableMaps.{held_by, most_kept};
+ghost use Rattle.binlog_kept.specs.TableMaps.{held_by, most_kept, opened_in};
 
 use crate::tables::TableMaps;
 use binlog_base::below::Server;
@@ -81,6 +81,7 @@ impl<'a> UnreadTable<'a> {
             self.now.post_header_len self.now.parts.body (Err e)) }
         ensures held { held_by tables.new ≡ held_by tables.old }
         ensures most { most_kept tables.new ≡ most_kept tables.old }
+        ensures opened { opened_in tables.new ≡ opened_in tables.old }
     {
         tables.table_of(alloc, self.server, self.post_header_len, self.parts.body())
     }

@@ -9,7 +9,8 @@ mod types;
 
 pub use changed::ChangedColumns;
 pub use decode::{
-    Decoded, decode_pairs, decode_pairs_of, pairs_by, pairs_by_shared, pairs_if_served, pairs_of,
+    Decoded, decode_pairs, decode_pairs_of, pairs_by, pairs_by_shared, pairs_given,
+    pairs_if_served, pairs_of,
 };
 pub use event::{RowsEvent, RowsEventCtx};
 pub use kept::KeptPlan;

@@ -17,7 +17,7 @@ abbrev pub kept_by : Kept → Spec.Kept
 kept_by k = Spec.kept k.position k.description (held_by k.tables) k.stored
 
 abbrev pub reading_of : EventStreamReader → Spec.Reading
-reading_of r = record { kept = kept_by r.kept; is_over = r.is_over }
+reading_of r = record { kept = kept_by r.kept; is_over = r.is_over; is_lost = r.is_lost }
 
 -- ---- the event in a buffer
 

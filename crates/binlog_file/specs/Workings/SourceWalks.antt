@@ -4,7 +4,7 @@ use Rattle.std.specs.Prelude.{ℕ, ◌+◌}
 use Rattle.binlog_file.specs.TableMaps.{most_kept}
 use Rattle.binlog_file.specs.Stream.{Kept, Reading}
 use Rattle.binlog_file.specs.Workings.Readers.{kept_by, reading_of}
-use Rattle.binlog_file.specs.declared.source_changes.SourceWalk.{SourceWalk}
+use Rattle.binlog_file.specs.declared.walk.SourceWalk.{SourceWalk}
 
 abbrev pub reading_in : SourceWalk → Reading
 reading_in w = reading_of w.reader

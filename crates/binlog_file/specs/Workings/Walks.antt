@@ -2,7 +2,7 @@
 use Rattle.std.specs.Prelude.{ℕ, ◌+◌}
 use Rattle.binlog_file.specs.TableMaps.{held_by, most_kept}
 use Rattle.binlog_file.specs.Changes.{Spot}
-use Rattle.binlog_file.specs.declared.changes.Walk.{Walk}
+use Rattle.binlog_file.specs.declared.walk.Walk.{Walk}
 
 abbrev pub spot_of : Walk → Spot
 spot_of w = record { place = w.events; in_force = held_by w.tables; pending = w.pending }

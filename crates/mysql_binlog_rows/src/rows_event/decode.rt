@@ -8,6 +8,7 @@ ghost use Rattle.mysql_binlog_rows.specs.Cover.{Covers};
 ghost use Rattle.binlog_table.specs.TableMap.{TableMap};
 ghost use Rattle.mysql_binlog_rows.specs.RowsEvent.{RowsEvent as Event};
 ghost use Rattle.mysql_binlog_rows.specs.Workings.Plans.{Reads};
+ghost use Rattle.mysql_binlog_rows.specs.Rows.{GivesPairsOf};
 ghost use Rattle.mysql_binlog_rows.specs.Kept.{KeptServes};
 ghost use Rattle.mysql_binlog_rows.specs.Decodes.{input, input_of, DecodesAs};
 
@@ -50,6 +51,18 @@ fn collect(alloc: Global, rows: RowsEventRows<'_>) -> Result<Decoded, Fault>
         }
     }
     Ok(Decoded { pairs, fault: None })
+}
+
+/// Returns the pairs of rows that an iterator gives, up to its first fault.
+///
+/// A fault in the rows data is not an error: it is answered with the pairs before it. The error is
+/// `Memory` if memory can't be allocated.
+pub fn pairs_given(alloc: Global, rows: RowsEventRows<'_>) -> Result<Decoded, Fault>
+    ensures covers { (t : TableMap) (e : Event) → GivesPairsOf t e rows.entry
+        → IfOk result (λ d. Covers (pair t e) rows.entry.left d.pairs.items d.fault) }
+    ensures err { IfErr result (λ e. e ≡ Fault.Memory) }
+{
+    collect(alloc, rows)
 }
 
 /// Returns the pairs of rows of an event, up to its first fault. `table` is the table map event that

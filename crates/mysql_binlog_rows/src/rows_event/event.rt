@@ -17,7 +17,7 @@ use std::marker::Model;
 
 /// What is needed to read the body of a rows event: the event's type, and the post-header lengths
 /// of that type and of `WRITE_ROWS_EVENT`.
-#[derive(Clone, Copy)]
+#[derive(Clone, Copy, Debug)]
 pub struct RowsEventCtx {
     pub event_type: EventType,
     pub post_header_len: u8,

@@ -1,6 +1,6 @@
 //! The plan of the last rows event, kept for later ones.
 
-ghost use Rattle.std.specs.Prelude.{◌≡◌, ◌↔◌, true, Some, None, IsTrue, IfOk, IfErr, IfSome, IfNone, IsSome};
+ghost use Rattle.std.specs.Prelude.{◌≡◌, ◌↔◌, true, false, Some, None, IsTrue, IfOk, IfErr, IfSome, IfNone, IsSome};
 ghost use Rattle.std.specs.Option.{option_map};
 ghost use Rattle.std.specs.Arc.{arc_value};
 ghost use Rattle.std.specs.Rc.{rc_value};
@@ -8,7 +8,7 @@ ghost use Rattle.binlog_base.specs.declared.fault.Fault.TheVariants as Fault;
 ghost use Rattle.binlog_table.specs.TableMap.{TableMap, without_id};
 ghost use Rattle.mysql_binlog_rows.specs.RowsEvent.{RowsEvent as Event, bitmap_length};
 ghost use Rattle.mysql_binlog_rows.specs.RowsEventWritten.{IsRowsEvent};
-ghost use Rattle.mysql_binlog_rows.specs.Rows.{plans_of_events};
+ghost use Rattle.mysql_binlog_rows.specs.Rows.{plans_of_events, made_by};
 ghost use Rattle.mysql_binlog_rows.specs.Workings.Plans.{Reads};
 ghost use Rattle.mysql_binlog_rows.specs.Kept.{Fits, Serves, KeptServes, kept_bytes, told_bytes};
 ghost use Rattle.mysql_binlog_rows.specs.Memory.{in_usize};
@@ -93,6 +93,17 @@ fn copied(alloc: Global, bitmap: Option<&[u8]>) -> Result<Option<Vec<u8>>, Alloc
     }
 }
 
+// Copies a kept bitmap, if there is one.
+fn copied_again(alloc: Global, kept: &Option<Vec<u8>>) -> Result<Option<Vec<u8>>, AllocError>
+    ensures { IfOk result
+        (λ b. option_map (λ b. b.items) b ≡ option_map (λ b. b.items) kept.now) }
+{
+    match kept {
+        None => Ok(None),
+        Some(bytes) => Ok(Some(Vec::from_slice(alloc, bytes)?)),
+    }
+}
+
 // Returns the table map event to keep: the one that is shared, or a copy. Fails if memory is
 // refused.
 fn shared_or_copied(
@@ -116,6 +127,16 @@ fn bitmap_len(kept: &Option<Vec<u8>>) -> usize
     match kept {
         None => 0,
         Some(kept) => kept.len(),
+    }
+}
+
+// Returns plans that were made for an earlier event.
+fn made_before(plans: Rc<Plans>) -> Shared
+    ensures { result ≡ made_by false (rc_value plans) }
+{
+    Shared {
+        plans,
+        is_new: false,
     }
 }
 
@@ -172,6 +193,19 @@ impl Planned {
             && self.plans.has_options() == has_options(event.event_type())
             && is_same(&self.before, event.bitmap_before())
             && is_same(&self.after, event.bitmap_after())
+    }
+
+    // Returns the same plan, which shares the table map event, and how the images are read.
+    fn share(&self, alloc: Global) -> Result<Planned, AllocError>
+        ensures { IfOk result (λ p. p ≡ self.now) }
+    {
+        Ok(Planned {
+            table: self.table.clone()?,
+            num_columns: self.num_columns,
+            before: copied_again(alloc, &self.before)?,
+            after: copied_again(alloc, &self.after)?,
+            plans: self.plans.clone()?,
+        })
     }
 
     // Returns how many bytes the bitmaps take, and the names of the database and the table.
@@ -233,6 +267,26 @@ impl KeptPlan {
         match &self.last {
             None => None,
             Some(planned) => Some(&planned.table),
+        }
+    }
+
+    /// Returns the plan that is kept, to be kept elsewhere too, if it serves these events; `None` if it
+    /// doesn't. Both share the table map event, and how the images are read. Fails if memory is refused.
+    pub fn share_if_served(
+        &self,
+        alloc: Global,
+        table: &TableMapEvent<'_>,
+        event: &RowsEvent<'_>,
+    ) -> Result<Option<KeptPlan>, AllocError>
+        ensures same { IfOk result (λ o. IfSome o (λ k. k ≡ self.now)) }
+        ensures serves { IfOk result (λ o. IsSome o ↔ KeptServes self.now table.now event.now) }
+    {
+        match &self.last {
+            Some(planned) if planned.serves(table, event) => {
+                let last = Some(planned.share(alloc)?);
+                Ok(Some(KeptPlan { last }))
+            }
+            _ => Ok(None),
         }
     }
 
@@ -448,10 +502,7 @@ impl<'a> RowsEvent<'a> {
             None => Ok(None),
             Some(plans) => {
                 let plans = plans.clone()?;
-                let shared = Shared {
-                    plans,
-                    is_new: false,
-                };
+                let shared = made_before(plans);
                 Ok(Some(RowsEventRows::by_plans(alloc, rows_data, shared)))
             }
         }
@@ -479,10 +530,7 @@ impl<'a> RowsEvent<'a> {
             None => Ok(None),
             Some(plans) => {
                 let plans = plans.clone()?;
-                let shared = Shared {
-                    plans,
-                    is_new: false,
-                };
+                let shared = made_before(plans);
                 Ok(Some(RowsEventRows::by_plans(alloc, rows_data, shared)))
             }
         }

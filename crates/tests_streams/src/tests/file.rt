@@ -1,9 +1,10 @@
 //! Tests of binlog files.
 
-use super::{TWO_COLUMNS, TWO_ROWS};
+use super::{TWO_COLUMNS, TWO_ROWS, all};
 use binlog_base::below::{Counted, Failed, Source};
 use binlog_base::fault::Fault;
 use binlog_consts::consts::EventType;
+use binlog_file::change::Change;
 use binlog_file::changes::{ChangeList, FileChanges, changes};
 use binlog_file::choice::{AllRows, Choice};
 use binlog_file::crc::crc32;
@@ -90,11 +91,17 @@ pub(super) fn with_rows(
 fn are(list: &ChangeList<'_>, pairs: &[usize], error: Option<FileError>) -> bool {
     list.error == error
         && list.changes.len() == pairs.len()
-        && list
-            .changes
-            .iter()
-            .zip(pairs)
-            .all(|(change, count)| change.pairs().len() == *count)
+        && list.changes.iter().zip(pairs).all(|(change, count)| is_of_two_columns(change)
+            && change.pairs().len() == *count)
+}
+
+/// Whether the change is of a table of two columns, and from its position.
+fn is_of_two_columns(change: &Change<'_>) -> bool {
+    all(&[
+        change.origin().position == change.position(),
+        change.table().table_id() == change.rows().table_id(),
+        change.table().columns_count() == 2,
+    ])
 }
 
 /// Whether the changes of a file have so many pairs each, and no error follows them.

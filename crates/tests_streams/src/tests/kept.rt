@@ -1,12 +1,19 @@
 //! Tests of plans that are kept for later events.
 
+use super::file::{begun, push};
 use super::{TWO_ROWS, UPDATED, read};
-use binlog_base::below::{ParseBuf, Server};
+use binlog_base::below::{Counted, ParseBuf, Server, Value};
 use binlog_base::fault::Fault;
 use binlog_consts::consts::EventType;
+use binlog_file::changes::FileChanges;
+use binlog_file::choice::AllRows;
+use binlog_file::error::{EventError, FileError};
+use binlog_file::file::BinlogFile;
+use binlog_file::source_changes::SourceChanges;
 use binlog_table::table_map::TableMapEvent;
-use mysql_binlog_rows::rows_event::{KeptPlan, RowsEvent, pairs_by_shared};
-use std::alloc::Global;
+use mysql_binlog_rows::rows_event::{KeptPlan, RowPair, RowsEvent, pairs_by_shared};
+use mysql_binlog_rows::value::BinlogValue;
+use std::alloc::{AllocError, Global};
 use std::sync::Arc;
 use std::test::Fail;
 
@@ -303,5 +310,179 @@ fn table_shared(rt: HostRuntime) -> Result<(), Fail> {
     // Room for two columns, the names a and b, d and t, and a bitmap of one byte.
     let bytes = 512 + 1 + 4 * 2 + 192 + 2 * 68 + 2 * 2;
     assert!(rt; (read, empty, kept.bytes()) == ((true, 0), 0, bytes));
+    Ok(())
+}
+
+/// An inserted row of both columns, of which the first has all bits set.
+const BOTH_COLUMNS: &[u8] = b"\x01\0\0\0\0\0\x00\0\x02\0\x02\x03\0\xff\xff\xff\xff\x02ab";
+
+/// The same of the first column alone, which doesn't end its statement.
+const FIRST_ALONE: &[u8] = b"\x01\0\0\0\0\0\x00\0\x02\0\x02\x01\0\xff\xff\xff\xff";
+
+/// Table map events of one table id, and the bodies of the rows events after each, all in one statement.
+const TURNS: &[(&[u8], &[&[u8]])] = &[
+    (UNSIGNED, &[FIRST_ALONE, FIRST_ALONE, FIRST_ALONE]),
+    (SIGNED, &[FIRST_ALONE, FIRST_ALONE]),
+    (
+        UNSIGNED,
+        &[
+            FIRST_ALONE,
+            BOTH_COLUMNS,
+            FIRST_ALONE,
+            BOTH_COLUMNS,
+            FIRST_ALONE,
+        ],
+    ),
+    (SIGNED, &[BOTH_COLUMNS, FIRST_ALONE]),
+];
+
+/// The first value of the row of each of these rows events: all bits of an INT, with a sign or without.
+const FIRST_VALUES: &[i64] = &[
+    0xffff_ffff,
+    0xffff_ffff,
+    0xffff_ffff,
+    -1,
+    -1,
+    0xffff_ffff,
+    0xffff_ffff,
+    0xffff_ffff,
+    0xffff_ffff,
+    0xffff_ffff,
+    -1,
+    -1,
+];
+
+/// Appends a table map event, and rows events of its table.
+fn push_turn(file: &mut Vec<u8>, table: &[u8], bodies: &[&[u8]]) -> Result<(), AllocError> {
+    push(file, 0x13, 0, table, false)?;
+    for body in bodies {
+        push(file, 0x1e, 0, *body, false)?;
+    }
+    Ok(())
+}
+
+/// Returns whether there is one row, whose first value is this number.
+fn is_row_of(pairs: &[RowPair], number: i64) -> bool {
+    let Some((None, Some(row))) = pairs.first() else {
+        return false;
+    };
+    match row.as_ref(0) {
+        Some(BinlogValue::Value(value)) => pairs.len() == 1 && *value == Value::Int(number),
+        _ => false,
+    }
+}
+
+/// Returns how many changes of a file in memory have their first value.
+fn right_in_memory(alloc: Global, file: &[u8]) -> Result<usize, FileError> {
+    let mut right: usize = 0;
+    let mut values = FIRST_VALUES.iter();
+    for change in FileChanges::new(alloc, file, AllRows)? {
+        let number = values.next().copied().unwrap_or(0);
+        if is_row_of(change?.pairs(), number) {
+            right = right.saturating_add(1);
+        }
+    }
+    Ok(right)
+}
+
+/// Returns how many changes of a file over a reader have their first value.
+fn right_over_a_reader(alloc: Global, file: &[u8]) -> Result<usize, FileError> {
+    let mut right: usize = 0;
+    let mut values = FIRST_VALUES.iter();
+    let source = BinlogFile::new(alloc, Counted::new(file))?;
+    for change in SourceChanges::new(alloc, source, AllRows) {
+        let number = values.next().copied().unwrap_or(0);
+        if is_row_of(change?.pairs(), number) {
+            right = right.saturating_add(1);
+        }
+    }
+    Ok(right)
+}
+
+#[test]
+fn one_table_id_by_turns(rt: HostRuntime) -> Result<(), Fail> {
+    let alloc = rt.alloc();
+    let mut file = begun(alloc, false)?;
+    for (table, bodies) in TURNS {
+        push_turn(&mut file, *table, *bodies)?;
+    }
+    assert!(rt; right_in_memory(alloc, &file)? == FIRST_VALUES.len());
+    assert!(rt; right_over_a_reader(alloc, &file)? == FIRST_VALUES.len());
+    Ok(())
+}
+
+/// A row of both columns of the table with another id.
+const OTHER_TABLE: &[u8] = b"\x02\0\0\0\0\0\x00\0\x02\0\x02\x03\0\xff\xff\xff\xff\x02ab";
+
+/// The body of MySQL's rows event that only ends a statement.
+const DUMMY: &[u8] = b"\xff\xff\xff\0\0\0\x01\0\x02\0\0";
+
+/// Returns the error that ends the changes of a file, and how many come before it, in memory.
+fn end_in_memory(alloc: Global, file: &[u8]) -> Result<(usize, Option<EventError>), FileError> {
+    let mut count: usize = 0;
+    for change in FileChanges::new(alloc, file, AllRows)? {
+        match change {
+            Ok(_) => count = count.saturating_add(1),
+            Err(error) => return Ok((count, Some(error.error))),
+        }
+    }
+    Ok((count, None))
+}
+
+/// The same over a reader.
+fn end_over_a_reader(alloc: Global, file: &[u8]) -> Result<(usize, Option<EventError>), FileError> {
+    let mut count: usize = 0;
+    let source = BinlogFile::new(alloc, Counted::new(file))?;
+    for change in SourceChanges::new(alloc, source, AllRows) {
+        match change {
+            Ok(_) => count = count.saturating_add(1),
+            Err(error) => return Ok((count, Some(error.error))),
+        }
+    }
+    Ok((count, None))
+}
+
+#[test]
+fn a_table_that_is_in_force_no_more(rt: HostRuntime) -> Result<(), Fail> {
+    let alloc = rt.alloc();
+    // An event of a table that never was in force, and one after the end of the statement.
+    for (body, table_id) in [(OTHER_TABLE, 2), (FIRST_ALONE, 1)] {
+        let mut file = begun(alloc, false)?;
+        push_turn(
+            &mut file,
+            UNSIGNED,
+            &[FIRST_ALONE, FIRST_ALONE, FIRST_ALONE],
+        )?;
+        if table_id == 1 {
+            push(&mut file, 0x1e, 0, DUMMY, false)?;
+        }
+        push(&mut file, 0x1e, 0, body, false)?;
+        let unknown = (3, Some(EventError::UnknownTable(table_id)));
+        assert!(rt; end_in_memory(alloc, &file)? == unknown);
+        assert!(rt; end_over_a_reader(alloc, &file)? == unknown);
+    }
+    Ok(())
+}
+
+#[test]
+fn two_tables_by_turns(rt: HostRuntime) -> Result<(), Fail> {
+    let alloc = rt.alloc();
+    let mut file = begun(alloc, false)?;
+    push_turn(
+        &mut file,
+        UNSIGNED,
+        &[FIRST_ALONE, FIRST_ALONE, FIRST_ALONE],
+    )?;
+    let bodies = [
+        OTHER_TABLE,
+        FIRST_ALONE,
+        OTHER_TABLE,
+        OTHER_TABLE,
+        OTHER_TABLE,
+        BOTH_COLUMNS,
+    ];
+    push_turn(&mut file, SAME_TABLE, &bodies)?;
+    assert!(rt; end_in_memory(alloc, &file)? == (9, None));
+    assert!(rt; end_over_a_reader(alloc, &file)? == (9, None));
     Ok(())
 }

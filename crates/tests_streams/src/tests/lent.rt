@@ -16,7 +16,7 @@ use std::alloc::{AllocError, Global};
 use std::test::Fail;
 
 /// A file of two rows events, whose first one has a fault in its second row.
-fn with_a_fault(alloc: Global) -> Result<Vec<u8>, AllocError> {
+pub(super) fn with_a_fault(alloc: Global) -> Result<Vec<u8>, AllocError> {
     let mut file = begun(alloc, true)?;
     push(&mut file, 0x13, 0, TWO_COLUMNS, true)?;
     push(
@@ -130,5 +130,68 @@ fn events_that_are_asked_for(rt: HostRuntime) -> Result<(), Fail> {
     file.truncate(file.len().saturating_sub(1));
     assert!(rt; asked(alloc, &file, &[])? == ['r', 'f', '-', '-', '-']);
     assert!(rt; asked_of_a_source(alloc, &file, &[])? == ['r', 'f', '-', '-', '-']);
+    Ok(())
+}
+
+/// Whether each event of a file begins where the reading was, and as many events are there.
+fn begin_at_positions(alloc: Global, file: &[u8], count: usize) -> Result<bool, FileError> {
+    let mut lent = FileChanges::new(alloc, file, AllRows)?;
+    for _ in 0..count {
+        let from = lent.position();
+        let position = match lent.next_event() {
+            Some(Ok(LentEvent::Rows(change))) => change.position(),
+            Some(Ok(LentEvent::Other(event))) => event.position(),
+            _ => return Ok(false),
+        };
+        if position != from {
+            return Ok(false);
+        }
+    }
+    Ok(lent.next_event().is_none() && lent.position() == file.len() as u64)
+}
+
+#[test]
+fn positions_of_events(rt: HostRuntime) -> Result<(), Fail> {
+    let alloc = rt.alloc();
+    let file = with_rows(alloc, true, &[0, 1])?;
+    assert!(rt; begin_at_positions(alloc, &file, 4)?);
+    Ok(())
+}
+
+/// Returns what the pairs of a change are by its own `next_pair`: `p` for a pair, `f` for an error, `-` for
+/// none.
+fn own_pairs(alloc: Global, mut change: LentChange<'_>) -> [char; 3] {
+    let mut pair = LentPair::new(alloc);
+    let mut kinds = ['?'; 3];
+    for kind in &mut kinds {
+        *kind = match change.next_pair(&mut pair) {
+            None => '-',
+            Some(Err(_)) => 'f',
+            Some(Ok(())) => 'p',
+        };
+    }
+    kinds
+}
+
+/// Returns the same of the next rows event of a reading.
+fn next_own_pairs(
+    alloc: Global,
+    changes: &mut SourceChanges<Counted<&[u8]>, AllRows>,
+) -> [char; 3] {
+    let mut buffer = EventBuffer::new(alloc);
+    match changes.next_event_of(&mut buffer, &[]) {
+        Some(Ok(LentEvent::Rows(change))) => own_pairs(alloc, change),
+        _ => ['?'; 3],
+    }
+}
+
+#[test]
+fn a_fault_that_ends_its_event_alone(rt: HostRuntime) -> Result<(), Fail> {
+    let alloc = rt.alloc();
+    let file = with_a_fault(alloc)?;
+    let file = BinlogFile::new(alloc, Counted::new(file.as_slice()))?;
+    let mut changes = SourceChanges::new(alloc, file, AllRows);
+    assert!(rt; next_own_pairs(alloc, &mut changes) == ['p', 'f', '-']);
+    assert!(rt; next_own_pairs(alloc, &mut changes) == ['p', 'p', '-']);
     Ok(())
 }

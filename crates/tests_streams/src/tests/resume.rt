@@ -1,6 +1,7 @@
 //! Tests of readings that go on after a checkpoint.
 
 use super::file::{push, reads, with_rows};
+use super::lent::with_a_fault;
 use super::{TWO_COLUMNS, TWO_ROWS};
 use binlog_base::below::Source;
 use binlog_file::changes::changes;
@@ -104,6 +105,61 @@ fn readings_go_on(rt: HostRuntime) -> Result<(), Fail> {
             assert!(rt; goes_on(alloc, &file, after)?);
         }
     }
+    Ok(())
+}
+
+/// Returns how many changes a reading gives before its end, or before an error. It has at most eight.
+fn count_all<S: Source + Drop>(reading: &mut SourceChanges<S, AllRows>) -> usize {
+    let mut count: usize = 0;
+    for _ in 0..9 {
+        if let Some(Ok(_)) = reading.next() {
+            count = count.saturating_add(1);
+        }
+    }
+    count
+}
+
+/// Whether a file that is read while it has this length, and then from there on, gives the changes of the
+/// whole file.
+fn grows(alloc: Global, file: &[u8], len: usize) -> Result<bool, Fail> {
+    let begun = BinlogFile::new(alloc, file.get(..len).unwrap_or(&[]))?;
+    let mut reading = SourceChanges::new(alloc, begun, AllRows);
+    let count = count_all(&mut reading);
+    let position = reading.reader().position();
+    let left = file
+        .get(usize::try_from(position).unwrap_or(0)..)
+        .unwrap_or(&[]);
+    let list = changes(alloc, file, AllRows)?;
+    match reading.reader().checkpoint(alloc)? {
+        Some(checkpoint) => {
+            Ok(
+                count == count_before(&list, position)
+                    && gives_rest(alloc, file, left, &checkpoint, position)?,
+            )
+        }
+        None => Ok(false),
+    }
+}
+
+#[test]
+fn files_that_grow(rt: HostRuntime) -> Result<(), Fail> {
+    let alloc = rt.alloc();
+    let file = two_statements(alloc, true)?;
+    for len in 4..file.len() {
+        assert!(rt; grows(alloc, &file, len)?);
+    }
+    assert!(rt; grows(alloc, &file, file.len())?);
+    Ok(())
+}
+
+#[test]
+fn no_checkpoint_after_a_fault(rt: HostRuntime) -> Result<(), Fail> {
+    let alloc = rt.alloc();
+    let file = with_a_fault(alloc)?;
+    let begun = BinlogFile::new(alloc, file.as_slice())?;
+    let mut reading = SourceChanges::new(alloc, begun, AllRows);
+    assert!(rt; count_all(&mut reading) == 1);
+    assert!(rt; reading.reader().checkpoint(alloc)?.is_none());
     Ok(())
 }
 

@@ -2,7 +2,7 @@ use Rattle.std.proofs.Common.{◌≡◌, ℕ, None, refl, sym, ap, ◌∙◌, ru
 use Rattle.binlog_file.specs.Events.{Glance}
 use Rattle.binlog_file.specs.Tables.{InForce}
 use Rattle.binlog_file.specs.TableMaps.{held_by}
-use Rattle.binlog_file.specs.Changes.{Gives, EventGives, IsMemory, at_position}
+use Rattle.binlog_file.specs.Changes.{Gives, EventGives, IsMemory, TakeGives, at_position, spot}
 use Rattle.binlog_file.proofs.Followed.{event_taken, nothing_taken}
 use Rattle.binlog_file.proofs.changes.take_glance.Goals as goal
 
@@ -13,9 +13,10 @@ returns-in-Ok-clause-takes g c = λ e p s is gives kept.
     let t = held_by c.args.walk.now.tables in
     let there = subst (λ (x : Glance). Gives w t.tables x.origin x.rows x.body c.in-Ok.given) is c.in-Ok.ensures.given in
     let here = subst (λ (u : InForce). EventGives w u.tables e c.in-Ok.given) kept there in
-    event_taken IsMemory w s t p q q e c.in-Ok.given _ c.at_position-walk.result gives here kept c.into_parts-change.ensures.change
+    let taken = event_taken IsMemory w s t p q q e c.in-Ok.given c.into_parts-change.result.0 c.at_position-walk.result gives here kept c.into_parts-change.ensures.change
     (c.at_position-walk.ensures ∙ ap (λ (n : ℕ). at_position n c.into_parts-change.result.1) (ap (λ (x : Glance). x.origin.position) (c.glance.view_is ∙ is)) ∙ ap (at_position e.position) c.into_parts-change.ensures.error)
-    (λ _. refl)
+    (λ _. refl) in
+    subst (λ (u : InForce). TakeGives IsMemory w (spot p s None) c.into_parts-change.result.0 (spot q u c.at_position-walk.result)) (sym c.in-Ok.ensures.held) taken
 
 pub returns-then-is_none-clause-takes : goal.returns-then-is_none-clause-takes
 returns-then-is_none-clause-takes g c = λ e p s is gives kept.

@@ -6,7 +6,7 @@ use Rattle.binlog_file.specs.Description.{Description}
 use Rattle.binlog_file.specs.Events.{Raw, Glance, event_of_raw}
 use Rattle.binlog_file.specs.Tables.{InForce}
 use Rattle.binlog_file.specs.Workings.TableBodies.{event_with, LeavesTable}
-use Rattle.binlog_file.specs.Stream.{Kept, kept, kept_after, IsNotReader}
+use Rattle.binlog_file.specs.Stream.{Kept, kept, kept_after, HasBytes}
 use Rattle.binlog_file.specs.Workings.Taken.{TakesRaw}
 use Rattle.binlog_file.specs.Workings.Readers.{kept_by}
 use Rattle.binlog_file.specs.TableMaps.{held_by}
@@ -50,7 +50,7 @@ returns-in_err-table-clause-error c =
     let k = kept_by c.args.kept.now in
     let e = c.in_err-table.field-0.0 in
     let left = subst (λ (d : Option Description). LeavesTable (event_of_raw k.at d c.args.raw.now) (Ok c.in_ok-event.event)) c.lend-in_force.ensures c.in_ok-event.ensures.leaves in
-    let other : IsNotReader e = elim c.in_err-table.ensures.err [
+    let other : HasBytes e = elim c.in_err-table.ensures.err [
       | inl memory ↦ memory_error e memory
       | inr refused ↦ event_error k.at k.description c.args.raw.now e (left.1 e refused)
     ] in

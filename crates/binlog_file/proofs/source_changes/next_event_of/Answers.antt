@@ -6,7 +6,9 @@ use Rattle.binlog_file.specs.Events.{Glance}
 use Rattle.binlog_file.specs.Stream.{ReaderGlances}
 use Rattle.binlog_file.specs.Workings.Readers.{item_in}
 use Rattle.binlog_file.specs.Workings.SourceWalks.{reading_in, kept_in}
-use Rattle.binlog_file.specs.SourceChanges.{SourceAsked}
+use Rattle.std.specs.Prelude.{IfOk}
+use Rattle.binlog_file.proofs.KeptOn.{lost_asked}
+use Rattle.binlog_file.specs.SourceChanges.{SourceAsked, lost_by}
 use Rattle.binlog_file.specs.Asked.{is_asked}
 use Rattle.binlog_file.specs.Workings.AskedGlances.{SourceSights}
 use Rattle.binlog_file.proofs.SourceLent.{source_glanced}
@@ -48,3 +50,9 @@ returns-in-Err-clause-event g c =
     let new = g.S.Source.remaining c.pass_over.new.source in
     subst (λ (i : Result Sighting FileError). SourceSights c.args.types.now old (reading_in c.args.walk.now) c.args.walk.now.pending (item_in c.pass_over.new.buffer (Some i)) new (reading_in c.pass_over.new.walk) c.pass_over.new.walk.pending) c.in-Err.is c.in_ok-sighting.ensures.sights
     (g.C.Choice.wanted c.args.choice.now)
+
+pub returns-in-Ok-clause-lost : goal.returns-in-Ok-clause-lost
+returns-in-Ok-clause-lost g c =
+    let passed = subst (λ (i : Result Sighting FileError). IfOk i (λ _. (c.args.walk.now.pending ≡ None) × (c.pass_over.new.walk.pending ≡ None))) c.in-Ok.is c.in_ok-sighting.ensures.pending in
+    let lost = subst (λ (i : Result Sighting FileError). c.pass_over.new.walk.reader.is_lost ≡ lost_by c.args.walk.now.pending c.args.walk.now.reader.is_lost (Some i) c.pass_over.new.walk.pending) c.in-Ok.is c.in_ok-sighting.ensures.lost in
+    lost_asked c.args.walk.now.pending c.pass_over.new.walk.pending c.show_event.new.walk.pending c.args.walk.now.reader.is_lost c.pass_over.new.walk.reader.is_lost c.show_event.new.walk.reader.is_lost c.in-Ok.sighting c.show_event.result passed.0 passed.1 c.show_event.ensures.pending lost c.show_event.ensures.lost

@@ -5,12 +5,13 @@ use Rattle.binlog_file.specs.declared.sighting.Sighting.{Sighting}
 use Rattle.binlog_file.specs.Stream.{MayGoOn, ReaderGlances}
 use Rattle.binlog_file.specs.Workings.Readers.{reading_of, glance_in, item_in}
 use Rattle.binlog_file.specs.Workings.SourceWalks.{reading_in}
-use Rattle.binlog_file.specs.SourceChanges.{SourcePasses}
+use Rattle.binlog_file.specs.SourceChanges.{SourcePasses, here}
 use Rattle.binlog_file.specs.Asked.{is_asked}
 use Rattle.binlog_file.specs.Workings.AskedGlances.{SourceSights}
 use Rattle.binlog_file.proofs.SourceFollowed.{fewer_turns_after}
 use Rattle.binlog_file.proofs.SourceLent.{source_ended, source_refused, source_over, source_pending, fewer_left}
 use Rattle.binlog_file.proofs.SourceAsked.{none_passed, one_passed, asked_after}
+use Rattle.binlog_file.proofs.KeptOn.{one_read, more_read, still_on}
 use Rattle.binlog_file.proofs.source_changes.pass_over.Goals as goal
 
 pub loop-walk-init : goal.loop-walk-init
@@ -19,6 +20,9 @@ loop-walk-init g c = record {
   most = omega arith;
   bound = refl;
   pending = refl;
+  keeps = here;
+  over = refl;
+  lost = refl;
   counts = refl;
 }
 
@@ -42,6 +46,18 @@ returns-then-is_asked-clause-sights g c =
       },
       on.0,
     )
+
+pub returns-then-is_asked-clause-keeps : goal.returns-then-is_asked-clause-keeps
+returns-then-is_asked-clause-keeps g c =
+    let old = g.S.Source.remaining c.args.source.now in
+    let mid = g.S.Source.remaining c.loop-walk.source in
+    let new = g.S.Source.remaining c.sight.new.source in
+    let r = reading_in c.args.walk.now in
+    let m = reading_in c.loop-walk.walk in
+    let s = reading_of c.sight.new.self in
+    let b = c.sight.new.buffer in
+    let gives = subst (λ (o : Option Sighting). ReaderGlances mid m (Ok (option_map (glance_in b) o)) new s) c.in-Ok-Some.field-0-is c.in-Ok-Some.ensures.gives in
+    more_read old mid r.kept m.kept new s.kept c.loop-walk.invariant.keeps (one_read mid new m s (glance_in b c.in-Ok-Some.sighting) gives)
 
 pub returns-then-is_asked-clause-fewer : goal.returns-then-is_asked-clause-fewer
 returns-then-is_asked-clause-fewer g c = λ some.
@@ -88,6 +104,9 @@ loop-walk-preserved g c =
       most = omega (arith, fewer_left mid new m s s pending pending glance on.1 on.0 gives refl refl, c.loop-walk.invariant.most);
       bound = search rules;
       pending = c.loop-walk.invariant.pending;
+      keeps = more_read old mid r.kept m.kept new s.kept c.loop-walk.invariant.keeps (one_read mid new m s glance gives);
+      over = still_on mid new m s glance gives ∙ sym on.1.0 ∙ c.loop-walk.invariant.over;
+      lost = gives.lost ∙ c.loop-walk.invariant.lost;
       counts = c.in-Ok-Some.ensures.counts ∙ c.loop-walk.invariant.counts;
     }
 

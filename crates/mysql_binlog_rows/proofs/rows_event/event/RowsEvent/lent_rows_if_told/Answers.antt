@@ -10,4 +10,5 @@ returns-in_ok-plans-in-Some-clause-reads c =
     let e = c.args.self.now in
     let kept : Reads t e c.in-Some.plans.now.value.plans = c.in-Some.ensures.serves.1 in
     let same : Reads t e c.in_ok-plans-in-Some.plans.value.plans = subst (λ (m : Made). Reads t e m.plans) (sym c.in_ok-plans-in-Some.ensures.cases) kept in
-    subst (λ (r : Rows). Reads t e r.plans) (sym c.by_plans.ensures) (made_reads false c.in_ok-plans-in-Some.plans.value t e same)
+    let made : Reads t e c.made_before-shared.result.plans = subst (λ (m : Made). Reads t e m.plans) (sym c.made_before-shared.ensures) (made_reads false c.in_ok-plans-in-Some.plans.value t e same) in
+    subst (λ (r : Rows). Reads t e r.plans) (sym c.by_plans.ensures) made

@@ -248,6 +248,19 @@ write("two_tables", *first, *second)
 unknown = bytearray(first[0][1])
 unknown[22] = 140
 write("unknown_type", (0x13, unknown), first[1], *second)
+# Of three events of a table of a number the second has two rows and a part of one; and of a table of a document the second has a row whose
+# document has a fault inside, where lines of text and numbers of rows don't look.
+rows = lambda *parts: (0x17, bytes([18]) + bytes(5) + b"\1\0\1\1" + b"".join(parts))
+number = lambda n: b"\xfe" + struct.pack("<I", n)
+whole = (0x13, bytes([18]) + bytes(5) + b"\1\0\4shop\0" + counted([b"t"]) + b"\0\1\3\0\0" + field(4, counted([b"id"])))
+faulty = rows(number(8), number(9), b"\xfe\1\2")
+write("faulty", whole, rows(number(7)), whole, faulty, whole, rows(number(10)))
+write("unknown_table", whole, rows(number(7)), rows(number(8)))
+document = lambda value: b"\xfe" + struct.pack("<I", len(value)) + value
+json = (0x13, bytes([18]) + bytes(5) + b"\1\0\4shop\0" + counted([b"j"]) + b"\0\1\xf5\1\4\1" + field(4, counted([b"doc"])))
+inside = b"\2" + struct.pack("<HHBH", 1, 7, 12, 100)
+plain = b"\5" + struct.pack("<h", 1)
+write("faulty_document", json, rows(document(plain)), json, rows(document(plain), document(inside), document(plain)), json, rows(document(plain)))
 with open("two_descriptions", "wb") as out:
     file = File(out, None)
     for event in first:
@@ -303,6 +316,27 @@ lines_of 0 1 '"table":"items1"' '' --table 'shop.*' --exclude-table 'shop.item?'
 lines_of 0 1 'shop.items1' '' --text --database shop --exclude-table '*.items' unknown_type
 lines_of 0 3 '           1            0            0  shop.items1' '' --count --exclude-table shop.items unknown_type
 lines_of 0 0 - '' --exclude-database shop --table shop.items unknown_type
+
+# An event with a faulty row is skipped from that row on, where such events are: each is told, with its table and the row's number.
+fault="faulty at 392: row 2 of shop.t can't be read: "
+lines_of 1 3 '"row":1' "changes: $fault" faulty
+lines_of 1 4 '"after":{"id":10}' "changes: $fault" --skip-faulty faulty
+lines_of 1 4 'faulty:392 shop.t - -> {id=9}' "changes: $fault" --text --skip-faulty faulty
+lines_of 1 3 '           3            0            0  shop.t' "changes: $fault" --count faulty
+lines_of 1 3 '           4            0            0  shop.t' "changes: $fault" --count --skip-faulty faulty
+lines_of 1 4 '"after":{"id":10}' "changes: $fault" --skip-faulty --quiet faulty
+lines_of 0 0 - - --skip-faulty --quiet --op d faulty
+lines_of 1 37 '"pos":964' "changes: $fault" faulty f
+lines_of 1 38 '"pos":964' "changes: $fault" --skip-faulty faulty f
+lines_of 0 34 '"pos":964' '' --skip-faulty f
+fault="faulty_document at 399: row 1 of shop.j can't be read: "
+lines_of 1 2 '"after":{"doc":1}' "changes: $fault" faulty_document
+lines_of 1 3 '"after":{"doc":1}' "changes: $fault" --skip-faulty faulty_document
+lines_of 0 5 '' '' --text --skip-faulty faulty_document
+lines_of 0 3 '           5            0            0  shop.j' '' --count --skip-faulty faulty_document
+# Another error ends its file, and the next one is read.
+lines_of 1 1 '"after":{"id":7}' 'unknown table 18' --skip-faulty unknown_table
+lines_of 1 35 '"pos":964' 'unknown table 18' --skip-faulty unknown_table f
 
 # The output waits for three seconds, and so what is told of progress comes.
 python3 "$here/scripts/make_file.py" 2000 many single >/dev/null || exit 2

@@ -48,9 +48,9 @@ counted_same c o name n m is named so_many =
     ap (λ (p : Option Operation). counted_by p name n) is ∙ ap (λ (q : Name). counted_by (operation_of c.rows.event_type) q n) named ∙ ap (λ (k : ℕ). counted_by (operation_of c.rows.event_type) (c.table.database, c.table.table) k) so_many
 
 -- all rows of an event were counted
-pub event_rows : (c : LentChange) (o : Option Operation) (name : Name) (n : ℕ) (a b : Counts) → o ≡ operation_of c.rows.event_type → name ≡ (c.table.database, c.table.table) → CountsMore (counted_by o name n) a b
-    → (ps : List Pair) × Covers (pair c.table c.rows) c.left ps None × (n ≡ up_to_most (length ps)) → CountsThese (AreEventRows (lent.Rows c)) a b
-event_rows c o name n a b is named more h = (counted_by o name n, (h.0, h.1, counted_same c o name n (length h.0) is named h.2), more)
+pub event_rows : (skips : Bool) (c : LentChange) (o : Option Operation) (name : Name) (n : ℕ) (a b : Counts) → o ≡ operation_of c.rows.event_type → name ≡ (c.table.database, c.table.table) → CountsMore (counted_by o name n) a b
+    → (ps : List Pair) × Covers (pair c.table c.rows) c.left ps None × (n ≡ up_to_most (length ps)) → CountsThese (AreEventRows skips (lent.Rows c)) a b
+event_rows skips c o name n a b is named more h = (counted_by o name n, inl (h.0, h.1, counted_same c o name n (length h.0) is named h.2), more)
 
 -- the first rows of an event were counted
 pub first_rows : (c : LentChange) (o : Option Operation) (name : Name) (n : ℕ) (a b : Counts) (why : Failure) → o ≡ operation_of c.rows.event_type → name ≡ (c.table.database, c.table.table) → CountsMore (counted_by o name n) a b
@@ -59,65 +59,65 @@ first_rows c o name n a b why is named more h = (counted_by o name n, inr (h.0, 
 
 -- ---- events, one after the other
 
-event_counted : (wanted : Wanted) (old : Spot) (es : List Event) (xs : List Counted) (mid : Spot) (e : Event) (new : Spot) (x : LentEvent) (ys : List Counted)
-    → AreCounted wanted old es xs mid → GoesPast mid e new → Shows wanted new.in_force.tables (glance_of e) x → AreEventRows x ys → AreCounted wanted old (es ++ e ∷ []) (xs ++ ys) new
-event_counted wanted old [] xs mid e new x ys h past shows rows =
+event_counted : (skips : Bool) (wanted : Wanted) (old : Spot) (es : List Event) (xs : List Counted) (mid : Spot) (e : Event) (new : Spot) (x : LentEvent) (ys : List Counted)
+    → AreCounted skips wanted old es xs mid → GoesPast mid e new → Shows wanted new.in_force.tables (glance_of e) x → AreEventRows skips x ys → AreCounted skips wanted old (es ++ e ∷ []) (xs ++ ys) new
+event_counted skips wanted old [] xs mid e new x ys h past shows rows =
     (new, subst (λ (s : Spot). GoesPast s e new) h.0 past, x, shows, ys, [], rows, (refl, refl), ap (λ (l : List Counted). l ++ ys) h.1 ∙ sym (append-nil ys))
-event_counted wanted old (d ∷ es) xs mid e new x ys h past shows rows =
-    (h.0, h.1, h.2, h.3, h.4, h.5 ++ ys, h.6, event_counted wanted h.0 es h.5 mid e new x ys h.7 past shows rows, ap (λ (l : List Counted). l ++ ys) h.8 ∙ append_assoc h.4 h.5 ys)
+event_counted skips wanted old (d ∷ es) xs mid e new x ys h past shows rows =
+    (h.0, h.1, h.2, h.3, h.4, h.5 ++ ys, h.6, event_counted skips wanted h.0 es h.5 mid e new x ys h.7 past shows rows, ap (λ (l : List Counted). l ++ ys) h.8 ∙ append_assoc h.4 h.5 ys)
 
-over_counted : (wanted : Wanted) (from : Spot) (es : List Event) (xs : List Counted) (mid : Spot) (n : ℕ) (new : Spot) → AreCounted wanted from es xs mid → PassesOver seen_types n mid new → (ds : List Event) × AreCounted wanted from ds xs new
-over_counted wanted from es xs mid zero new counted same = (es, subst (λ (s : Spot). AreCounted wanted from es xs s) (sym same) counted)
-over_counted wanted from es xs mid (suc n) new counted h =
-    let before = over_counted wanted from es xs mid n h.0 counted h.1 in
+over_counted : (skips : Bool) (wanted : Wanted) (from : Spot) (es : List Event) (xs : List Counted) (mid : Spot) (n : ℕ) (new : Spot) → AreCounted skips wanted from es xs mid → PassesOver seen_types n mid new → (ds : List Event) × AreCounted skips wanted from ds xs new
+over_counted skips wanted from es xs mid zero new counted same = (es, subst (λ (s : Spot). AreCounted skips wanted from es xs s) (sym same) counted)
+over_counted skips wanted from es xs mid (suc n) new counted h =
+    let before = over_counted skips wanted from es xs mid n h.0 counted h.1 in
     let e = h.2.0 in
     let ds = before.0 ++ e ∷ [] in
-    let more = event_counted wanted from before.0 xs h.0 e new (lent.Other (other_of (glance_of e))) [] before.1 h.2.1 (passed_shows wanted seen_types h.0 new h.2) refl in
-    (ds, subst (λ (l : List Counted). AreCounted wanted from ds l new) (append-nil xs) more)
+    let more = event_counted skips wanted from before.0 xs h.0 e new (lent.Other (other_of (glance_of e))) [] before.1 h.2.1 (passed_shows wanted seen_types h.0 new h.2) refl in
+    (ds, subst (λ (l : List Counted). AreCounted skips wanted from ds l new) (append-nil xs) more)
 
 -- events that are passed over have no rows that are counted
-passed_counted : (wanted : Wanted) (from : Spot) (es : List Event) (xs : List Counted) (mid : Spot) (is_each : Bool) (new : Spot) → AreCounted wanted from es xs mid → Passes is_each mid new → (ds : List Event) × AreCounted wanted from ds xs new
-passed_counted wanted from es xs mid true new counted same = (es, subst (λ (s : Spot). AreCounted wanted from es xs s) (sym same) counted)
-passed_counted wanted from es xs mid false new counted passes = over_counted wanted from es xs mid passes.0 new counted passes.1
+passed_counted : (skips : Bool) (wanted : Wanted) (from : Spot) (es : List Event) (xs : List Counted) (mid : Spot) (is_each : Bool) (new : Spot) → AreCounted skips wanted from es xs mid → Passes is_each mid new → (ds : List Event) × AreCounted skips wanted from ds xs new
+passed_counted skips wanted from es xs mid true new counted same = (es, subst (λ (s : Spot). AreCounted skips wanted from es xs s) (sym same) counted)
+passed_counted skips wanted from es xs mid false new counted passes = over_counted skips wanted from es xs mid passes.0 new counted passes.1
 
 -- none is added where each is looked at
-passed_same : (wanted : Wanted) (from : Spot) (es : List Event) (xs : List Counted) (mid : Spot) (is_each : Bool) (new : Spot) (counted : AreCounted wanted from es xs mid) (passes : Passes is_each mid new)
-    → is_each ≡ true → (passed_counted wanted from es xs mid is_each new counted passes).0 ≡ es
+passed_same : (skips : Bool) (wanted : Wanted) (from : Spot) (es : List Event) (xs : List Counted) (mid : Spot) (is_each : Bool) (new : Spot) (counted : AreCounted skips wanted from es xs mid) (passes : Passes is_each mid new)
+    → is_each ≡ true → (passed_counted skips wanted from es xs mid is_each new counted passes).0 ≡ es
 unfolding passed_counted
-passed_same wanted from es xs mid true new counted same each = refl
-passed_same wanted from es xs mid false new counted passes each = absurd cc
+passed_same skips wanted from es xs mid true new counted same each = refl
+passed_same skips wanted from es xs mid false new counted passes each = absurd cc
 
 -- The rows that were counted so far: those of the events from a spot on up to the place of a reading, which
 -- finds these bytes. None of them began at the start position, while an event is looked for there, or after it,
 -- nor at the stop position or after it.
-pub record CountedSoFar (wanted : Wanted) (from : Spot) (old : Counts) (source : Option (List ℕ)) (r : Reading) (pending : Option FileError) (new : Counts) (positions : Positions) (sought : Option ℕ) : Type 0 where
+pub record CountedSoFar (skips : Bool) (wanted : Wanted) (from : Spot) (old : Counts) (source : Option (List ℕ)) (r : Reading) (pending : Option FileError) (new : Counts) (positions : Positions) (sought : Option ℕ) : Type 0 where
   pub goes_on : pending ≡ None
   pub bytes : List ℕ
   pub finds : Finds r source bytes
   pub events : List Event
   pub rows : List Counted
-  pub counted : AreCounted wanted from events rows (spot_at r.kept None bytes)
+  pub counted : AreCounted skips wanted from events rows (spot_at r.kept None bytes)
   pub more : CountsMore rows old new
   pub unseen : IsUnseen sought events
   pub early : IsUnseen positions.stop events
 
-module _ (wanted : Wanted) (from : Spot) (a b : Counts) (old : Option (List ℕ)) (r : Reading) (p : Option FileError) (positions : Positions) (sought : Option ℕ) (h : CountedSoFar wanted from a old r p b positions sought) where
+module _ (skips : Bool) (wanted : Wanted) (from : Spot) (a b : Counts) (old : Option (List ℕ)) (r : Reading) (p : Option FileError) (positions : Positions) (sought : Option ℕ) (h : CountedSoFar skips wanted from a old r p b positions sought) where
   -- the events that were read and then those that were passed over
-  passed : (is_each : Bool) (at : Spot) → Passes is_each (spot_at r.kept p h.bytes) at → (ds : List Event) × AreCounted wanted from ds h.rows at
-  passed is_each at passes = passed_counted wanted from h.events h.rows (spot_at r.kept None h.bytes) is_each at h.counted (subst (λ (o : Option FileError). Passes is_each (spot_at r.kept o h.bytes) at) h.goes_on passes)
+  passed : (is_each : Bool) (at : Spot) → Passes is_each (spot_at r.kept p h.bytes) at → (ds : List Event) × AreCounted skips wanted from ds h.rows at
+  passed is_each at passes = passed_counted skips wanted from h.events h.rows (spot_at r.kept None h.bytes) is_each at h.counted (subst (λ (o : Option FileError). Passes is_each (spot_at r.kept o h.bytes) at) h.goes_on passes)
 
   passed_are : (is_each : Bool) (at : Spot) (passes : Passes is_each (spot_at r.kept p h.bytes) at) → is_each ≡ true → (passed is_each at passes).0 ≡ h.events
   unfolding passed
-  passed_are is_each at passes each = passed_same wanted from h.events h.rows (spot_at r.kept None h.bytes) is_each at h.counted (subst (λ (o : Option FileError). Passes is_each (spot_at r.kept o h.bytes) at) h.goes_on passes) each
+  passed_are is_each at passes each = passed_same skips wanted from h.events h.rows (spot_at r.kept None h.bytes) is_each at h.counted (subst (λ (o : Option FileError). Passes is_each (spot_at r.kept o h.bytes) at) h.goes_on passes) each
 
   -- where events are passed over there is no stop position
   in_time : (is_each : Bool) (at : Spot) → Passes is_each (spot_at r.kept p h.bytes) at → (stop : Option ℕ) → is_before stop r.kept.at ≡ true → (is_each ≡ false → stop ≡ None) → is_before stop at.place.at ≡ true
   in_time is_each at passes stop early whole = still_before is_each stop (spot_at r.kept p h.bytes) at passes early whole
 
   -- one event more was read and counted
-  pub count_step : (is_each : Bool) (x : LentEvent) (source : Option (List ℕ)) (s : Reading) (q : Option FileError) (d : Counts) → SourceNext wanted is_each old r p (Some (Ok x)) source s q → CountsThese (AreEventRows x) b d
+  pub count_step : (is_each : Bool) (x : LentEvent) (source : Option (List ℕ)) (s : Reading) (q : Option FileError) (d : Counts) → SourceNext wanted is_each old r p (Some (Ok x)) source s q → CountsThese (AreEventRows skips x) b d
       → (is_each ≡ false → sought ≡ None) → (is_each ≡ false → positions.stop ≡ None) → is_before positions.stop r.kept.at ≡ true → IsUpTo sought r.kept.at → (next : Option ℕ) → next ≡ start_after sought r.kept.at
-      → CountedSoFar wanted from a source s q d positions next
+      → CountedSoFar skips wanted from a source s q d positions next
   count_step is_each x source s q d gives counts free whole early up_to next goes =
       let m = gives h.bytes h.finds in
       let before = passed is_each m.2 m.3 in
@@ -132,7 +132,7 @@ module _ (wanted : Wanted) (from : Spot) (a b : Counts) (old : Option (List ℕ)
         finds = m.1;
         events = before.0 ++ e ∷ [];
         rows = h.rows ++ counts.0;
-        counted = event_counted wanted from before.0 h.rows m.2 e (spot_at s.kept None m.0) x counts.0 before.1 past m.4.2 counts.1;
+        counted = event_counted skips wanted from before.0 h.rows m.2 e (spot_at s.kept None m.0) x counts.0 before.1 past m.4.2 counts.1;
         more = counts_more h.rows counts.0 a b d h.more counts.2;
         unseen = subst (λ (o : Option ℕ). IsUnseen o (before.0 ++ e ∷ [])) (sym goes) (unseen_next sought r.kept.at m.2.place.at h.events before.0 e is_each h.unseen up_to free there same here);
         early = early_next positions.stop r.kept.at m.2.place.at h.events before.0 e is_each h.early whole there same here early;
@@ -140,7 +140,7 @@ module _ (wanted : Wanted) (from : Spot) (a b : Counts) (old : Option (List ℕ)
 
   -- no event is left
   pub count_ended : (is_each : Bool) (stop : Option ℕ) (source : Option (List ℕ)) (s : Reading) (q : Option FileError) → SourceNext wanted is_each old r p None source s q → (is_each ≡ false → stop ≡ None) → (stop ≡ None) ⊎ (stop ≡ Some r.kept.at)
-      → CountsThese (AreCountedToEnd stop wanted from) a b
+      → CountsThese (AreCountedToEnd skips stop wanted from) a b
   count_ended is_each stop source s q gives whole stops =
       let m = gives h.bytes h.finds in
       let before = passed is_each m.2 m.3 in
@@ -148,7 +148,7 @@ module _ (wanted : Wanted) (from : Spot) (a b : Counts) (old : Option (List ℕ)
       (h.rows, record { events = before.0; end = m.2; counted = before.1; is_end = is_end_at is_each stop (spot_at r.kept None h.bytes) m.2 passes m.4.1 whole stops }, h.more)
 
   -- the stop position is reached
-  pub count_stopped : (stop : Option ℕ) → is_before stop r.kept.at ≡ false → (stop ≡ None) ⊎ (stop ≡ Some r.kept.at) → CountsThese (AreCountedToEnd stop wanted from) a b
+  pub count_stopped : (stop : Option ℕ) → is_before stop r.kept.at ≡ false → (stop ≡ None) ⊎ (stop ≡ Some r.kept.at) → CountsThese (AreCountedToEnd skips stop wanted from) a b
   count_stopped stop past stops =
       let at = spot_at r.kept None h.bytes in
       elim stops [
@@ -157,14 +157,14 @@ module _ (wanted : Wanted) (from : Spot) (a b : Counts) (old : Option (List ℕ)
       ]
 
   -- nothing more was read
-  pub count_failed : (why : Failure) → IsNotOfFile why → IsMissing why positions.stop h.events (spot_at r.kept None h.bytes) → CountsThese (AreFirstCounted why positions.stop wanted from) a b
+  pub count_failed : (why : Failure) → IsNotOfFile why → IsMissing why positions.stop h.events (spot_at r.kept None h.bytes) → CountsThese (AreFirstCounted why skips positions.stop wanted from) a b
   count_failed why not missing =
       let at = spot_at r.kept None h.bytes in
       (h.rows, record { events = h.events; front = h.rows; at = at; rows = []; counted = h.counted; next = inl (refl, not_at_event why wanted at not); in_time = not_late why positions.stop at not; missing = missing; whole = sym (append-nil h.rows) }, h.more)
 
   -- no event is left, and none begins at a position
   pub count_missing : (is_each : Bool) (source : Option (List ℕ)) (s : Reading) (q : Option FileError) → SourceNext wanted is_each old r p None source s q → (is_each ≡ false → sought ≡ None) → (is_each ≡ false → positions.stop ≡ None)
-      → (sought ≡ start_sought positions) ⊎ (sought ≡ None) → (why : Failure) → IsNotOfFile why → Missed why sought positions.stop r.kept.at → CountsThese (AreFirstCounted why positions.stop wanted from) a b
+      → (sought ≡ start_sought positions) ⊎ (sought ≡ None) → (why : Failure) → IsNotOfFile why → Missed why sought positions.stop r.kept.at → CountsThese (AreFirstCounted why skips positions.stop wanted from) a b
   count_missing is_each source s q gives free whole known why not missed =
       let m = gives h.bytes h.finds in
       let before = passed is_each m.2 m.3 in
@@ -174,7 +174,7 @@ module _ (wanted : Wanted) (from : Spot) (a b : Counts) (old : Option (List ℕ)
 
   -- the next event can't be read
   pub count_error : (is_each : Bool) (e : FileError) (source : Option (List ℕ)) (s : Reading) (q : Option FileError) → SourceNext wanted is_each old r p (Some (Err e)) source s q
-      → is_before positions.stop r.kept.at ≡ true → (is_each ≡ false → positions.stop ≡ None) → CountsThese (AreFirstCounted (failure.File e) positions.stop wanted from) a b
+      → is_before positions.stop r.kept.at ≡ true → (is_each ≡ false → positions.stop ≡ None) → CountsThese (AreFirstCounted (failure.File e) skips positions.stop wanted from) a b
   count_error is_each e source s q gives early whole =
       let m = gives h.bytes h.finds in
       let before = passed is_each m.2 m.3 in
@@ -182,7 +182,7 @@ module _ (wanted : Wanted) (from : Spot) (a b : Counts) (old : Option (List ℕ)
 
   -- some first rows of the next event were counted
   pub count_first : (is_each : Bool) (x : LentEvent) (source : Option (List ℕ)) (s : Reading) (q : Option FileError) (d : Counts) (why : Failure) → SourceNext wanted is_each old r p (Some (Ok x)) source s q → CountsThese (AreFirstEventRows why x) b d
-      → MissesNone why → is_before positions.stop r.kept.at ≡ true → (is_each ≡ false → positions.stop ≡ None) → CountsThese (AreFirstCounted why positions.stop wanted from) a d
+      → MissesNone why → is_before positions.stop r.kept.at ≡ true → (is_each ≡ false → positions.stop ≡ None) → CountsThese (AreFirstCounted why skips positions.stop wanted from) a d
   count_first is_each x source s q d why gives counts none early whole =
       let m = gives h.bytes h.finds in
       let before = passed is_each m.2 m.3 in (
@@ -202,22 +202,22 @@ next_but_output : (why g : Failure) (wanted : Wanted) (at : Spot) (xs : List Cou
 next_but_output why g wanted at xs is (inl h) = inl (h.0, not_at_event g wanted at (output_not_file g is))
 next_but_output why g wanted at xs is (inr h) = inr (output_misses_none g is, h.1, h.2, h.3, h.4, h.5, event_but_output why g h.4 xs is h.6)
 
-but_output : (why g : Failure) (stop : Option ℕ) (wanted : Wanted) (from : Spot) (xs : List Counted) → IsOutput g → AreFirstCounted why stop wanted from xs → AreFirstCounted g stop wanted from xs
-but_output why g stop wanted from xs is h = record { events = h.events; front = h.front; at = h.at; rows = h.rows; counted = h.counted; next = next_but_output why g wanted h.at h.rows is h.next; in_time = not_late g stop h.at (output_not_file g is); missing = nothing_missing g stop h.events h.at (output_misses_none g is); whole = h.whole }
+but_output : (why g : Failure) (skips : Bool) (stop : Option ℕ) (wanted : Wanted) (from : Spot) (xs : List Counted) → IsOutput g → AreFirstCounted why skips stop wanted from xs → AreFirstCounted g skips stop wanted from xs
+but_output why g skips stop wanted from xs is h = record { events = h.events; front = h.front; at = h.at; rows = h.rows; counted = h.counted; next = next_but_output why g wanted h.at h.rows is h.next; in_time = not_late g stop h.at (output_not_file g is); missing = nothing_missing g stop h.events h.at (output_misses_none g is); whole = h.whole }
 
 -- what was counted up to a failure: that of the reading, or of the output
-pub counted_of : (r : Result (Unit {0}) Failure) (g : Failure) (stop : Option ℕ) (wanted : Wanted) (from : Spot) (a b : Counts)
-    → OnOk r (CountsThese (AreCountedToEnd stop wanted from) a b) → IfErr r (λ why. CountsThese (AreFirstCounted why stop wanted from) a b) → IsOutput g ⊎ (r ≡ Err g) → CountsThese (AreFirstCounted g stop wanted from) a b
-counted_of (Ok u) g stop wanted from a b all first (inl is) = (
+pub counted_of : (r : Result (Unit {0}) Failure) (g : Failure) (skips : Bool) (stop : Option ℕ) (wanted : Wanted) (from : Spot) (a b : Counts)
+    → OnOk r (CountsThese (AreCountedToEnd skips stop wanted from) a b) → IfErr r (λ why. CountsThese (AreFirstCounted why skips stop wanted from) a b) → IsOutput g ⊎ (r ≡ Err g) → CountsThese (AreFirstCounted g skips stop wanted from) a b
+counted_of (Ok u) g skips stop wanted from a b all first (inl is) = (
   all.0,
   record { events = all.1.events; front = all.0; at = all.1.end; rows = []; counted = all.1.counted; next = inl (refl, not_at_event g wanted all.1.end (output_not_file g is)); in_time = not_late g stop all.1.end (output_not_file g is); missing = nothing_missing g stop all.1.events all.1.end (output_misses_none g is); whole = sym (append-nil all.0) },
   all.2,
 )
-counted_of (Ok u) g stop wanted from a b all first (inr same) = absurd cc
-counted_of (Err why) g stop wanted from a b all first (inl is) = (first.0, but_output why g stop wanted from first.0 is first.1, first.2)
-counted_of (Err why) g stop wanted from a b all first (inr same) =
+counted_of (Ok u) g skips stop wanted from a b all first (inr same) = absurd cc
+counted_of (Err why) g skips stop wanted from a b all first (inl is) = (first.0, but_output why g skips stop wanted from first.0 is first.1, first.2)
+counted_of (Err why) g skips stop wanted from a b all first (inr same) =
     let is : why ≡ g = cc in
-    (first.0, subst (λ (k : Failure). AreFirstCounted k stop wanted from first.0) is first.1, first.2)
+    (first.0, subst (λ (k : Failure). AreFirstCounted k skips stop wanted from first.0) is first.1, first.2)
 
 -- ---- a file
 

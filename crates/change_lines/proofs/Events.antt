@@ -4,11 +4,10 @@ use Rattle.binlog_file.specs.declared.lent_changes.LentEvent.{LentEvent}
 use Rattle.binlog_file.specs.Events.{Event, glance_of}
 use Rattle.binlog_file.specs.Changes.{Wanted, Spot}
 use Rattle.binlog_file.specs.LentEvents.{Shows, GoesPast}
-use Rattle.change_lines.specs.declared.run.Form.{Form}
-use Rattle.change_lines.specs.Lines.{AreEventLines, gtid_past, AreLines}
+use Rattle.change_lines.specs.Lines.{Manner, AreEventLines, gtid_past, AreLines}
 
 -- one event more was read, and its lines come after the others
-pub event_more : (f : Form) (wanted : Wanted) (file : List ℕ) (old : Spot) (gtid : Option (List ℕ)) (es : List Event) (text : List ℕ) (mid : Spot) (here : Option (List ℕ)) (e : Event) (new : Spot) (x : LentEvent) (line : List ℕ)
+pub event_more : (f : Manner) (wanted : Wanted) (file : List ℕ) (old : Spot) (gtid : Option (List ℕ)) (es : List Event) (text : List ℕ) (mid : Spot) (here : Option (List ℕ)) (e : Event) (new : Spot) (x : LentEvent) (line : List ℕ)
     → AreLines f wanted file old gtid es text mid here → GoesPast mid e new → Shows wanted new.in_force.tables (glance_of e) x → AreEventLines f file here x line
     → AreLines f wanted file old gtid (es ++ e ∷ []) (text ++ line) new (gtid_past here x)
 event_more f wanted file old gtid [] text mid here e new x line h past shows lines = (

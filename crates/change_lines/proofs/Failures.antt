@@ -15,7 +15,7 @@ use Rattle.row_json.specs.Faults.{IsFaultOfPair}
 use Rattle.change_lines.specs.declared.error.Failure.{Failure}
 use Rattle.change_lines.specs.declared.error.Failure.TheVariants as failure
 use Rattle.change_lines.specs.Outputs.{Outputs, AppendsFirst}
-use Rattle.change_lines.specs.Failures.{IsOutput, IsNotOfFile, EndsAtRow, EndsAtEvent, MissesNone, IsMissing, IsInTime, IsLost, IsLostBy, OutputsUpTo, AppendsUpTo, IsRowFailure, IsLineFailure}
+use Rattle.change_lines.specs.Failures.{IsOutput, IsNotOfFile, EndsAtRow, EndsAtEvent, MissesNone, IsNotOfRow, IsMissing, IsInTime, IsLost, IsLostBy, OutputsUpTo, AppendsUpTo, IsRowFailure, IsLineFailure}
 
 -- nothing is lost, whatever the failure is
 pub no_loss : (f : Failure) → IsLost f []
@@ -139,6 +139,13 @@ output_not_file (failure.NoEvent n) is = tt
 output_not_file (failure.Output e) is = tt
 output_not_file (failure.Unopened e) is = tt
 output_not_file failure.Memory is = tt
+
+pub output_not_row : (why : Failure) → IsOutput why → IsNotOfRow why
+output_not_row (failure.File e) is = absurd is
+output_not_row (failure.NoEvent n) is = tt
+output_not_row (failure.Output e) is = tt
+output_not_row (failure.Unopened e) is = tt
+output_not_row failure.Memory is = tt
 
 pub not_at_row : (why : Failure) (c : LentChange) (k : ℕ) (rest : List ℕ) → IsNotOfFile why → EndsAtRow why c k rest
 not_at_row (failure.File e) c k rest not = absurd not

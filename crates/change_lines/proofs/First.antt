@@ -29,14 +29,14 @@ use Rattle.change_lines.specs.Outputs.{Outputs}
 use Rattle.changed_rows.specs.Names.{up_to_most, is_before}
 use Rattle.change_lines.specs.Rows.{BeginsWith, AreLinesBy}
 use Rattle.change_lines.specs.Readings.{Passes, SourceNext}
-use Rattle.change_lines.specs.Lines.{IsRowLine, Writes}
-use Rattle.change_lines.specs.Failures.{OutputsUpTo, IsOutput, IsNotOfFile, IsErrorOfRow, EndsAtRow, IsLineFailure, AreFirstOfEvent, AreFirstOfNext, MissesNone, IsMissing, AreFirst, IsLostBy, WritesFirstRows, WritesFirstOfEvent, WritesFirst}
+use Rattle.change_lines.specs.Lines.{Manner, manner_of, IsRowLine, Writes}
+use Rattle.change_lines.specs.Failures.{OutputsUpTo, IsOutput, IsNotOfFile, IsErrorOfRow, EndsAtRow, IsLineFailure, IsNotOfRow, AreFirstOfEvent, AreFirstOfNext, MissesNone, IsMissing, AreFirst, IsLostBy, WritesFirstRows, WritesFirstOfEvent, WritesFirst}
 use Rattle.change_lines.specs.Runs.{AreFirstLines}
 use Rattle.change_lines.proofs.Pairs.{nothing_read}
 use Rattle.change_lines.proofs.Rows.{lines_weaker, no_lines}
 use Rattle.change_lines.proofs.Passed.{passed_more, passed_same}
 use Rattle.change_lines.proofs.Begun.{Missed, missing_ended}
-use Rattle.change_lines.proofs.Failures.{up_to_all, up_to_nothing, up_to_here, up_to_more, OutputsBut, output_not_file, not_at_row, not_at_event, not_late, in_time_of, output_misses_none, nothing_missing}
+use Rattle.change_lines.proofs.Failures.{up_to_all, up_to_nothing, up_to_here, up_to_more, OutputsBut, output_not_file, output_not_row, not_at_row, not_at_event, not_late, in_time_of, output_misses_none, nothing_missing}
 use Rattle.change_lines.proofs.Whole.{SoFar, still_before, stays_at}
 
 -- ---- the errors of rows
@@ -123,22 +123,28 @@ first_weaker Is Be to c old held new left why h = record {
   outputs = h.outputs;
 }
 
--- some rows of an event were written in a form
-pub first_written : (f g : Form) (file : List ℕ) (gtid : Option (List ℕ)) (c : LentChange) (old : Option (List ℕ)) (held : List ℕ) (new : Option (List ℕ)) (left : List ℕ) → f ≡ g
-    → (why : Failure) → WritesFirstRows why (IsRowLine g file gtid c) c old held new left → WritesFirstOfEvent why f file gtid (lent.Rows c) old held new left
-first_written f g file gtid c old held new left same why h =
-    (h.text, (h.pairs, h.rest, h.begins, subst (λ (k : Form). AreLinesBy (IsRowLine k file gtid c) 0 h.pairs h.text) (sym same) h.lines, h.ends), h.outputs)
+-- some rows of an event were written
+pub first_written : (m : Manner) (file : List ℕ) (gtid : Option (List ℕ)) (c : LentChange) (old : Option (List ℕ)) (held : List ℕ) (new : Option (List ℕ)) (left : List ℕ)
+    → (why : Failure) → (m.skips ≡ true → IsNotOfRow why) → WritesFirstRows why (IsRowLine m.form file gtid c) c old held new left → WritesFirstOfEvent why m file gtid (lent.Rows c) old held new left
+first_written m file gtid c old held new left why not h = (h.text, (h.pairs, h.rest, h.begins, h.lines, h.ends, not), h.outputs)
 
 -- nothing is written of rows that are counted
 pub first_counted : (f : Form) (file : List ℕ) (gtid : Option (List ℕ)) (c : LentChange) (old : Option (List ℕ)) (held : List ℕ) → f ≡ form.Count
-    → (why : Failure) → (ps : List Pair) × (rest : List ℕ) × BeginsWith (pair c.table c.rows) c.left ps rest × EndsAtRow why c (length ps) rest → WritesFirstOfEvent why f file gtid (lent.Rows c) old held old held
-first_counted f file gtid c old held same why h =
-    ([], (h.0, h.1, h.2, subst (λ (k : Form). AreLinesBy (IsRowLine k file gtid c) 0 h.0 []) (sym same) (no_lines 0 h.0), h.3), up_to_nothing why old held)
+    → (why : Failure) → (ps : List Pair) × (rest : List ℕ) × BeginsWith (pair c.table c.rows) c.left ps rest × EndsAtRow why c (length ps) rest → WritesFirstRows why (IsRowLine f file gtid c) c old held old held
+first_counted f file gtid c old held same why h = record {
+  pairs = h.0;
+  rest = h.1;
+  text = [];
+  begins = h.2;
+  lines = subst (λ (k : Form). AreLinesBy (IsRowLine k file gtid c) 0 h.0 []) (sym same) (no_lines 0 h.0);
+  ends = h.3;
+  outputs = up_to_nothing why old held;
+}
 
 -- ---- the events of a file
 
 -- the lines of some events were written, and then nothing more
-pub events_so_far : (f : Form) (wanted : Wanted) (file : List ℕ) (from : Spot) (gtid : Option (List ℕ)) (out : Option (List ℕ)) (held : List ℕ) (source : Option (List ℕ)) (r : Reading) (p : Option FileError) (here : Option (List ℕ)) (new : Option (List ℕ)) (left : List ℕ) (positions : Positions) (sought : Option ℕ)
+pub events_so_far : (f : Manner) (wanted : Wanted) (file : List ℕ) (from : Spot) (gtid : Option (List ℕ)) (out : Option (List ℕ)) (held : List ℕ) (source : Option (List ℕ)) (r : Reading) (p : Option FileError) (here : Option (List ℕ)) (new : Option (List ℕ)) (left : List ℕ) (positions : Positions) (sought : Option ℕ)
     (h : SoFar f wanted file from gtid out held source r p here new left positions sought) (why : Failure) → IsNotOfFile why → IsMissing why positions.stop h.events (spot_at r.kept None h.bytes) → WritesFirst why f positions.stop wanted file from gtid out held new left
 events_so_far f wanted file from gtid out held source r p here new left positions sought h why not missing =
     let at = spot_at r.kept None h.bytes in (
@@ -148,7 +154,7 @@ events_so_far f wanted file from gtid out held source r p here new left position
     )
 
 -- the lines of some events were held back, and then the output failed
-pub output_so_far : (f : Form) (wanted : Wanted) (file : List ℕ) (from : Spot) (gtid : Option (List ℕ)) (out : Option (List ℕ)) (held : List ℕ) (source : Option (List ℕ)) (r : Reading) (p : Option FileError) (here : Option (List ℕ)) (mid : Option (List ℕ)) (kept : List ℕ) (positions : Positions) (sought : Option ℕ)
+pub output_so_far : (f : Manner) (wanted : Wanted) (file : List ℕ) (from : Spot) (gtid : Option (List ℕ)) (out : Option (List ℕ)) (held : List ℕ) (source : Option (List ℕ)) (r : Reading) (p : Option FileError) (here : Option (List ℕ)) (mid : Option (List ℕ)) (kept : List ℕ) (positions : Positions) (sought : Option ℕ)
     → SoFar f wanted file from gtid out held source r p here mid kept positions sought
     → (why : Failure) → IsOutput why → (new : Option (List ℕ)) (left : List ℕ) → OutputsUpTo why mid kept [] new left → WritesFirst why f positions.stop wanted file from gtid out held new left
 output_so_far f wanted file from gtid out held source r p here mid kept positions sought h why is new left more =
@@ -160,7 +166,7 @@ output_so_far f wanted file from gtid out held source r p here mid kept position
     )
 
 -- the lines of all events were written, but no event begins at a position
-pub end_so_far : (f : Form) (wanted : Wanted) (file : List ℕ) (from : Spot) (gtid : Option (List ℕ)) (out : Option (List ℕ)) (held : List ℕ) (old : Option (List ℕ)) (r : Reading) (p : Option FileError) (here : Option (List ℕ)) (new : Option (List ℕ)) (left : List ℕ) (positions : Positions) (sought : Option ℕ)
+pub end_so_far : (f : Manner) (wanted : Wanted) (file : List ℕ) (from : Spot) (gtid : Option (List ℕ)) (out : Option (List ℕ)) (held : List ℕ) (old : Option (List ℕ)) (r : Reading) (p : Option FileError) (here : Option (List ℕ)) (new : Option (List ℕ)) (left : List ℕ) (positions : Positions) (sought : Option ℕ)
     → SoFar f wanted file from gtid out held old r p here new left positions sought
     → (is_each : Bool) (source : Option (List ℕ)) (s : Reading) (q : Option FileError) → SourceNext wanted is_each old r p None source s q → (is_each ≡ false → sought ≡ None) → (is_each ≡ false → positions.stop ≡ None) → (sought ≡ start_sought positions) ⊎ (sought ≡ None)
     → (why : Failure) → IsNotOfFile why → Missed why sought positions.stop r.kept.at → WritesFirst why f positions.stop wanted file from gtid out held new left
@@ -179,7 +185,7 @@ end_so_far f wanted file from gtid out held old r p here new left positions soug
 
 -- the lines of some events were written, and then an event can't be read, perhaps after others that were
 -- passed over
-pub error_so_far : (f : Form) (wanted : Wanted) (file : List ℕ) (from : Spot) (gtid : Option (List ℕ)) (out : Option (List ℕ)) (held : List ℕ) (old : Option (List ℕ)) (r : Reading) (p : Option FileError) (here : Option (List ℕ)) (new : Option (List ℕ)) (left : List ℕ) (positions : Positions) (sought : Option ℕ)
+pub error_so_far : (f : Manner) (wanted : Wanted) (file : List ℕ) (from : Spot) (gtid : Option (List ℕ)) (out : Option (List ℕ)) (held : List ℕ) (old : Option (List ℕ)) (r : Reading) (p : Option FileError) (here : Option (List ℕ)) (new : Option (List ℕ)) (left : List ℕ) (positions : Positions) (sought : Option ℕ)
     → SoFar f wanted file from gtid out held old r p here new left positions sought
     → (is_each : Bool) (e : FileError) (source : Option (List ℕ)) (s : Reading) (q : Option FileError) → SourceNext wanted is_each old r p (Some (Err e)) source s q → is_before positions.stop r.kept.at ≡ true → (is_each ≡ false → positions.stop ≡ None) → WritesFirst (failure.File e) f positions.stop wanted file from gtid out held new left
 error_so_far f wanted file from gtid out held old r p here new left positions sought h is_each e source s q gives before whole =
@@ -193,7 +199,7 @@ error_so_far f wanted file from gtid out held old r p here new left positions so
     )
 
 -- the lines of some events were written, and then those of some first rows of the next one
-pub event_so_far : (f : Form) (wanted : Wanted) (file : List ℕ) (from : Spot) (gtid : Option (List ℕ)) (out : Option (List ℕ)) (held : List ℕ) (old : Option (List ℕ)) (r : Reading) (p : Option FileError) (here : Option (List ℕ)) (mid : Option (List ℕ)) (kept : List ℕ) (positions : Positions) (sought : Option ℕ)
+pub event_so_far : (f : Manner) (wanted : Wanted) (file : List ℕ) (from : Spot) (gtid : Option (List ℕ)) (out : Option (List ℕ)) (held : List ℕ) (old : Option (List ℕ)) (r : Reading) (p : Option FileError) (here : Option (List ℕ)) (mid : Option (List ℕ)) (kept : List ℕ) (positions : Positions) (sought : Option ℕ)
     → SoFar f wanted file from gtid out held old r p here mid kept positions sought
     → (is_each : Bool) (x : LentEvent) (source : Option (List ℕ)) (s : Reading) (q : Option FileError) (new : Option (List ℕ)) (left : List ℕ)
     → SourceNext wanted is_each old r p (Some (Ok x)) source s q → (why : Failure) → WritesFirstOfEvent why f file here x mid kept new left → MissesNone why → is_before positions.stop r.kept.at ≡ true → (is_each ≡ false → positions.stop ≡ None) → WritesFirst why f positions.stop wanted file from gtid out held new left
@@ -209,15 +215,15 @@ event_so_far f wanted file from gtid out held old r p here mid kept positions so
 
 -- ---- the output failed later
 
-event_but_output : (why g : Failure) (f : Form) (file : List ℕ) (gtid : Option (List ℕ)) (x : LentEvent) (text : List ℕ) → IsOutput g → AreFirstOfEvent why f file gtid x text → AreFirstOfEvent g f file gtid x text
+event_but_output : (why g : Failure) (f : Manner) (file : List ℕ) (gtid : Option (List ℕ)) (x : LentEvent) (text : List ℕ) → IsOutput g → AreFirstOfEvent why f file gtid x text → AreFirstOfEvent g f file gtid x text
 event_but_output why g f file gtid (lent.Other o) text is h = (h.0, output_not_file g is)
-event_but_output why g f file gtid (lent.Rows c) text is h = (h.0, h.1, h.2, h.3, not_at_row g c (length h.0) h.1 (output_not_file g is))
+event_but_output why g f file gtid (lent.Rows c) text is h = (h.0, h.1, h.2, h.3, not_at_row g c (length h.0) h.1 (output_not_file g is), λ skips. output_not_row g is)
 
-next_but_output : (why g : Failure) (f : Form) (wanted : Wanted) (file : List ℕ) (at : Spot) (gtid : Option (List ℕ)) (text : List ℕ) → IsOutput g → AreFirstOfNext why f wanted file at gtid text → AreFirstOfNext g f wanted file at gtid text
+next_but_output : (why g : Failure) (f : Manner) (wanted : Wanted) (file : List ℕ) (at : Spot) (gtid : Option (List ℕ)) (text : List ℕ) → IsOutput g → AreFirstOfNext why f wanted file at gtid text → AreFirstOfNext g f wanted file at gtid text
 next_but_output why g f wanted file at gtid text is (inl h) = inl (h.0, not_at_event g wanted at (output_not_file g is))
 next_but_output why g f wanted file at gtid text is (inr h) = inr (output_misses_none g is, h.1, h.2, h.3, h.4, h.5, event_but_output why g f file gtid h.4 text is h.6)
 
-first_but_output : (why g : Failure) (f : Form) (stop : Option ℕ) (wanted : Wanted) (file : List ℕ) (from : Spot) (gtid : Option (List ℕ)) (text : List ℕ) → IsOutput g → AreFirst why f stop wanted file from gtid text → AreFirst g f stop wanted file from gtid text
+first_but_output : (why g : Failure) (f : Manner) (stop : Option ℕ) (wanted : Wanted) (file : List ℕ) (from : Spot) (gtid : Option (List ℕ)) (text : List ℕ) → IsOutput g → AreFirst why f stop wanted file from gtid text → AreFirst g f stop wanted file from gtid text
 first_but_output why g f stop wanted file from gtid text is h = record {
   events = h.events;
   front = h.front;
@@ -235,7 +241,7 @@ first_but_output why g f stop wanted file from gtid text is h = record {
 
 -- What was written of a file up to a failure: that of the reading, or of the output, whether the file was
 -- read to its end or not.
-pub written_of : (r : Result (Unit {0}) Failure) (g : Failure) (f : Form) (wanted : Wanted) (file : List ℕ) (positions : Positions) (from : Spot) (gtid : Option (List ℕ)) (old : Option (List ℕ)) (held : List ℕ) (new : Option (List ℕ)) (left : List ℕ)
+pub written_of : (r : Result (Unit {0}) Failure) (g : Failure) (f : Manner) (wanted : Wanted) (file : List ℕ) (positions : Positions) (from : Spot) (gtid : Option (List ℕ)) (old : Option (List ℕ)) (held : List ℕ) (new : Option (List ℕ)) (left : List ℕ)
     → OnOk r (Writes f wanted file positions from gtid old held new left) → IfErr r (λ why. WritesFirst why f positions.stop wanted file from gtid old held new left) → IsOutput g ⊎ (r ≡ Err g)
     → (text : List ℕ) × AreFirst g f positions.stop wanted file from gtid text × (lost : List ℕ) × OutputsBut old held text new left lost × IsLostBy r lost
 written_of (Ok u) g f wanted file positions from gtid old held new left all first (inl is) = (
@@ -254,13 +260,13 @@ written_of (Err why) g f wanted file positions from gtid old held new left all f
 -- first lines of what a reading finds after the first bytes of a file are first lines of the file
 pub first_lines : (why : Failure) (settings : Settings) (choice : Filter) (file x : List ℕ) (source : Option (List ℕ)) (r : Reading) (gtid : Option (List ℕ)) (Q : List ℕ → Type 0)
     → Consumes (Some x) source magic → r.kept ≡ first_kept → r.is_over ≡ false → length x < 2 ^ 64 → choice ≡ settings.filter → gtid ≡ None
-    → ((y : List ℕ) → Finds r source y → (text : List ℕ) × AreFirst why settings.form settings.filter.positions.stop (wanted_by choice) file (spot_at r.kept None y) gtid text × Q text)
+    → ((y : List ℕ) → Finds r source y → (text : List ℕ) × AreFirst why (manner_of settings) settings.filter.positions.stop (wanted_by choice) file (spot_at r.kept None y) gtid text × Q text)
     → (text : List ℕ) × AreFirstLines why settings file x text × Q text
 first_lines why settings choice file x None r gtid Q consumes kept on small chosen none writes = absurd consumes
 first_lines why settings choice file x (Some y) r gtid Q consumes kept on small chosen none writes =
     let fits : r.kept.at + length y < 2 ^ 64 = omega (arith, ap (λ (k : Kept). k.at) kept, ap length consumes, length-append magic y, small) in
     let w = writes y (subst (λ (o : Bool). Found o r.kept.at (Some y) y) (sym on) (refl, fits)) in
-    let f = settings.form in
+    let f = manner_of settings in
     let lines1 = subst (λ (c : Filter). AreFirst why f settings.filter.positions.stop (wanted_by c) file (spot_at r.kept None y) gtid w.0) chosen w.1 in
     let lines2 = subst (λ (k : Kept). AreFirst why f settings.filter.positions.stop (wanted_by settings.filter) file (spot_at k None y) gtid w.0) kept lines1 in
     let lines3 = subst (λ (g : Option (List ℕ)). AreFirst why f settings.filter.positions.stop (wanted_by settings.filter) file (spot_at first_kept None y) g w.0) none lines2 in

@@ -18,5 +18,6 @@ pub mod Pieces
 pub mod Ran
 pub mod Told
 pub mod Silent
+pub mod Skipped
 pub mod Grouped
 pub mod Ended

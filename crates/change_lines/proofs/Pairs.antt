@@ -7,7 +7,6 @@ use Rattle.mysql_binlog_rows.specs.Cover.{IsPair, Covers}
 use Rattle.mysql_binlog_rows.proofs.Covers.{SoFar, one_pair_more, covers_from}
 use Rattle.binlog_events.specs.declared.error.FileError.{FileError}
 use Rattle.binlog_file.specs.LentChanges.{LentChange, PairGives}
-use Rattle.binlog_file.specs.LentEvents.{GoesOnUnless}
 
 -- nothing was read
 pub nothing_read : (t : TableMap) (e : RowsEvent) (left : List ℕ) → SoFar (pair t e) left [] left
@@ -44,7 +43,3 @@ counted_more c old new ps p u gives so_far = omega (arith, one_more old new p u 
 -- a pair that was read is one that the event gives
 pub ok_gives : (old new : LentChange) (p : Pair) (r : Result (Unit {0}) FileError) (u : Unit {0}) → r ≡ Ok u → PairGives old p (Some r) new → PairGives old p (Some (Ok u)) new
 ok_gives old new p r u is h = subst (λ (x : Result (Unit {0}) FileError). PairGives old p (Some x) new) is h
-
--- a reading stays where it is at a pair that was read
-pub stays : {A : Type 0} (Ends : Type 0) (r : Result (Unit {0}) FileError) (u : Unit {0}) (old new : A) → r ≡ Ok u → GoesOnUnless Ends (Some r) old new → new ≡ old
-stays {A = A} Ends r u old new is h = subst (λ (x : Result (Unit {0}) FileError). GoesOnUnless Ends (Some x) old new) is h

@@ -11,10 +11,9 @@ use Rattle.binlog_file.specs.Asked.{is_asked}
 use Rattle.binlog_file.specs.LentChanges.{OtherEvent}
 use Rattle.binlog_file.specs.LentEvents.{other_of, PassesOver}
 use Rattle.binlog_file.proofs.AskedFollowed.{passed_shows}
-use Rattle.change_lines.specs.declared.run.Form.{Form}
 use Rattle.changed_rows.specs.Gtids.{mysql_gtid, mariadb_gtid, gtid_after}
 use Rattle.change_lines.specs.Readings.{seen_types, Passes}
-use Rattle.change_lines.specs.Lines.{AreLines}
+use Rattle.change_lines.specs.Lines.{Manner, AreLines}
 use Rattle.change_lines.proofs.Events.{event_more}
 
 -- ---- the GTID stays
@@ -89,7 +88,7 @@ abbrev pub Extends : List Event → List Event → Type 0
 Extends es ds = (more : List Event) × (ds ≡ es ++ more)
 
 -- events that give no lines are added to the others
-over_more : (f : Form) (wanted : Wanted) (file : List ℕ) (from : Spot) (gtid : Option (List ℕ)) (es : List Event) (text : List ℕ) (mid : Spot) (here : Option (List ℕ)) (n : ℕ) (new : Spot)
+over_more : (f : Manner) (wanted : Wanted) (file : List ℕ) (from : Spot) (gtid : Option (List ℕ)) (es : List Event) (text : List ℕ) (mid : Spot) (here : Option (List ℕ)) (n : ℕ) (new : Spot)
     → AreLines f wanted file from gtid es text mid here → PassesOver seen_types n mid new → (ds : List Event) × AreLines f wanted file from gtid ds text new here × Extends es ds
 over_more f wanted file from gtid es text mid here zero new lines same = (es, subst (λ (s : Spot). AreLines f wanted file from gtid es text s here) (sym same) lines, ([], sym (append-nil es)))
 over_more f wanted file from gtid es text mid here (suc n) new lines h =
@@ -107,13 +106,13 @@ over_more f wanted file from gtid es text mid here (suc n) new lines h =
       ),
     )
 
-pub passed_more : (f : Form) (wanted : Wanted) (file : List ℕ) (from : Spot) (gtid : Option (List ℕ)) (es : List Event) (text : List ℕ) (mid : Spot) (here : Option (List ℕ)) (is_each : Bool) (new : Spot)
+pub passed_more : (f : Manner) (wanted : Wanted) (file : List ℕ) (from : Spot) (gtid : Option (List ℕ)) (es : List Event) (text : List ℕ) (mid : Spot) (here : Option (List ℕ)) (is_each : Bool) (new : Spot)
     → AreLines f wanted file from gtid es text mid here → Passes is_each mid new → (ds : List Event) × AreLines f wanted file from gtid ds text new here × Extends es ds
 passed_more f wanted file from gtid es text mid here true new lines same = (es, subst (λ (s : Spot). AreLines f wanted file from gtid es text s here) (sym same) lines, ([], sym (append-nil es)))
 passed_more f wanted file from gtid es text mid here false new lines passes = over_more f wanted file from gtid es text mid here passes.0 new lines passes.1
 
 -- none is added where each is looked at
-pub passed_same : (f : Form) (wanted : Wanted) (file : List ℕ) (from : Spot) (gtid : Option (List ℕ)) (es : List Event) (text : List ℕ) (mid : Spot) (here : Option (List ℕ)) (is_each : Bool) (new : Spot)
+pub passed_same : (f : Manner) (wanted : Wanted) (file : List ℕ) (from : Spot) (gtid : Option (List ℕ)) (es : List Event) (text : List ℕ) (mid : Spot) (here : Option (List ℕ)) (is_each : Bool) (new : Spot)
     (lines : AreLines f wanted file from gtid es text mid here) (passes : Passes is_each mid new) → is_each ≡ true → (passed_more f wanted file from gtid es text mid here is_each new lines passes).0 ≡ es
 unfolding passed_more
 passed_same f wanted file from gtid es text mid here true new lines same each = refl

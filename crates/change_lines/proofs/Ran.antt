@@ -15,19 +15,20 @@ use Rattle.change_lines.specs.CountedFiles.{AreFirstOfFile, CountsThese}
 use Rattle.change_lines.specs.Runs.{AreFirstLines, IsRun}
 
 -- a run that passes a failure on
-pub run_failed : (settings : Settings) (file x : List ℕ) (before after : Counts) (old new : Option (List ℕ)) (r : Result (Unit {0}) Failure) (why : Failure) → IsErrAnd r (λ f. f ≡ why)
+pub run_failed : (settings : Settings) (file x : List ℕ) (before after : Counts) (old new : Option (List ℕ)) (r : Result ℕ Failure) (why : Failure) → IsErrAnd r (λ f. f ≡ why)
     → (text : List ℕ) × AreFirstLines why settings file x text × AppendsUpTo why old new text
     → (settings.form ≡ form.Count → CountsThese (AreFirstOfFile why settings x) before after) → IsRun settings file x before after old new r
-run_failed settings file x before after old new (Ok u) why is first counts = absurd is
+run_failed settings file x before after old new (Ok n) why is first counts = absurd is
 run_failed settings file x before after old new (Err f) why is first counts = record {
   lines = tt;
   first_lines = subst (λ (k : Failure). (text : List ℕ) × AreFirstLines k settings file x text × AppendsUpTo k old new text) (sym is) first;
   counts = λ same. tt;
+  skipped = tt;
   first_counts = λ same. subst (λ (k : Failure). CountsThese (AreFirstOfFile k settings x) before after) (sym is) (counts same);
 }
 
 -- a run that reads nothing
-pub run_unread : (settings : Settings) (file x : List ℕ) (counts : Counts) (out : Option (List ℕ)) (r : Result (Unit {0}) Failure) (why : Failure) → IsErrAnd r (λ f. f ≡ why)
+pub run_unread : (settings : Settings) (file x : List ℕ) (counts : Counts) (out : Option (List ℕ)) (r : Result ℕ Failure) (why : Failure) → IsErrAnd r (λ f. f ≡ why)
     → EndsAtHeader why x → IsRun settings file x counts counts out out r
 run_unread settings file x counts out r why is ends = run_failed settings file x counts counts out out r why is ([], inl (refl, ends), nothing_appended why out) (λ same. ([], inl (refl, ends), counts_nothing counts))
 

@@ -1,5 +1,5 @@
 -- What isn't told.
-use Rattle.std.proofs.Common.{◌≡◌, refl, ◌∙◌}
+use Rattle.std.proofs.Common.{refl, ◌∙◌}
 use Rattle.change_lines.specs.declared.notes.Notes.{Notes}
 use Rattle.change_lines.specs.Silent.{IsSilent}
 

@@ -15,6 +15,18 @@ tells_nothing is_lost told kept = (kept, Appends-nil told)
 pub tells_silent : (was_lost is_lost : Bool) (old new : Option (List ℕ)) → is_lost ≡ was_lost → new ≡ old → Tells was_lost old is_lost new []
 tells_silent was_lost is_lost old new lost same kept = (sym lost ∙ kept, subst (λ (o : Option (List ℕ)). Appends old o []) (sym same) (Appends-nil old))
 
+-- a text is told unless notes are quiet, and then nothing is
+pub unless_quiet : (is_quiet was_lost is_lost : Bool) (old new : Option (List ℕ)) (text : List ℕ) → (is_quiet ≡ true → (is_lost ≡ was_lost) × (new ≡ old)) → (is_quiet ≡ false → Tells was_lost old is_lost new text)
+    → Tells was_lost old is_lost new (if is_quiet then [] else text)
+unless_quiet true was_lost is_lost old new text same tells = tells_silent was_lost is_lost old new (same refl).0 (same refl).1
+unless_quiet false was_lost is_lost old new text same tells = tells refl
+
+-- a text was told, and then nothing
+pub still_told : (a b d : Bool) (x y z : Option (List ℕ)) (text : List ℕ) → Tells a x b y text → d ≡ b → z ≡ y → Tells a x d z text
+still_told a b d x y z text h lost same kept =
+    let told = h (sym lost ∙ kept) in
+    (told.0, subst (λ (o : Option (List ℕ)). Appends x o text) (sym same) told.1)
+
 -- a text is told, and then another
 pub tells_more : (a b d : Bool) (x y z : Option (List ℕ)) (first more : List ℕ) → Tells a x b y first → Tells b y d z more → Tells a x d z (first ++ more)
 tells_more a b d x y z first more h k kept =

@@ -9,7 +9,6 @@ use Rattle.binlog_file.specs.Changes.{Wanted, Spot}
 use Rattle.binlog_file.specs.Stream.{Kept, Reading, first_kept}
 use Rattle.binlog_file.specs.LentEvents.{GoesPast}
 use Rattle.binlog_file.specs.SourceChanges.{Found, Finds, spot_at}
-use Rattle.change_lines.specs.declared.run.Form.{Form}
 use Rattle.change_lines.specs.declared.run.Settings.{Settings}
 use Rattle.changed_rows.specs.declared.filter.Filter.{Filter}
 use Rattle.changed_rows.specs.Names.{is_before}
@@ -17,7 +16,7 @@ use Rattle.changed_rows.specs.declared.filter.Positions.{Positions}
 use Rattle.changed_rows.specs.Filters.{wanted_by, start_sought, start_after, IsUpTo}
 use Rattle.change_lines.specs.Outputs.{Outputs}
 use Rattle.change_lines.specs.Readings.{Passes, SourceNext}
-use Rattle.change_lines.specs.Lines.{gtid_past, AreLines, WritesEvent, IsEnd, Writes}
+use Rattle.change_lines.specs.Lines.{Manner, manner_of, gtid_past, AreLines, WritesEvent, IsEnd, Writes}
 use Rattle.change_lines.specs.Runs.{AreAllLines}
 use Rattle.change_lines.proofs.Events.{event_more}
 use Rattle.change_lines.proofs.Passed.{passed_more, passed_same}
@@ -27,7 +26,7 @@ use Rattle.change_lines.proofs.Outputs.{outputs_more}
 -- What was written so far: the lines of the events from a spot on up to the place of a reading, which finds
 -- these bytes. An event is looked for at the start position, and none began there or after it; or one began there. None began
 -- at the stop position or after it.
-pub record SoFar (f : Form) (wanted : Wanted) (file : List ℕ) (from : Spot) (gtid : Option (List ℕ)) (out : Option (List ℕ)) (held : List ℕ) (source : Option (List ℕ)) (r : Reading) (pending : Option FileError) (here : Option (List ℕ)) (new : Option (List ℕ)) (left : List ℕ) (positions : Positions) (sought : Option ℕ) : Type 0 where
+pub record SoFar (f : Manner) (wanted : Wanted) (file : List ℕ) (from : Spot) (gtid : Option (List ℕ)) (out : Option (List ℕ)) (held : List ℕ) (source : Option (List ℕ)) (r : Reading) (pending : Option FileError) (here : Option (List ℕ)) (new : Option (List ℕ)) (left : List ℕ) (positions : Positions) (sought : Option ℕ) : Type 0 where
   pub goes_on : pending ≡ None
   pub bytes : List ℕ
   pub finds : Finds r source bytes
@@ -40,7 +39,7 @@ pub record SoFar (f : Form) (wanted : Wanted) (file : List ℕ) (from : Spot) (g
   pub early : IsUnseen positions.stop events
 
 -- what was held back was written
-pub let_go : (f : Form) (wanted : Wanted) (file : List ℕ) (from : Spot) (gtid : Option (List ℕ)) (out : Option (List ℕ)) (held : List ℕ) (source : Option (List ℕ)) (r : Reading) (p : Option FileError) (here : Option (List ℕ)) (mid : Option (List ℕ)) (kept : List ℕ) (positions : Positions) (sought : Option ℕ)
+pub let_go : (f : Manner) (wanted : Wanted) (file : List ℕ) (from : Spot) (gtid : Option (List ℕ)) (out : Option (List ℕ)) (held : List ℕ) (source : Option (List ℕ)) (r : Reading) (p : Option FileError) (here : Option (List ℕ)) (mid : Option (List ℕ)) (kept : List ℕ) (positions : Positions) (sought : Option ℕ)
     → SoFar f wanted file from gtid out held source r p here mid kept positions sought
     → (after : Option (List ℕ)) (new : Option (List ℕ)) (left : List ℕ) → after ≡ here → Outputs mid kept [] new left → SoFar f wanted file from gtid out held source r p after new left positions sought
 let_go f wanted file from gtid out held source r p here mid kept positions sought h after new left same more = record {
@@ -66,7 +65,7 @@ still_before true stop old at same before whole = subst (λ (s : Spot). is_befor
 still_before false stop old at passes before whole = subst (λ (o : Option ℕ). is_before o at.place.at ≡ true) (sym (whole refl)) refl
 
 -- one event more was read and written, perhaps after others that were passed over
-pub step : (f : Form) (wanted : Wanted) (file : List ℕ) (from : Spot) (gtid : Option (List ℕ)) (out : Option (List ℕ)) (held : List ℕ) (old : Option (List ℕ)) (r : Reading) (p : Option FileError) (here : Option (List ℕ)) (mid : Option (List ℕ)) (kept : List ℕ) (positions : Positions) (sought : Option ℕ)
+pub step : (f : Manner) (wanted : Wanted) (file : List ℕ) (from : Spot) (gtid : Option (List ℕ)) (out : Option (List ℕ)) (held : List ℕ) (old : Option (List ℕ)) (r : Reading) (p : Option FileError) (here : Option (List ℕ)) (mid : Option (List ℕ)) (kept : List ℕ) (positions : Positions) (sought : Option ℕ)
     → SoFar f wanted file from gtid out held old r p here mid kept positions sought
     → (is_each : Bool) (x : LentEvent) (source : Option (List ℕ)) (s : Reading) (q : Option FileError) (after : Option (List ℕ)) (new : Option (List ℕ)) (left : List ℕ)
     → SourceNext wanted is_each old r p (Some (Ok x)) source s q → WritesEvent f file here x mid kept new left → after ≡ gtid_past here x → (is_each ≡ false → sought ≡ None) → (is_each ≡ false → positions.stop ≡ None)
@@ -106,7 +105,7 @@ is_end_at true stop old at same left whole stops = elim stops [ inl none ↦ end
 is_end_at false stop old at passes left whole stops = end_without at stop left (whole refl)
 
 -- no event is left, perhaps after others that were passed over
-pub ended : (f : Form) (wanted : Wanted) (file : List ℕ) (positions : Positions) (from : Spot) (gtid : Option (List ℕ)) (out : Option (List ℕ)) (held : List ℕ) (old : Option (List ℕ)) (r : Reading) (p : Option FileError) (here : Option (List ℕ)) (mid : Option (List ℕ)) (kept : List ℕ) (sought : Option ℕ)
+pub ended : (f : Manner) (wanted : Wanted) (file : List ℕ) (positions : Positions) (from : Spot) (gtid : Option (List ℕ)) (out : Option (List ℕ)) (held : List ℕ) (old : Option (List ℕ)) (r : Reading) (p : Option FileError) (here : Option (List ℕ)) (mid : Option (List ℕ)) (kept : List ℕ) (sought : Option ℕ)
     → SoFar f wanted file from gtid out held old r p here mid kept positions sought
     → (is_each : Bool) (source : Option (List ℕ)) (s : Reading) (q : Option FileError) → SourceNext wanted is_each old r p None source s q
     → (is_each ≡ false → positions.stop ≡ None) → (positions.stop ≡ None) ⊎ (positions.stop ≡ Some r.kept.at) → sought ≡ None → Writes f wanted file positions from gtid out held mid kept
@@ -126,7 +125,7 @@ ended f wanted file positions from gtid out held old r p here mid kept sought h 
     }
 
 -- the stop position is reached
-pub stopped : (f : Form) (wanted : Wanted) (file : List ℕ) (positions : Positions) (from : Spot) (gtid : Option (List ℕ)) (out : Option (List ℕ)) (held : List ℕ) (source : Option (List ℕ)) (r : Reading) (p : Option FileError) (here : Option (List ℕ)) (new : Option (List ℕ)) (left : List ℕ) (sought : Option ℕ)
+pub stopped : (f : Manner) (wanted : Wanted) (file : List ℕ) (positions : Positions) (from : Spot) (gtid : Option (List ℕ)) (out : Option (List ℕ)) (held : List ℕ) (source : Option (List ℕ)) (r : Reading) (p : Option FileError) (here : Option (List ℕ)) (new : Option (List ℕ)) (left : List ℕ) (sought : Option ℕ)
     → SoFar f wanted file from gtid out held source r p here new left positions sought
     → is_before positions.stop r.kept.at ≡ false → (positions.stop ≡ None) ⊎ (positions.stop ≡ Some r.kept.at) → sought ≡ None → Writes f wanted file positions from gtid out held new left
 stopped f wanted file positions from gtid out held source r p here new left sought h past stops found =
@@ -154,13 +153,13 @@ appends_kept (Some x) (Some y) (Some z) t p q = q ∙ p
 -- the lines of a whole file were written
 pub whole : (settings : Settings) (choice : Filter) (file x : List ℕ) (source : Option (List ℕ)) (r : Reading) (gtid : Option (List ℕ)) (a b d e : Option (List ℕ)) (held left : List ℕ)
     → Consumes (Some x) source magic → r.kept ≡ first_kept → r.is_over ≡ false → length x < 2 ^ 64 → choice ≡ settings.filter → held ≡ [] → gtid ≡ None
-    → ((y : List ℕ) → Finds r source y → Writes settings.form (wanted_by choice) file settings.filter.positions (spot_at r.kept None y) gtid a held b left)
+    → ((y : List ℕ) → Finds r source y → Writes (manner_of settings) (wanted_by choice) file settings.filter.positions (spot_at r.kept None y) gtid a held b left)
     → Appends b d left → Keeps d e → (text : List ℕ) × AreAllLines settings file x text × Appends a e text
 whole settings choice file x None r gtid a b d e held left consumes kept on small chosen empty none writes written flushed = absurd consumes
 whole settings choice file x (Some y) r gtid a b d e held left consumes kept on small chosen empty none writes written flushed =
     let fits : r.kept.at + length y < 2 ^ 64 = omega (arith, ap (λ (k : Kept). k.at) kept, ap length consumes, length-append magic y, small) in
     let w = writes y (subst (λ (o : Bool). Found o r.kept.at (Some y) y) (sym on) (refl, fits)) in
-    let f = settings.form in
+    let f = manner_of settings in
     let lines1 = subst (λ (c : Filter). AreLines f (wanted_by c) file (spot_at r.kept None y) gtid w.events w.text w.end w.after) chosen w.lines in
     let lines2 = subst (λ (k : Kept). AreLines f (wanted_by settings.filter) file (spot_at k None y) gtid w.events w.text w.end w.after) kept lines1 in
     let lines3 = subst (λ (g : Option (List ℕ)). AreLines f (wanted_by settings.filter) file (spot_at first_kept None y) g w.events w.text w.end w.after) none lines2 in

@@ -1,5 +1,5 @@
 -- What is written of an event.
-use Rattle.std.proofs.Common.{◌≡◌, ℕ, List, [], Option, None, Result, Ok, Err, refl, sym, subst}
+use Rattle.std.proofs.Common.{◌≡◌, ℕ, List, [], Option, None, Result, Ok, Err, inl, refl, sym, subst}
 use Rattle.std.specs.Prelude.{OnOk}
 use Rattle.std.specs.Option.{option_map}
 use Rattle.std.specs.Str.Lossy.{utf8_lossy}
@@ -16,7 +16,7 @@ use Rattle.changed_rows.specs.declared.source.Source.{Source}
 use Rattle.changed_rows.specs.Origins.{source_fields, source_member, member_of_row}
 use Rattle.changed_rows.specs.Names.{up_to_most}
 use Rattle.change_lines.specs.Rows.{AreLinesBy, IsJsonLine, WritesRows}
-use Rattle.change_lines.specs.Lines.{IsRowLine, WritesEvent}
+use Rattle.change_lines.specs.Lines.{Manner, IsRowLine, WritesEvent}
 use Rattle.change_lines.proofs.Outputs.{outputs_nothing}
 use Rattle.change_lines.proofs.Rows.{lines_weaker, no_lines}
 
@@ -46,14 +46,18 @@ json_row cs s file gtid c columns is_file is_origin is_gtid is_database is_table
     rw (is_file, is_origin, is_gtid, is_database, is_table) refl in
     subst (λ (k : List Column). IsLine k c.rows (member_of_row file gtid c.origin c.table (up_to_most row)) p line) columns (subst (λ (fs : List Named). IsLine cs c.rows (source_member fs) p line) fields is)
 
--- the rows of an event were written in a form
-pub rows_written : (f g : Form) (file : List ℕ) (gtid : Option (List ℕ)) (c : LentChange) (old : Option (List ℕ)) (held : List ℕ) (new : Option (List ℕ)) (left : List ℕ) → f ≡ g
-    → WritesRows (IsRowLine g file gtid c) c old held new left → WritesEvent f file gtid (lent.Rows c) old held new left
-rows_written f g file gtid c old held new left same h =
-    (h.text, (h.pairs, h.covers, subst (λ (k : Form). AreLinesBy (IsRowLine k file gtid c) 0 h.pairs h.text) (sym same) h.lines), h.outputs)
+-- the rows of an event were written
+pub rows_written : (m : Manner) (file : List ℕ) (gtid : Option (List ℕ)) (c : LentChange) (old : Option (List ℕ)) (held : List ℕ) (new : Option (List ℕ)) (left : List ℕ)
+    → WritesRows (IsRowLine m.form file gtid c) c old held new left → WritesEvent m file gtid (lent.Rows c) old held new left
+rows_written m file gtid c old held new left h = (h.text, inl (h.pairs, h.covers, h.lines), h.outputs)
 
 -- nothing is written of rows that are counted
 pub rows_counted : (f : Form) (file : List ℕ) (gtid : Option (List ℕ)) (c : LentChange) (old : Option (List ℕ)) (held : List ℕ) → f ≡ form.Count → (ps : List Pair) → Covers (pair c.table c.rows) c.left ps None
-    → WritesEvent f file gtid (lent.Rows c) old held old held
-rows_counted f file gtid c old held same ps covers =
-    ([], (ps, covers, subst (λ (k : Form). AreLinesBy (IsRowLine k file gtid c) 0 ps []) (sym same) (no_lines 0 ps)), outputs_nothing old held)
+    → WritesRows (IsRowLine f file gtid c) c old held old held
+rows_counted f file gtid c old held same ps covers = record {
+  pairs = ps;
+  text = [];
+  covers = covers;
+  lines = subst (λ (k : Form). AreLinesBy (IsRowLine k file gtid c) 0 ps []) (sym same) (no_lines 0 ps);
+  outputs = outputs_nothing old held;
+}

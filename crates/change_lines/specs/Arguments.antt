@@ -36,6 +36,7 @@ settings_of a index may_wait = record {
     positions = positions_of a.positions (length a.files.now) index;
   };
   form = form_of a.is_count a.is_text;
+  skips_faulty = a.skips_faulty;
   may_wait = may_wait;
 }
 
@@ -90,3 +91,4 @@ pub record AreArguments (f : Found) (a : Arguments) : Type 0 where
   pub text : IsFlag f (codes "text") a.is_text
   pub quiet : IsFlag f (codes "quiet") a.is_quiet
   pub progress : IsProgress f a
+  pub skips : IsFlag f (codes "skip-faulty") a.skips_faulty

@@ -1,12 +1,12 @@
 -- What was written where a run ends early. It is a module of its own because Failure is a type of the code.
-use Rattle.std.specs.Prelude.{◌≡◌, ◌≢◌, ◌⊎◌, ◌+◌, ◌<◌, ℕ, true, List, [], ◌∷◌, ◌++◌, length, Option, Some, Result, Ok, Err, ⊤}
+use Rattle.std.specs.Prelude.{◌≡◌, ◌≢◌, ◌⊎◌, ◌<◌, ℕ, true, List, [], ◌∷◌, ◌++◌, length, Option, Some, Result, Ok, Err, ⊤}
 use Rattle.std.specs.Io.KnownBytes.{Appends}
 use Rattle.binlog_base.specs.declared.fault.Fault.{Fault}
 use Rattle.binlog_base.specs.declared.fault.Fault.TheVariants as fault
 use Rattle.mysql_binlog_rows.specs.RowsEvent.{RowsEvent}
 use Rattle.mysql_binlog_rows.specs.Images.{Pair, pair}
-use Rattle.mysql_binlog_rows.specs.Cover.{IsPair, EndsWith}
 use Rattle.binlog_events.specs.declared.error.EventError.TheVariants as error
+use Rattle.binlog_events.specs.declared.error.EventError.{EventError}
 use Rattle.binlog_events.specs.declared.error.FileError.{FileError}
 use Rattle.binlog_file.specs.Events.{Event, glance_of}
 use Rattle.binlog_file.specs.Changes.{Wanted, Spot, IsMemory}
@@ -16,18 +16,18 @@ use Rattle.binlog_file.specs.LentEvents as Events
 use Rattle.binlog_file.specs.LentEvents.{Shows, GoesPast}
 use Rattle.binlog_file.specs.declared.lent_changes.LentEvent.{LentEvent}
 use Rattle.binlog_file.specs.declared.lent_changes.LentEvent.TheVariants as lent
-use Rattle.row_json.specs.Columns.{Column, columns_of}
+use Rattle.row_json.specs.Columns.{Column}
 use Rattle.row_json.specs.Faults.{IsFaultOfPair}
 use Rattle.change_lines.specs.declared.error.Failure.{Failure}
 use Rattle.change_lines.specs.declared.error.Failure.TheVariants as failure
-use Rattle.change_lines.specs.declared.run.Form.{Form}
-use Rattle.changed_rows.specs.Names.{up_to_most, is_before}
+use Rattle.changed_rows.specs.Names.{is_before}
 use Rattle.std.specs.declared.io.Error.{Error}
 use Rattle.changed_rows.specs.declared.filter.Positions.{Positions}
 use Rattle.changed_rows.specs.Filters.{start_sought}
 use Rattle.change_lines.specs.Outputs.{IsErrorOf}
 use Rattle.change_lines.specs.Rows.{AreLinesBy, BeginsWith}
-use Rattle.change_lines.specs.Lines.{AreRowLines, AreLines}
+use Rattle.change_lines.specs.FaultyRows.{IsRowError}
+use Rattle.change_lines.specs.Lines.{Manner, AreRowLines, AreLines}
 
 -- ---- what a failure is of
 
@@ -40,6 +40,16 @@ IsOutput _ = ⊥
 abbrev pub IsNotOfFile : Failure → Type 0
 IsNotOfFile (failure.File e) = ⊥
 IsNotOfFile _ = ⊤
+
+-- an error of an event is that of a row
+abbrev pub IsOfRow : EventError → Type 0
+IsOfRow (error.RowsData row f) = ⊤
+IsOfRow _ = ⊥
+
+-- it isn't the error of a row
+abbrev pub IsNotOfRow : Failure → Type 0
+IsNotOfRow (failure.File e) = IsOfRow e.error → ⊥
+IsNotOfRow _ = ⊤
 
 -- it is of no output, and no position is missing
 abbrev pub IsOfReading : Failure → Type 0
@@ -60,21 +70,9 @@ abbrev pub IsOfRun : {O : Type 0} → Positions → (O → List ℕ → Result �
 IsOfRun p writes flushes (failure.NoEvent n) = (start_sought p ≡ Some n) ⊎ (p.stop ≡ Some n)
 IsOfRun p writes flushes why = IsOfEvent writes flushes why
 
--- the row at the start of this rest can't be read
-abbrev pub IsUnreadable : LentChange → List ℕ → Fault → Type 0
-IsUnreadable c rest f = EndsWith (pair c.table c.rows) rest (Some f)
-
--- the row at the start of this rest can't be written: its first faulty document is this
-abbrev pub IsUnwritable : LentChange → List ℕ → Fault → Type 0
-IsUnwritable c rest f = (x more : List ℕ) × (p : Pair) × (rest ≡ x ++ more) × IsPair (pair c.table c.rows) x p × IsFaultOfPair (columns_of c.table) c.rows p f
-
--- The error of the row of an event that comes after n others, with which this rest begins; or that memory was
--- refused. The error has the row's number: how many rows of the event are before it. (Before the n rows there
--- are c.count, none where the event is one that a reading gives.)
+-- the error of the row of an event that comes after n others, with which this rest begins; or that memory was refused
 abbrev pub IsErrorOfRow : LentChange → ℕ → List ℕ → FileError → Type 0
-IsErrorOfRow c n rest e =
-    (e.position ≡ c.origin.position)
-    × (IsMemory e.error ⊎ ((f : Fault) × ((IsUnreadable c rest f × (e.error ≡ error.RowsData (c.count + n) f)) ⊎ (IsUnwritable c rest f × (e.error ≡ error.RowsData (up_to_most n) f)))))
+IsErrorOfRow c n rest e = (e.position ≡ c.origin.position) × (IsMemory e.error ⊎ IsRowError c n rest e.error)
 
 -- an error of the file is that of the row of an event that comes after n others, with which this rest begins
 abbrev pub EndsAtRow : Failure → LentChange → ℕ → List ℕ → Type 0
@@ -94,12 +92,13 @@ EndsAtHeader _ x = ⊤
 
 -- ---- the lines before a failure
 
--- A rows event that is wanted gives the lines of its first rows, up to the failure; any other event gives
--- none.
-abbrev pub AreFirstOfEvent : Failure → Form → List ℕ → Option (List ℕ) → LentEvent → List ℕ → Type 0
-AreFirstOfEvent why f file gtid (lent.Other o) text = (text ≡ []) × IsNotOfFile why
-AreFirstOfEvent why f file gtid (lent.Rows c) text =
-    (ps : List Pair) × (rest : List ℕ) × BeginsWith (pair c.table c.rows) c.left ps rest × AreRowLines f file gtid c 0 ps text × EndsAtRow why c (length ps) rest
+-- A rows event that is wanted gives the lines of its first rows, up to the failure, which isn't the error of a row where
+-- events are skipped by that; any other event gives none.
+abbrev pub AreFirstOfEvent : Failure → Manner → List ℕ → Option (List ℕ) → LentEvent → List ℕ → Type 0
+AreFirstOfEvent why m file gtid (lent.Other o) text = (text ≡ []) × IsNotOfFile why
+AreFirstOfEvent why m file gtid (lent.Rows c) text =
+    (ps : List Pair) × (rest : List ℕ) × BeginsWith (pair c.table c.rows) c.left ps rest × AreRowLines m.form file gtid c 0 ps text × EndsAtRow why c (length ps) rest
+    × (m.skips ≡ true → IsNotOfRow why)
 
 -- no position is missing
 abbrev pub MissesNone : Failure → Type 0
@@ -108,10 +107,10 @@ MissesNone _ = ⊤
 
 -- No lines, where the event at a spot fails, or no event begins at a position; or those of the first rows of
 -- this event, up to the failure.
-abbrev pub AreFirstOfNext : Failure → Form → Wanted → List ℕ → Spot → Option (List ℕ) → List ℕ → Type 0
-AreFirstOfNext why f wanted file at gtid text =
+abbrev pub AreFirstOfNext : Failure → Manner → Wanted → List ℕ → Spot → Option (List ℕ) → List ℕ → Type 0
+AreFirstOfNext why m wanted file at gtid text =
     ((text ≡ []) × EndsAtEvent why wanted at)
-    ⊎ (MissesNone why × (e : Event) × (new : Spot) × GoesPast at e new × (x : LentEvent) × Shows wanted new.in_force.tables (glance_of e) x × AreFirstOfEvent why f file gtid x text)
+    ⊎ (MissesNone why × (e : Event) × (new : Spot) × GoesPast at e new × (x : LentEvent) × Shows wanted new.in_force.tables (glance_of e) x × AreFirstOfEvent why m file gtid x text)
 
 -- each of these events begins before a position
 abbrev pub AllBegin : List Event → ℕ → Type 0
@@ -132,14 +131,14 @@ IsInTime _ stop at = ⊤
 -- Lines of a file from a spot on, up to a failure: those of some events that are read one after the other,
 -- and then those of some first rows of the next one, which begins before the stop position if the failure is
 -- an error of the file. A position at which no event begins is missing in the file.
-pub record AreFirst (why : Failure) (f : Form) (stop : Option ℕ) (wanted : Wanted) (file : List ℕ) (from : Spot) (gtid : Option (List ℕ)) (text : List ℕ) : Type 0 where
+pub record AreFirst (why : Failure) (m : Manner) (stop : Option ℕ) (wanted : Wanted) (file : List ℕ) (from : Spot) (gtid : Option (List ℕ)) (text : List ℕ) : Type 0 where
   pub events : List Event
   pub front : List ℕ
   pub at : Spot
   pub here : Option (List ℕ)
   pub rows : List ℕ
-  pub lines : AreLines f wanted file from gtid events front at here
-  pub next : AreFirstOfNext why f wanted file at here rows
+  pub lines : AreLines m wanted file from gtid events front at here
+  pub next : AreFirstOfNext why m wanted file at here rows
   pub in_time : IsInTime why stop at
   pub missing : IsMissing why stop events at
   pub whole : text ≡ front ++ rows
@@ -175,12 +174,12 @@ pub record WritesFirstRows (why : Failure) (Is : ℕ → Pair → List ℕ → T
   pub outputs : OutputsUpTo why old held text new left
 
 -- The lines of some first rows of an event were written.
-abbrev pub WritesFirstOfEvent : Failure → Form → List ℕ → Option (List ℕ) → LentEvent → Option (List ℕ) → List ℕ → Option (List ℕ) → List ℕ → Type 0
-WritesFirstOfEvent why f file gtid x old held new left = (text : List ℕ) × AreFirstOfEvent why f file gtid x text × OutputsUpTo why old held text new left
+abbrev pub WritesFirstOfEvent : Failure → Manner → List ℕ → Option (List ℕ) → LentEvent → Option (List ℕ) → List ℕ → Option (List ℕ) → List ℕ → Type 0
+WritesFirstOfEvent why m file gtid x old held new left = (text : List ℕ) × AreFirstOfEvent why m file gtid x text × OutputsUpTo why old held text new left
 
 -- Lines of a file from a spot on were written.
-abbrev pub WritesFirst : Failure → Form → Option ℕ → Wanted → List ℕ → Spot → Option (List ℕ) → Option (List ℕ) → List ℕ → Option (List ℕ) → List ℕ → Type 0
-WritesFirst why f stop wanted file from gtid old held new left = (text : List ℕ) × AreFirst why f stop wanted file from gtid text × OutputsUpTo why old held text new left
+abbrev pub WritesFirst : Failure → Manner → Option ℕ → Wanted → List ℕ → Spot → Option (List ℕ) → Option (List ℕ) → List ℕ → Option (List ℕ) → List ℕ → Type 0
+WritesFirst why m stop wanted file from gtid old held new left = (text : List ℕ) × AreFirst why m stop wanted file from gtid text × OutputsUpTo why old held text new left
 
 -- A row wasn't put out: a beginning of its line was written, where the output failed; or its line can't be made,
 -- and nothing was written.

@@ -34,7 +34,7 @@ abbrev pub name_in_lines : Bool → List ℕ → List ℕ
 name_in_lines is_text name = if is_text then shown_name name else name
 
 -- What the run over the file of this path gives: what a run gives over its bytes, by the settings of this number.
-abbrev pub IsRunOfPath : Arguments → (List ℕ → Option (List ℕ)) → ℕ → List ℕ → Counts → Counts → Option (List ℕ) → Option (List ℕ) → Result (Unit {0}) Failure → Type 0
+abbrev pub IsRunOfPath : Arguments → (List ℕ → Option (List ℕ)) → ℕ → List ℕ → Counts → Counts → Option (List ℕ) → Option (List ℕ) → Result ℕ Failure → Type 0
 IsRunOfPath a bytes index path before after old new result =
     (name : List ℕ) × IsFileName path name
     × ((x : List ℕ) → bytes path ≡ Some x → length x < 2 ^ 64 → (may_wait : Bool) × IsRun (settings_of a index may_wait) (name_in_lines a.is_text name) x before after old new result)
@@ -60,10 +60,11 @@ abbrev pub IsToldLast : List ℕ → Failure → Bool → Option (List ℕ) → 
 IsToldLast path why is_lost told =
     (text : List ℕ) × IsTold (shown_name path) why text × (was_lost : Bool) × (before : Option (List ℕ)) × Tells was_lost before is_lost told text
 
--- How it ends after the run over the file of this path, which gave this result: as before it; or failed, by a failure of
--- the file alone, which was told.
-abbrev pub GoesOn : List ℕ → Ended → Result (Unit {0}) Failure → Ended → Bool → Option (List ℕ) → Type 0
-GoesOn path before (Ok u) after is_lost told = after ≡ before
+-- How it ends after the run over the file of this path, which gave this result: as before it; or failed, where events
+-- were skipped, or by a failure of the file alone, which was told.
+abbrev pub GoesOn : List ℕ → Ended → Result ℕ Failure → Ended → Bool → Option (List ℕ) → Type 0
+GoesOn path before (Ok zero) after is_lost told = after ≡ before
+GoesOn path before (Ok (suc n)) after is_lost told = after ≡ ended.Failed
 GoesOn path before (Err why) after is_lost told = IsOwn why × (after ≡ ended.Failed) × IsToldLast path why is_lost told
 
 -- So many of the first files were read, one after the other, and it ends so. Of each that failed this was told, after
@@ -74,7 +75,7 @@ AreFirstFiles a bytes (suc n) before after old new e is_lost told =
     (counts : Counts) × (mid : Option (List ℕ)) × (was : Ended) × (was_lost : Bool) × (was_told : Option (List ℕ))
     × AreFirstFiles a bytes n before counts old mid was was_lost was_told
     × (path : List ℕ) × (slice_get (texts a.files.now) n ≡ Some path)
-    × (result : Result (Unit {0}) Failure) × IsRunOfPath a bytes n path counts after mid new result
+    × (result : Result ℕ Failure) × IsRunOfPath a bytes n path counts after mid new result
     × GoesOn path was result e is_lost told
 
 -- The files before the one of this path were read, one after the other, and it ended so; then the run over that one failed.

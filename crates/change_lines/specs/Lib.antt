@@ -3,6 +3,7 @@ pub mod Outputs
 pub mod Waits
 pub mod Rows
 pub mod Readings
+pub mod FaultyRows
 pub mod Lines
 pub mod Failures
 pub mod CountedFiles

@@ -2,6 +2,7 @@
 use Rattle.std.specs.Prelude.{◌≡◌, ◌<◌, ◌+◌, ◌==◌, ◌||◌, ◌⊎◌, not, ℕ, Bool, true, false, if◌then◌else◌, List, [], ◌∷◌, ◌++◌, length, codes, decimal, bytes_eq, Option, Some, None}
 use Rattle.std.specs.List.{concat, flat_map}
 use Rattle.std.specs.Io.KnownBytes.{Appends}
+use Rattle.binlog_events.specs.declared.error.FileError.{FileError}
 use Rattle.row_lines.specs.Names.{shown_name}
 use Rattle.changed_rows.specs.declared.gaps.Gaps.{Gaps}
 use Rattle.changed_rows.specs.declared.named.MissingName.{MissingName}
@@ -68,15 +69,25 @@ break_note is_quiet path (Some type) is_open =
     if is_quiet || not (breaks_off type is_open) then []
     else of_file path (codes "the file ends within a transaction\n")
 
--- Nothing was told of a file of this path, or that it breaks off.
-abbrev pub TellsBreak : List ℕ → Bool → Option (List ℕ) → Bool → Option (List ℕ) → Type 0
-TellsBreak path was_lost old is_lost new =
-    (last : Option ℕ) × (is_open : Bool) × (is_quiet : Bool) × Tells was_lost old is_lost new (break_note is_quiet path last is_open)
+-- the lines that tell these errors of the file of this path, which is as it is shown
+abbrev pub AreTold : List ℕ → List FileError → List ℕ → Type 0
+AreTold path [] text = text ≡ []
+AreTold path (e ∷ es) text = (line more : List ℕ) × IsTold path (failure.File e) line × AreTold path es more × (text ≡ line ++ more)
 
--- Of a file of this path it was told whether it breaks off, and then what it says of changes that its rows don't show.
-abbrev pub TellsFile : List ℕ → Gaps → Bool → Option (List ℕ) → Bool → Option (List ℕ) → Type 0
-TellsFile path gaps was_lost old is_lost new =
-    (last : Option ℕ) × (is_open : Bool) × (is_quiet : Bool) × Tells was_lost old is_lost new (break_note is_quiet path last is_open ++ gaps_text path gaps)
+-- Of a file of this path the errors of the events were told that were skipped, and then nothing, or that it breaks off.
+-- Where notes are quiet, the errors alone were.
+abbrev pub TellsBreak : List ℕ → Bool → List FileError → Bool → Option (List ℕ) → Bool → Option (List ℕ) → Type 0
+TellsBreak path is_quiet faults was_lost old is_lost new =
+    (first : List ℕ) × AreTold path faults first
+    × (last : Option ℕ) × (is_open : Bool) × Tells was_lost old is_lost new (first ++ break_note is_quiet path last is_open)
+
+-- Of a file of this path the errors of the events were told that were skipped, whether it breaks off, and then what it
+-- says of changes that its rows don't show. Where notes are quiet, the errors alone were.
+abbrev pub TellsFile : List ℕ → Bool → Gaps → List FileError → Bool → Option (List ℕ) → Bool → Option (List ℕ) → Type 0
+TellsFile path is_quiet gaps faults was_lost old is_lost new =
+    (first : List ℕ) × AreTold path faults first
+    × (last : Option ℕ) × (is_open : Bool)
+    × Tells was_lost old is_lost new (first ++ (break_note is_quiet path last is_open ++ (if is_quiet then [] else gaps_text path gaps)))
 
 abbrev pub case_text : Bool → List ℕ
 case_text has_other_case = if has_other_case then codes ", but of a name that differs by case" else []

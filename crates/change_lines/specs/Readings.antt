@@ -2,17 +2,10 @@
 use Rattle.std.specs.Prelude.{◌≡◌, ℕ, Bool, true, false, List, [], ◌∷◌, Option, Result}
 use Rattle.binlog_events.specs.declared.error.FileError.{FileError}
 use Rattle.binlog_file.specs.declared.lent_changes.LentEvent.{LentEvent}
-use Rattle.binlog_file.specs.declared.source_changes.SourceChanges.{SourceChanges}
 use Rattle.binlog_file.specs.Changes.{Wanted, Spot}
 use Rattle.binlog_file.specs.Stream.{Reading, IsOutside}
 use Rattle.binlog_file.specs.LentEvents.{PassesOver, NextEvent}
 use Rattle.binlog_file.specs.SourceChanges.{Finds, spot_at}
-
--- the reading stays where it is
-pub record Stays {S C : Type 0} (old new : SourceChanges S C) : Type 0 where
-  pub walk : new.walk ≡ old.walk
-  pub source : new.source ≡ old.source
-  pub choice : new.choice ≡ old.choice
 
 -- The types of the events that are looked at beside rows events: those after which another GTID may be in
 -- force, and those that say something of changes or which file follows.

@@ -6,8 +6,6 @@ use Rattle.mysql_binlog_rows.specs.RowsEvent.{RowsEvent}
 use Rattle.mysql_binlog_rows.specs.Images.{Pair, pair}
 use Rattle.mysql_binlog_rows.specs.Cover.{ArePairs, Covers}
 use Rattle.binlog_file.specs.LentChanges.{LentChange}
-use Rattle.binlog_file.specs.declared.lent_changes.LentEvent.{LentEvent}
-use Rattle.binlog_file.specs.declared.lent_changes.LentEvent.TheVariants as lent
 use Rattle.row_json.specs.Columns.{Column}
 use Rattle.row_json.specs.Rows.{IsLine}
 use Rattle.changed_rows.specs.declared.source.Source.{Source}
@@ -40,8 +38,3 @@ pub record WritesRows (Is : ℕ → Pair → List ℕ → Type 0) (c : LentChang
 -- All rows of an event can be read, and there are so many, up to the most that a number holds.
 abbrev pub IsRowCount : LentChange → ℕ → Type 0
 IsRowCount c n = (ps : List Pair) × Covers (pair c.table c.rows) c.left ps None × (n ≡ up_to_most (length ps))
-
--- so many rows of an event are wanted: none of an event that is no rows event that is wanted
-abbrev pub IsRowCountOf : LentEvent → ℕ → Type 0
-IsRowCountOf (lent.Rows c) n = IsRowCount c n
-IsRowCountOf (lent.Other o) n = n ≡ 0

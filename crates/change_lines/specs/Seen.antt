@@ -1,5 +1,5 @@
 -- Which names of tables came.
-use Rattle.std.specs.Prelude.{◌≡◌, ◌&&◌, ℕ, nat_le, if◌then◌else◌, List, length, take, Option, Some, None}
+use Rattle.std.specs.Prelude.{◌≡◌, ◌&&◌, ℕ, nat_le, if◌then◌else◌, length, take, Option, Some, None}
 use Rattle.std.specs.Option.{is_some}
 use Rattle.byteorder.specs.Endian.{little_number}
 use Rattle.binlog_table.specs.TableMap.{TableMap}

@@ -9,3 +9,10 @@ pub record IsSilent {E K : Type 0} (old new : Notes E K) : Type 0 where
   pub quiet : new.is_quiet ≡ old.is_quiet
   pub len : new.len ≡ old.len
   pub meter : new.meter ≡ old.meter
+
+-- something may have been told, and what is told later is told as before
+pub record IsAsBefore {E K : Type 0} (old new : Notes E K) : Type 0 where
+  pub quiet : new.is_quiet ≡ old.is_quiet
+  pub len : new.len ≡ old.len
+  pub meter : new.meter ≡ old.meter
+  pub told : new.told ≡ old.told

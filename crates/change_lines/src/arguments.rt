@@ -90,7 +90,9 @@ fn with_forms<'a>(alloc: Global, command: Command<'a>) -> Result<Command<'a>, Al
 
 fn with_notes<'a>(alloc: Global, command: Command<'a>) -> Result<Command<'a>, AllocError> {
     let quiet = "Neither progress nor notes of what a file can't show";
+    let skip = "Skip an event from its first row on that can't be read, and go on";
     command
+        .arg(flag(alloc, "skip-faulty", skip))?
         .arg(flag(
             alloc,
             "progress",
@@ -138,6 +140,8 @@ pub struct Arguments<'a> {
     pub is_progress: bool,
     /// Whether nothing but errors is told: neither progress nor what a file can't show.
     pub is_quiet: bool,
+    /// Whether an event is skipped from its first row on that can't be read or written.
+    pub skips_faulty: bool,
     tables: TableNames<'a>,
     operations: Operations,
     positions: Positions,
@@ -203,6 +207,7 @@ impl<'a> Arguments<'a> {
             },
             is_text: flag_of(matches, "text"),
             is_quiet,
+            skips_faulty: flag_of(matches, "skip-faulty"),
         }
     }
 
@@ -266,6 +271,7 @@ impl<'a> Arguments<'a> {
                 },
             },
             form: self.form(),
+            skips_faulty: self.skips_faulty,
             may_wait,
         }
     }

@@ -1,6 +1,9 @@
 //! Which table a row belongs to that can't be read.
 
-ghost use Rattle.std.specs.Prelude.{◌≡◌, OnOk, IfOk};
+ghost use Rattle.std.specs.Prelude.{◌≡◌, ◌↔◌, IsSome, IfSome, IfOk};
+ghost use Rattle.std.specs.String.{string_bytes};
+ghost use Rattle.row_lines.specs.Names.{shown_table};
+ghost use Rattle.change_lines.specs.Failures.{IsOfRow};
 
 use binlog_base::fault::Fault;
 use binlog_file::error::EventError;
@@ -36,7 +39,11 @@ impl FaultyTable {
         alloc: Global,
         table: &TableMapEvent<'_>,
         error: EventError,
-    ) -> Result<Option<FaultyTable>, AllocError> {
+    ) -> Result<Option<FaultyTable>, AllocError>
+        ensures of_row { IfOk result (λ f. IsSome f ↔ IsOfRow error) }
+        ensures name { IfOk result (λ f. IfSome f (λ t. string_bytes t.name
+            ≡ shown_table table.now.database table.now.table)) }
+    {
         let EventError::RowsData(_, fault) = error else {
             return Ok(None);
         };

@@ -98,7 +98,7 @@ fn print_file<'c, F: Files, O: WriteOnce, E: Write + Drop, K: Clock>(
     counts: &mut Counts,
     out: &mut O,
     notes: &mut Notes<'c, E, K>,
-) -> Result<(), Failure>
+) -> Result<u64, Failure>
     ensures run { IsRunOfPath arguments.now (F.bytes files.now) index path.now counts.old counts.new
         (O.contents out.old) (O.contents out.new) result }
 {
@@ -123,10 +123,11 @@ fn print_file<'c, F: Files, O: WriteOnce, E: Write + Drop, K: Clock>(
 }
 
 // Takes in what the run over the file of a path gave, and returns how it ends so far. An error of the file
-// itself is told, and the next file is read; any other failure ends the reading of files.
+// itself is told, and the next file is read; any other failure ends the reading of files. Of each event that was
+// skipped an error was told already.
 fn after_file<'a, 'c, E: Write + Drop, K: Clock>(
     path: &'a str,
-    done: Result<(), Failure>,
+    done: Result<u64, Failure>,
     ended: Ended,
     notes: &mut Notes<'c, E, K>,
 ) -> Result<Ended, Stopped<'a>>
@@ -135,8 +136,10 @@ fn after_file<'a, 'c, E: Write + Drop, K: Clock>(
     ensures stops { IfErr result (λ stopped. (stopped.path.now ≡ path.now) × (stopped.before ≡ ended)
         × (done ≡ Err stopped.failure) × EndsAll stopped.failure) }
 {
-    let Err(failure) = done else {
-        return Ok(ended);
+    let failure = match done {
+        Ok(0) => return Ok(ended),
+        Ok(_) => return Ok(Ended::Failed),
+        Err(failure) => failure,
     };
     if ends_all(&failure) {
         return Err(Stopped {

@@ -16,14 +16,15 @@ ghost use Rattle.change_lines.specs.Seen.{SeesIn, table_in_force};
 ghost use Rattle.change_lines.specs.declared.error.Failure.TheVariants as failure;
 ghost use Rattle.change_lines.specs.Lacking.{TakesTable, lack_note, who_text, groups_text};
 ghost use Rattle.change_lines.specs.Notes.{TellsAtMostOne, TellsTable};
-ghost use Rattle.change_lines.specs.Notes.{Tells, TellsSome, IsTold, count_note, gaps_text};
+ghost use Rattle.change_lines.specs.Notes.{Tells, TellsSome, IsTold, AreTold, count_note, gaps_text};
+ghost use Rattle.change_lines.specs.NotedFiles.{faults_of};
 ghost use Rattle.change_lines.specs.Notes.{follow_note, break_note, case_text, missing_note, missing_text};
 
 use crate::error::{Failure, Sentence};
 use crate::faulty::FaultyTable;
 use crate::lacking::{Group, add_table, lacks_text};
 use crate::progress::Meter;
-use crate::run::Form;
+use crate::run::{Form, Printed};
 use binlog_events::event::rows_type;
 use binlog_file::error::FileError;
 use binlog_file::lent_changes::{LentEvent, OtherEvent};
@@ -106,7 +107,7 @@ fn case_text(has_other_case: bool) -> &'static str
 
 impl<'c, E: Write + Drop, K: Clock> Notes<'c, E, K> {
     ghost use Rattle.binlog_file.specs.LentChanges.{OtherEvent, LentChange};
-    ghost use Rattle.change_lines.specs.Silent.{IsSilent};
+    ghost use Rattle.change_lines.specs.Silent.{IsSilent, IsAsBefore};
     ghost use Rattle.binlog_file.specs.declared.lent_changes.LentEvent.TheVariants as lent;
     ghost use Rattle.change_lines.specs.declared.run.Form.TheVariants as Form;
 
@@ -228,6 +229,7 @@ impl<'c, E: Write + Drop, K: Clock> Notes<'c, E, K> {
         ensures text { OnOk result ((text : List ℕ) × IsTold path.now (failure.File error.now) text
             × Appends (E.contents self.old.err) (E.contents self.new.err) text) }
         ensures lost { self.new.is_lost ≡ self.old.is_lost }
+        ensures rest { IsAsBefore self.old self.new }
     {
         let position = error.position;
         let sentence = Sentence::of(error, self.len, self.faulty.as_ref());
@@ -286,7 +288,8 @@ impl<'c, E: Write + Drop, K: Clock> Notes<'c, E, K> {
 
     // Takes in that something couldn't be written. That memory was refused is told.
     fn lose(&mut self, error: &io::Error)
-        ensures { IsTrue self.new.is_lost }
+        ensures lost { IsTrue self.new.is_lost }
+        ensures rest { IsAsBefore self.old self.new }
     {
         self.is_lost = true;
         if error.kind() == ErrorKind::OutOfMemory {
@@ -294,16 +297,67 @@ impl<'c, E: Write + Drop, K: Clock> Notes<'c, E, K> {
         }
     }
 
-    /// Takes in that so many rows of the event at a position were read, and tells the progress.
-    pub fn step(&mut self, path: &str, position: u64, rows: u64)
+    // Tells the error by which an event was skipped. `faulty` is the table of its row, if that is known.
+    fn tell_skipped(&mut self, path: &str, error: &FileError, faulty: &mut Option<FaultyTable>)
+        ensures text { (text : List ℕ) × IsTold path.now (failure.File error.now) text
+            × Tells self.old.is_lost (E.contents self.old.err) self.new.is_lost
+            (E.contents self.new.err) text }
+        ensures rest { IsAsBefore self.old self.new }
+    {
+        self.faulty = faulty.take();
+        let Err(error) = self.write_file(path, error) else {
+            return;
+        };
+        self.lose(&error);
+    }
+
+    // Tells the error by which an event was skipped, if it was.
+    #[inline(always)]
+    fn tell_printed(&mut self, path: &str, printed: &Printed, faulty: &mut Option<FaultyTable>)
+        ensures text { (text : List ℕ) × AreTold path.now (faults_of printed.now) text
+            × Tells self.old.is_lost (E.contents self.old.err) self.new.is_lost
+            (E.contents self.new.err) text }
+        ensures rest { IsAsBefore self.old self.new }
+    {
+        match printed {
+            Printed::All(_) => {}
+            Printed::UpTo(error) => self.tell_skipped(path, error, faulty),
+        }
+    }
+
+    // Takes in that so many rows of the event at a position were read, and tells the progress.
+    fn tell_progress(&mut self, path: &str, position: u64, rows: u64)
         ensures quiet { self.new.is_quiet ≡ self.old.is_quiet }
         ensures told { self.new.told ≡ self.old.told }
+        ensures len { self.new.len ≡ self.old.len }
         ensures silent { self.old.meter ≡ None → IsSilent self.old self.new }
     {
         if let Some(meter) = &mut self.meter {
             meter.add_rows(rows);
             let _written = meter.step(path, position, &mut self.err);
         }
+    }
+
+    /// Takes in what came of the rows of the event at a position: tells the error by which it was skipped, if it
+    /// was, and the progress. `faulty` is the table of the row that can't be read, if that is known.
+    #[inline(always)]
+    pub fn step(
+        &mut self,
+        path: &str,
+        position: u64,
+        printed: &Printed,
+        faulty: &mut Option<FaultyTable>,
+    )
+        ensures quiet { self.new.is_quiet ≡ self.old.is_quiet }
+        ensures told { self.new.told ≡ self.old.told }
+        ensures text { self.old.meter ≡ None → (text : List ℕ) × AreTold path.now (faults_of printed.now)
+            text × Tells self.old.is_lost (E.contents self.old.err) self.new.is_lost
+            (E.contents self.new.err) text }
+        ensures len { self.new.len ≡ self.old.len }
+        ensures meter { self.old.meter ≡ None → self.new.meter ≡ None }
+    {
+        self.tell_printed(path, printed, faulty);
+        self.tell_progress(path, position, printed.rows());
     }
 
     // Tells how often a file says something, unless it never does.

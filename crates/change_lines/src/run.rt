@@ -11,27 +11,32 @@ ghost use Rattle.row_lines.specs.Lines.{signed_line_text};
 ghost use Rattle.std.specs.Prelude.{◌^◌, ◌*◌, ◌<◌, ◌≤◌, length, vec_capacity, Some, None, Ok, Err, IfSome, IsSome, IsOk};
 ghost use Rattle.mysql_binlog_rows.specs.Images.{Pair, pair};
 ghost use Rattle.mysql_binlog_rows.specs.Cover.{Covers};
+ghost use Rattle.binlog_base.specs.declared.fault.Fault.{Fault};
+ghost use Rattle.binlog_events.specs.declared.error.EventError.TheVariants as EventError;
+ghost use Rattle.binlog_events.specs.declared.error.FileError.{FileError};
 ghost use Rattle.binlog_file.specs.declared.lent_changes.LentEvent.TheVariants as lent;
 ghost use Rattle.binlog_file.specs.SourceChanges.{Finds, spot_at, items_left};
 ghost use Rattle.binlog_file.specs.Workings.SourceWalks.{reading_in, kept_in};
 ghost use Rattle.change_lines.specs.declared.run.Form.TheVariants as Form;
+ghost use Rattle.change_lines.specs.declared.run.Printed.TheVariants as Printed;
 ghost use Rattle.change_lines.specs.declared.run.Ended.TheVariants.{Whole};
 ghost use Rattle.changed_rows.specs.Filters.{wanted_by};
 ghost use Rattle.changed_rows.specs.Gtids.{gtid_after};
 ghost use Rattle.changed_rows.specs.Sources.{members_in};
 ghost use Rattle.change_lines.specs.Outputs.{Outputs, AppendsFirst};
 ghost use Rattle.change_lines.specs.Waits.{has_event, IsFlushed};
-ghost use Rattle.change_lines.specs.Rows.{BeginsWith, IsJsonLine, WritesRows, IsRowCount, IsRowCountOf};
-ghost use Rattle.change_lines.specs.Readings.{Stays, SourceNext};
+ghost use Rattle.change_lines.specs.Rows.{BeginsWith, IsJsonLine, WritesRows, IsRowCount};
+ghost use Rattle.change_lines.specs.Readings.{SourceNext};
 ghost use Rattle.changed_rows.specs.Transactions.{open_after};
 ghost use Rattle.changed_rows.specs.Gaps.{no_gaps};
 ghost use Rattle.changed_rows.specs.declared.gaps.Gaps.{Gaps};
 ghost use Rattle.change_lines.specs.Notes.{TellsBreak, TellsFile};
-ghost use Rattle.change_lines.specs.NotedFiles.{AreNotedToEnd, AreAllNoted};
-ghost use Rattle.change_lines.specs.Lines.{place_text, IsRowLine, gtid_past, gaps_past, open_past, WritesEvent, Writes};
+ghost use Rattle.change_lines.specs.NotedFiles.{IsPrinted, Skips, skipped_past, AreNotedToEnd, AreAllNoted};
+ghost use Rattle.change_lines.specs.Lines.{place_text, IsRowLine, manner_of, gtid_past, gaps_of, gaps_past, open_past};
+ghost use Rattle.change_lines.specs.Lines.{WritesEvent, Writes};
 ghost use Rattle.change_lines.specs.declared.error.Failure.{Failure};
 ghost use Rattle.change_lines.specs.Failures.{IsOutput, IsErrorOfRow, EndsAtRow, IsRowFailure, IsLineFailure};
-ghost use Rattle.change_lines.specs.Failures.{IsOfReading, IsOfEvent, IsOfRun};
+ghost use Rattle.change_lines.specs.Failures.{IsOfRow, IsNotOfRow, IsOfReading, IsOfEvent, IsOfRun};
 ghost use Rattle.change_lines.specs.Failures.{IsLostBy, OutputsUpTo, AppendsUpTo, FailsAtLine};
 ghost use Rattle.change_lines.specs.Failures.{WritesFirstRows, WritesFirstOfEvent, WritesFirst};
 ghost use Rattle.changed_rows.specs.Names.{up_to_most};
@@ -102,6 +107,8 @@ pub struct Settings<'a> {
     pub filter: Filter<'a>,
     /// The form of their lines.
     pub form: Form,
+    /// Whether an event is skipped from its first row on that can't be read or written, in place of an error.
+    pub skips_faulty: bool,
     /// Whether a read of the source may have to wait, as that of a pipe. Then the lines are written out, and
     /// the output is flushed, before each read of an event that the source doesn't hold whole.
     pub may_wait: bool,
@@ -178,6 +185,62 @@ fn row_failure(position: u64, row: u64, fault: Fault) -> Failure
     }
 }
 
+/// What came of the rows of an event.
+#[derive(Clone, Copy, Debug, PartialEq, Eq)]
+pub enum Printed {
+    /// All were printed: so many, none of an event that has no rows that are wanted.
+    All(u64),
+    /// Those before the one with this error, from which on the event was skipped.
+    UpTo(FileError),
+}
+
+impl Printed {
+    /// Returns how many rows were printed.
+    #[inline(always)]
+    pub fn rows(&self) -> u64
+        ensures all { (n : ℕ) → self.now ≡ Printed.All n → result ≡ n }
+        ensures up_to { (at row : ℕ) (f : Fault)
+            → self.now ≡ Printed.UpTo (record { position = at; error = EventError.RowsData row f })
+            → result ≡ row }
+    {
+        match *self {
+            Printed::All(rows) => rows,
+            Printed::UpTo(error) => row_of(error.error).unwrap_or(0),
+        }
+    }
+}
+
+// Returns the number of the row that an error is of, if it is of one.
+fn row_of(error: EventError) -> Option<u64>
+    ensures of_row { IsSome result ↔ IsOfRow error }
+    ensures number { IfSome result (λ row. (f : Fault) × (error ≡ EventError.RowsData row f)) }
+{
+    match error {
+        EventError::RowsData(row, _) => Some(row),
+        _ => None,
+    }
+}
+
+// Returns the error by which an event is skipped: that of a row, where such events are. Any other failure stays one.
+#[inline(never)]
+fn skipped_by(skips_faulty: bool, failure: Failure) -> Result<FileError, Failure>
+    ensures skipped { IfOk result (λ error. IsTrue skips_faulty × (failure ≡ Failure.File error)
+        × IsOfRow error.error) }
+    ensures failed { IfErr result (λ why. (why ≡ failure)
+        × (IsTrue skips_faulty → IsNotOfRow failure)) }
+{
+    match failure {
+        Failure::File(error) => {
+            if skips_faulty && row_of(error.error).is_some() {
+                Ok(error)
+            } else {
+                Err(Failure::File(error))
+            }
+        }
+        _ => Err(failure),
+    }
+}
+
 // The lines that weren't written yet, and room to make one.
 #[derive(Drop)]
 struct Lines {
@@ -236,7 +299,7 @@ impl Lines {
             (O.contents out.new) self.new.bytes.items) }
         ensures failed { IfErr result IsOutput }
         ensures cause { IfErr result (IsOfEvent O.writes O.flushes) }
-        ensures few { OnOk result (length self.new.bytes.items < 32 * 1024) }
+        ensures few { length self.new.bytes.items < 32 * 1024 }
     {
         if self.bytes.len() < FULL {
             return Ok(());
@@ -378,7 +441,8 @@ impl Lines {
             why (O.contents out.old) self.old.bytes.items (O.contents out.new)
             self.new.bytes.items) }
         ensures cause { IfErr result (IsOfEvent O.writes O.flushes) }
-        ensures few { OnOk result (length self.new.bytes.items < 32 * 1024) }
+        ensures few { length self.old.bytes.items < 32 * 1024
+            → length self.new.bytes.items < 32 * 1024 }
     {
         let line = self.long_line(table, event, pair, source)?;
         let mut room = EscapeRoom::new(self.alloc)?;
@@ -405,8 +469,8 @@ impl Lines {
             why (O.contents out.old) self.old.bytes.items (O.contents out.new)
             self.new.bytes.items) }
         ensures cause { IfErr result (IsOfEvent O.writes O.flushes) }
-        ensures few { OnOk result (length self.old.bytes.items < 32 * 1024
-            → length self.new.bytes.items < 32 * 1024) }
+        ensures few { length self.old.bytes.items < 32 * 1024
+            → length self.new.bytes.items < 32 * 1024 }
     {
         if event.rows_data().len() >= LARGE {
             return self.put_long(table, event, pair, source, out);
@@ -433,8 +497,7 @@ impl Lines {
 
 // Writes each row of an event as a line of JSON, and returns how many there are. `source` is that of any
 // row of the event.
-fn write_json_rows<'f, 'b, S: Bytes + Drop, O: WriteOnce>(
-    changes: &mut SourceChanges<S, Filter<'f>>,
+fn write_json_rows<'b, O: WriteOnce>(
     change: &mut LentChange<'b>,
     buffer: &mut LentPair<'b>,
     table: &TableJson,
@@ -449,14 +512,13 @@ fn write_json_rows<'f, 'b, S: Bytes + Drop, O: WriteOnce>(
         → IfErr result (λ why. WritesFirstRows why
         (IsJsonLine table.now change.old.rows source.now) change.old (O.contents out.old)
         lines.old.bytes.items (O.contents out.new) lines.new.bytes.items) }
-    ensures stays { OnOk result (Stays changes.old changes.new) }
     ensures cause { IfErr result (IsOfEvent O.writes O.flushes) }
-    ensures few { OnOk result (length lines.old.bytes.items < 32 * 1024
-        → length lines.new.bytes.items < 32 * 1024) }
+    ensures few { length lines.old.bytes.items < 32 * 1024
+        → length lines.new.bytes.items < 32 * 1024 }
     ensures rows { IfOk result (IsRowCount change.old) }
 {
     let mut row: u64 = 0;
-    while let Some(read) = changes.next_pair(change, buffer) {
+    while let Some(read) = change.next_pair(buffer) {
         read?;
         lines.put_json(table, change.rows(), buffer, &source.at(row), out)?;
         row = row.saturating_add(1);
@@ -466,8 +528,7 @@ fn write_json_rows<'f, 'b, S: Bytes + Drop, O: WriteOnce>(
 
 // Writes each row of an event as a line of text, which begins with `place`, and returns how many there
 // are.
-fn write_text_rows<'f, 'b, S: Bytes + Drop, O: WriteOnce>(
-    changes: &mut SourceChanges<S, Filter<'f>>,
+fn write_text_rows<'b, O: WriteOnce>(
     change: &mut LentChange<'b>,
     buffer: &mut LentPair<'b>,
     place: &str,
@@ -480,14 +541,13 @@ fn write_text_rows<'f, 'b, S: Bytes + Drop, O: WriteOnce>(
     ensures first { IfErr result (λ why. WritesFirstRows why
         (λ row p line. line ≡ place.now ++ signed_line_text p) change.old (O.contents out.old)
         lines.old.bytes.items (O.contents out.new) lines.new.bytes.items) }
-    ensures stays { OnOk result (Stays changes.old changes.new) }
     ensures cause { IfErr result (IsOfEvent O.writes O.flushes) }
-    ensures few { OnOk result (length lines.old.bytes.items < 32 * 1024
-        → length lines.new.bytes.items < 32 * 1024) }
+    ensures few { length lines.old.bytes.items < 32 * 1024
+        → length lines.new.bytes.items < 32 * 1024 }
     ensures rows { IfOk result (IsRowCount change.old) }
 {
     let mut count: u64 = 0;
-    while let Some(read) = changes.next_pair(change, buffer) {
+    while let Some(read) = change.next_pair(buffer) {
         read?;
         lines.add_text(place, buffer)?;
         lines.write_if_full(out)?;
@@ -497,8 +557,7 @@ fn write_text_rows<'f, 'b, S: Bytes + Drop, O: WriteOnce>(
 }
 
 // Returns how many rows an event has, up to the first that can't be read, and the error of that one.
-fn count_rows<'f, 'b, S: Bytes + Drop>(
-    changes: &mut SourceChanges<S, Filter<'f>>,
+fn count_rows<'b>(
     change: &mut LentChange<'b>,
     buffer: &mut LentPair<'b>,
 ) -> (u64, Option<FileError>)
@@ -508,10 +567,9 @@ fn count_rows<'f, 'b, S: Bytes + Drop>(
     ensures first { IfSome result.1 (λ error. (ps : List Pair) × (rest : List ℕ)
         × BeginsWith (pair change.old.table change.old.rows) change.old.left ps rest
         × IsErrorOfRow change.old (length ps) rest error × (result.0 ≡ up_to_most (length ps))) }
-    ensures stays { result.1 ≡ None → Stays changes.old changes.new }
 {
     let mut count: u64 = 0;
-    while let Some(read) = changes.next_pair(change, buffer) {
+    while let Some(read) = change.next_pair(buffer) {
         match read {
             Ok(()) => count = count.saturating_add(1),
             Err(error) => return (count, Some(error)),
@@ -608,6 +666,8 @@ struct Printer<'a> {
     lines: Lines,
     // The table of the row that can't be read, if it is known.
     faulty: Option<FaultyTable>,
+    // How many events were skipped from a row on.
+    skipped: u64,
 }
 
 impl<'a> Printer<'a> {
@@ -623,9 +683,8 @@ impl<'a> Printer<'a> {
     }
 
     // Prints the rows of an event as lines of JSON.
-    fn print_json<'f, 'b, S: Bytes + Drop, O: WriteOnce>(
+    fn print_json<'b, O: WriteOnce>(
         &mut self,
-        changes: &mut SourceChanges<S, Filter<'f>>,
         change: &mut LentChange<'b>,
         buffer: &mut LentPair<'b>,
         out: &mut O,
@@ -638,28 +697,27 @@ impl<'a> Printer<'a> {
             (IsRowLine Form.Json self.old.file.now self.old.gtid change.old) change.old
             (O.contents out.old) self.old.lines.bytes.items (O.contents out.new)
             self.new.lines.bytes.items) }
-        ensures stays { OnOk result (Stays changes.old changes.new) }
         ensures cause { IfErr result (IsOfEvent O.writes O.flushes) }
         ensures same { IsSame self.old self.new }
         ensures gtid { self.new.gtid ≡ self.old.gtid }
-        ensures few { OnOk result (length self.old.lines.bytes.items < 32 * 1024
-            → length self.new.lines.bytes.items < 32 * 1024) }
+        ensures few { length self.old.lines.bytes.items < 32 * 1024
+            → length self.new.lines.bytes.items < 32 * 1024 }
         ensures rows { IfOk result (IsRowCount change.old) }
         ensures gaps { self.new.gaps ≡ self.old.gaps }
         ensures transaction { self.new.is_open ≡ self.old.is_open }
+        ensures skipped { self.new.skipped ≡ self.old.skipped }
     {
         let table = self.tables.table(self.alloc, change.table())?;
         let (database, name) = (table.database(), table.name());
         let gtid = self.gtid.text();
         let source = Source::first(self.file, change.origin(), gtid, database, name);
         let json = table.json();
-        write_json_rows(changes, change, buffer, json, &source, &mut self.lines, out)
+        write_json_rows(change, buffer, json, &source, &mut self.lines, out)
     }
 
     // Prints the rows of an event as lines of text.
-    fn print_text<'f, 'b, S: Bytes + Drop, O: WriteOnce>(
+    fn print_text<'b, O: WriteOnce>(
         &mut self,
-        changes: &mut SourceChanges<S, Filter<'f>>,
         change: &mut LentChange<'b>,
         buffer: &mut LentPair<'b>,
         out: &mut O,
@@ -672,31 +730,23 @@ impl<'a> Printer<'a> {
             (IsRowLine Form.Text self.old.file.now self.old.gtid change.old) change.old
             (O.contents out.old) self.old.lines.bytes.items (O.contents out.new)
             self.new.lines.bytes.items) }
-        ensures stays { OnOk result (Stays changes.old changes.new) }
         ensures cause { IfErr result (IsOfEvent O.writes O.flushes) }
         ensures same { IsSame self.old self.new }
         ensures gtid { self.new.gtid ≡ self.old.gtid }
-        ensures few { OnOk result (length self.old.lines.bytes.items < 32 * 1024
-            → length self.new.lines.bytes.items < 32 * 1024) }
+        ensures few { length self.old.lines.bytes.items < 32 * 1024
+            → length self.new.lines.bytes.items < 32 * 1024 }
         ensures rows { IfOk result (IsRowCount change.old) }
         ensures gaps { self.new.gaps ≡ self.old.gaps }
         ensures transaction { self.new.is_open ≡ self.old.is_open }
+        ensures skipped { self.new.skipped ≡ self.old.skipped }
     {
         let place = self.place(change.position(), change.table())?;
-        write_text_rows(
-            changes,
-            change,
-            buffer,
-            place.as_str(),
-            &mut self.lines,
-            out,
-        )
+        write_text_rows(change, buffer, place.as_str(), &mut self.lines, out)
     }
 
     // Counts the rows of an event.
-    fn count<'f, 'b, S: Bytes + Drop>(
+    fn count<'b>(
         &self,
-        changes: &mut SourceChanges<S, Filter<'f>>,
         change: &mut LentChange<'b>,
         buffer: &mut LentPair<'b>,
         counts: &mut Counts,
@@ -706,9 +756,9 @@ impl<'a> Printer<'a> {
         ensures first { IfErr result (λ why. (ps : List Pair) × (rest : List ℕ)
             × BeginsWith (pair change.old.table change.old.rows) change.old.left ps rest
             × EndsAtRow why change.old (length ps) rest) }
-        ensures stays { OnOk result (Stays changes.old changes.new) }
         ensures cause { IfErr result IsOfReading }
-        ensures counts { OnOk result (CountsThese (AreEventRows (lent.Rows change.old))
+        ensures counts { OnOk result (CountsThese
+            (AreEventRows self.now.settings.now.skips_faulty (lent.Rows change.old))
             counts.old counts.new) }
         ensures first_counts { IfErr result (λ why. CountsThese
             (AreFirstEventRows why (lent.Rows change.old)) counts.old counts.new) }
@@ -716,7 +766,7 @@ impl<'a> Printer<'a> {
     {
         let name = TableName::of(self.alloc, change.table())?;
         let operation = Operation::of(change.rows().event_type());
-        let (rows, error) = count_rows(changes, change, buffer);
+        let (rows, error) = count_rows(change, buffer);
         add_rows(counts, name, operation, rows)?;
         match error {
             None => Ok(rows),
@@ -725,38 +775,40 @@ impl<'a> Printer<'a> {
     }
 
     // Prints the rows of an event in the form that is wanted.
-    fn print_rows<'f, 'b, S: Bytes + Drop, O: WriteOnce>(
+    fn print_rows<'b, O: WriteOnce>(
         &mut self,
-        changes: &mut SourceChanges<S, Filter<'f>>,
         change: &mut LentChange<'b>,
         buffer: &mut LentPair<'b>,
         counts: &mut Counts,
         out: &mut O,
     ) -> Result<u64, Failure>
-        ensures lines { OnOk result (WritesEvent self.old.settings.now.form self.old.file.now
-            self.old.gtid (lent.Rows change.old) (O.contents out.old) self.old.lines.bytes.items
-            (O.contents out.new) self.new.lines.bytes.items) }
-        ensures first { IfErr result (λ why. WritesFirstOfEvent why self.old.settings.now.form
-            self.old.file.now self.old.gtid (lent.Rows change.old) (O.contents out.old)
-            self.old.lines.bytes.items (O.contents out.new) self.new.lines.bytes.items) }
-        ensures stays { OnOk result (Stays changes.old changes.new) }
+        ensures lines { OnOk result (WritesRows
+            (IsRowLine self.old.settings.now.form self.old.file.now self.old.gtid change.old)
+            change.old (O.contents out.old) self.old.lines.bytes.items (O.contents out.new)
+            self.new.lines.bytes.items) }
+        ensures first { IfErr result (λ why. WritesFirstRows why
+            (IsRowLine self.old.settings.now.form self.old.file.now self.old.gtid change.old)
+            change.old (O.contents out.old) self.old.lines.bytes.items (O.contents out.new)
+            self.new.lines.bytes.items) }
         ensures cause { IfErr result (IsOfEvent O.writes O.flushes) }
         ensures same { IsSame self.old self.new }
         ensures gtid { self.new.gtid ≡ self.old.gtid }
         ensures counts { OnOk result (self.old.settings.now.form ≡ Form.Count
-            → CountsThese (AreEventRows (lent.Rows change.old)) counts.old counts.new) }
+            → CountsThese (AreEventRows self.old.settings.now.skips_faulty (lent.Rows change.old))
+            counts.old counts.new) }
         ensures first_counts { IfErr result (λ why. self.old.settings.now.form ≡ Form.Count
             → CountsThese (AreFirstEventRows why (lent.Rows change.old)) counts.old counts.new) }
-        ensures few { OnOk result (length self.old.lines.bytes.items < 32 * 1024
-            → length self.new.lines.bytes.items < 32 * 1024) }
+        ensures few { length self.old.lines.bytes.items < 32 * 1024
+            → length self.new.lines.bytes.items < 32 * 1024 }
         ensures rows { IfOk result (IsRowCount change.old) }
         ensures gaps { self.new.gaps ≡ self.old.gaps }
         ensures transaction { self.new.is_open ≡ self.old.is_open }
+        ensures skipped { self.new.skipped ≡ self.old.skipped }
     {
         match self.settings.form {
-            Form::Json => self.print_json(changes, change, buffer, out),
-            Form::Text => self.print_text(changes, change, buffer, out),
-            Form::Count => self.count(changes, change, buffer, counts),
+            Form::Json => self.print_json(change, buffer, out),
+            Form::Text => self.print_text(change, buffer, out),
+            Form::Count => self.count(change, buffer, counts),
         }
     }
 
@@ -766,8 +818,10 @@ impl<'a> Printer<'a> {
         ensures lines { self.new.lines ≡ self.old.lines }
         ensures same { IsSame self.old self.new }
         ensures gaps { OnOk result (self.new.gaps
-            ≡ gaps_past self.old.settings.now.filter.positions self.old.is_open 0 (lent.Other event.now) self.old.gaps) }
+            ≡ gaps_past self.old.settings.now.filter.positions self.old.is_open (Printed.All 0)
+            (lent.Other event.now) self.old.gaps) }
         ensures transaction { OnOk result (self.new.is_open ≡ open_after self.old.is_open event.now) }
+        ensures skipped { self.new.skipped ≡ self.old.skipped }
     {
         self.gtid.see(self.alloc, event)?;
         if self.settings.filter.positions.contains(event.position()) {
@@ -786,55 +840,78 @@ impl<'a> Printer<'a> {
         ensures lines { self.new.lines ≡ self.old.lines }
         ensures gaps { self.new.gaps ≡ self.old.gaps }
         ensures transaction { self.new.is_open ≡ self.old.is_open }
+        ensures skipped { self.new.skipped ≡ self.old.skipped }
     {
         if let Err(Failure::File(error)) = printed {
             self.faulty = FaultyTable::of(self.alloc, table, error.error).unwrap_or(None);
         }
     }
 
-    // Prints what an event gives. Returns how many rows it has that are wanted.
-    fn print_event<'f, S: Bytes + Drop, O: WriteOnce>(
+    // Returns what came of the rows of an event. The error of a row is no failure where such events are skipped.
+    #[inline(always)]
+    fn skip(&mut self, printed: Result<u64, Failure>) -> Result<Printed, Failure>
+        ensures gives { Skips self.old.settings.now.skips_faulty printed result }
+        ensures same { IsSame self.old self.new }
+        ensures gtid { self.new.gtid ≡ self.old.gtid }
+        ensures lines { self.new.lines ≡ self.old.lines }
+        ensures gaps { IfOk result (λ r. self.new.gaps ≡ gaps_of r self.old.gaps) }
+        ensures transaction { self.new.is_open ≡ self.old.is_open }
+        ensures skipped { IfOk result (λ r. self.new.skipped ≡ skipped_past r self.old.skipped) }
+    {
+        match printed {
+            Ok(rows) => {
+                self.gaps.see_rows(rows);
+                Ok(Printed::All(rows))
+            }
+            Err(failure) => {
+                let error = skipped_by(self.settings.skips_faulty, failure)?;
+                self.skipped = self.skipped.saturating_add(1);
+                Ok(Printed::UpTo(error))
+            }
+        }
+    }
+
+    // Prints what an event gives. Returns what came of its rows.
+    fn print_event<O: WriteOnce>(
         &mut self,
-        changes: &mut SourceChanges<S, Filter<'f>>,
         event: LentEvent<'_>,
         counts: &mut Counts,
         out: &mut O,
-    ) -> Result<u64, Failure>
-        ensures lines { OnOk result (WritesEvent self.old.settings.now.form self.old.file.now
+    ) -> Result<Printed, Failure>
+        ensures lines { OnOk result (WritesEvent (manner_of self.old.settings.now) self.old.file.now
             self.old.gtid event.entry (O.contents out.old) self.old.lines.bytes.items
             (O.contents out.new) self.new.lines.bytes.items) }
-        ensures first { IfErr result (λ why. WritesFirstOfEvent why self.old.settings.now.form
+        ensures first { IfErr result (λ why. WritesFirstOfEvent why (manner_of self.old.settings.now)
             self.old.file.now self.old.gtid event.entry (O.contents out.old)
             self.old.lines.bytes.items (O.contents out.new) self.new.lines.bytes.items) }
-        ensures stays { OnOk result (Stays changes.old changes.new) }
         ensures cause { IfErr result (IsOfEvent O.writes O.flushes) }
         ensures same { IsSame self.old self.new }
         ensures gtid { OnOk result (self.new.gtid ≡ gtid_past self.old.gtid event.entry) }
         ensures counts { OnOk result (self.old.settings.now.form ≡ Form.Count
-            → CountsThese (AreEventRows event.entry) counts.old counts.new) }
+            → CountsThese (AreEventRows self.old.settings.now.skips_faulty event.entry)
+            counts.old counts.new) }
         ensures first_counts { IfErr result (λ why. self.old.settings.now.form ≡ Form.Count
             → CountsThese (AreFirstEventRows why event.entry) counts.old counts.new) }
-        ensures few { OnOk result (length self.old.lines.bytes.items < 32 * 1024
-            → length self.new.lines.bytes.items < 32 * 1024) }
-        ensures rows { IfOk result (IsRowCountOf event.entry) }
-        ensures gaps { IfOk result (λ n. self.new.gaps
-            ≡ gaps_past self.old.settings.now.filter.positions self.old.is_open n event.entry
+        ensures few { length self.old.lines.bytes.items < 32 * 1024
+            → length self.new.lines.bytes.items < 32 * 1024 }
+        ensures printed { IfOk result (IsPrinted self.old.settings.now.skips_faulty event.entry) }
+        ensures gaps { IfOk result (λ r. self.new.gaps
+            ≡ gaps_past self.old.settings.now.filter.positions self.old.is_open r event.entry
             self.old.gaps) }
         ensures transaction { OnOk result (self.new.is_open ≡ open_past self.old.is_open event.entry) }
+        ensures skipped { IfOk result (λ r. self.new.skipped ≡ skipped_past r self.old.skipped) }
     {
         match event {
             LentEvent::Other(event) => {
                 self.see(&event)?;
-                Ok(0)
+                Ok(Printed::All(0))
             }
             LentEvent::Rows(change) => {
                 let mut change = change;
                 let mut buffer = LentPair::new(self.alloc);
-                let printed = self.print_rows(changes, &mut change, &mut buffer, counts, out);
+                let printed = self.print_rows(&mut change, &mut buffer, counts, out);
                 self.see_faulty(change.table(), &printed);
-                let rows = printed?;
-                self.gaps.see_rows(rows);
-                Ok(rows)
+                self.skip(printed)
             }
         }
     }
@@ -860,6 +937,7 @@ impl<'a> Printer<'a> {
         ensures gtid { self.new.gtid ≡ self.old.gtid }
         ensures gaps { self.new.gaps ≡ self.old.gaps }
         ensures transaction { self.new.is_open ≡ self.old.is_open }
+        ensures skipped { self.new.skipped ≡ self.old.skipped }
     {
         if !self.settings.may_wait || has_event(changes.source().ahead()) {
             return Ok(());
@@ -877,14 +955,14 @@ impl<'a> Printer<'a> {
     ) -> Result<(), Failure>
         ensures all { OnOk result (changes.old.walk.pending ≡ None
             → (x : List ℕ) → Finds (reading_in changes.old.walk) (S.remaining changes.old.source) x
-            → Writes self.old.settings.now.form (wanted_by changes.old.choice) self.old.file.now
+            → Writes (manner_of self.old.settings.now) (wanted_by changes.old.choice) self.old.file.now
             self.old.settings.now.filter.positions
             (spot_at (kept_in changes.old.walk) None x) self.old.gtid
             (O.contents out.old) self.old.lines.bytes.items
             (O.contents out.new) self.new.lines.bytes.items) }
         ensures first { IfErr result (λ why. changes.old.walk.pending ≡ None
             → (x : List ℕ) → Finds (reading_in changes.old.walk) (S.remaining changes.old.source) x
-            → WritesFirst why self.old.settings.now.form
+            → WritesFirst why (manner_of self.old.settings.now)
             self.old.settings.now.filter.positions.stop (wanted_by changes.old.choice)
             self.old.file.now (spot_at (kept_in changes.old.walk) None x) self.old.gtid
             (O.contents out.old) self.old.lines.bytes.items
@@ -892,23 +970,26 @@ impl<'a> Printer<'a> {
         ensures counts { OnOk result (self.old.settings.now.form ≡ Form.Count
             → changes.old.walk.pending ≡ None → (x : List ℕ)
             → Finds (reading_in changes.old.walk) (S.remaining changes.old.source) x
-            → CountsThese (AreCountedToEnd self.old.settings.now.filter.positions.stop
+            → CountsThese (AreCountedToEnd self.old.settings.now.skips_faulty
+            self.old.settings.now.filter.positions.stop
             (wanted_by changes.old.choice) (spot_at (kept_in changes.old.walk) None x))
             counts.old counts.new) }
         ensures first_counts { IfErr result (λ why. self.old.settings.now.form ≡ Form.Count
             → changes.old.walk.pending ≡ None → (x : List ℕ)
             → Finds (reading_in changes.old.walk) (S.remaining changes.old.source) x
-            → CountsThese (AreFirstCounted why self.old.settings.now.filter.positions.stop
-            (wanted_by changes.old.choice)
+            → CountsThese (AreFirstCounted why self.old.settings.now.skips_faulty
+            self.old.settings.now.filter.positions.stop (wanted_by changes.old.choice)
             (spot_at (kept_in changes.old.walk) None x)) counts.old counts.new) }
-        ensures noted { OnOk result (changes.old.walk.pending ≡ None
+        ensures noted { OnOk result ((faults : List FileError)
+            × (self.old.skipped ≡ 0 → self.new.skipped ≡ up_to_most (length faults))
+            × (changes.old.walk.pending ≡ None
             → (x : List ℕ) → Finds (reading_in changes.old.walk) (S.remaining changes.old.source) x
-            → AreNotedToEnd (wanted_by changes.old.choice)
+            → AreNotedToEnd self.old.settings.now.skips_faulty (wanted_by changes.old.choice)
             self.old.settings.now.filter.positions (spot_at (kept_in changes.old.walk) None x)
-            self.old.is_open self.old.gaps self.new.gaps) }
-        ensures told { OnOk result (notes.old.meter ≡ None → IsSome notes.old.len
-            → TellsBreak self.old.path.now notes.old.is_lost (E.contents notes.old.err)
-            notes.new.is_lost (E.contents notes.new.err)) }
+            self.old.is_open self.old.gaps self.new.gaps faults)
+            × (notes.old.meter ≡ None → IsSome notes.old.len
+            → TellsBreak self.old.path.now notes.old.is_quiet faults notes.old.is_lost
+            (E.contents notes.old.err) notes.new.is_lost (E.contents notes.new.err))) }
         ensures quiet { notes.new.is_quiet ≡ notes.old.is_quiet }
         ensures cause { IfErr result (IsOfRun self.old.settings.now.filter.positions
             O.writes O.flushes) }
@@ -933,8 +1014,8 @@ impl<'a> Printer<'a> {
             bounds.begin(position)?;
             notes.see(self.settings.form, &event)?;
             notes.see_name(&self.settings.filter.tables, changes.reader(), &event);
-            let rows = self.print_event(changes, event, counts, out)?;
-            notes.step(self.path, position, rows);
+            let printed = self.print_event(event, counts, out)?;
+            notes.step(self.path, position, &printed, &mut self.faulty);
         }
     }
 
@@ -960,12 +1041,14 @@ impl<'a> Printer<'a> {
         ensures first_counts { IfErr result (λ why. self.old.settings.now.form ≡ Form.Count
             → (x : List ℕ) → R.remaining reader ≡ Some x → length x < 2 ^ 64
             → CountsThese (AreFirstOfFile why self.old.settings.now x) counts.old counts.new) }
-        ensures noted { OnOk result (self.old.is_open ≡ false → self.old.gaps ≡ no_gaps
+        ensures noted { OnOk result ((faults : List FileError)
+            × (self.old.skipped ≡ 0 → self.new.skipped ≡ up_to_most (length faults))
+            × (self.old.is_open ≡ false → self.old.gaps ≡ no_gaps
             → (x : List ℕ) → R.remaining reader ≡ Some x → length x < 2 ^ 64
-            → AreAllNoted self.old.settings.now x self.new.gaps) }
-        ensures told { OnOk result (notes.old.meter ≡ None → IsSome notes.old.len
-            → TellsBreak self.old.path.now notes.old.is_lost (E.contents notes.old.err)
-            notes.new.is_lost (E.contents notes.new.err)) }
+            → AreAllNoted self.old.settings.now x self.new.gaps faults)
+            × (notes.old.meter ≡ None → IsSome notes.old.len
+            → TellsBreak self.old.path.now notes.old.is_quiet faults notes.old.is_lost
+            (E.contents notes.old.err) notes.new.is_lost (E.contents notes.new.err))) }
         ensures quiet { notes.new.is_quiet ≡ notes.old.is_quiet }
         ensures cause { IfErr result (IsOfRun self.old.settings.now.filter.positions
             O.writes O.flushes) }
@@ -984,6 +1067,9 @@ impl<'a> Printer<'a> {
 /// in lines, and `path` that in what is told. With `Form::Count` the rows are counted in `counts`, and nothing
 /// is printed.
 ///
+/// Returns how many events were skipped: with `skips_faulty`, an event of which a row can't be read or written
+/// gives the lines of the rows before that one, which is told, and the next event is read.
+///
 /// If all was read that was asked for and all lines were written, it is told what the file can't show. Else
 /// all lines before the failure were written, unless the output failed. The failure isn't told: that is for
 /// whoever calls (`Notes::tell`, `ended_by`). Unless the output failed, it is flushed, if anything of the file
@@ -997,14 +1083,16 @@ pub fn run<R: Read + Ahead + Drop, O: WriteOnce, E: Write + Drop, K: Clock>(
     counts: &mut Counts,
     out: &mut O,
     notes: &mut Notes<'_, E, K>,
-) -> Result<(), Failure>
+) -> Result<u64, Failure>
     ensures run { (x : List ℕ) → R.remaining reader ≡ Some x → length x < 2 ^ 64
         → IsRun settings.now file.now x counts.old counts.new (O.contents out.old)
         (O.contents out.new) result }
-    ensures told { IsFalse notes.old.is_quiet → notes.old.meter ≡ None → IsSome notes.old.len
+    ensures told { notes.old.meter ≡ None → IsSome notes.old.len
         → (x : List ℕ) → R.remaining reader ≡ Some x → length x < 2 ^ 64
-        → OnOk result ((gaps : Gaps) × AreAllNoted settings.now x gaps × TellsFile path.now gaps
-        notes.old.is_lost (E.contents notes.old.err) notes.new.is_lost (E.contents notes.new.err)) }
+        → OnOk result ((gaps : Gaps) × (faults : List FileError)
+        × AreAllNoted settings.now x gaps faults
+        × TellsFile path.now notes.old.is_quiet gaps faults notes.old.is_lost
+        (E.contents notes.old.err) notes.new.is_lost (E.contents notes.new.err)) }
     ensures cause { IfErr result (IsOfRun settings.now.filter.positions O.writes O.flushes) }
     ensures flushed { IsLeftFlushed O.flushes result out.old out.new }
 {
@@ -1019,13 +1107,19 @@ pub fn run<R: Read + Ahead + Drop, O: WriteOnce, E: Write + Drop, K: Clock>(
         tables: KeptTables::new(alloc),
         lines: Lines::new(alloc),
         faulty: None,
+        skipped: 0,
     };
     let printed = printer.print(reader, counts, out, notes);
-    let Printer { gaps, faulty, .. } = printer;
+    let Printer {
+        gaps,
+        faulty,
+        skipped,
+        ..
+    } = printer;
     notes.see_faulty(faulty);
     printed?;
     notes.tell_gaps(path, &gaps);
-    Ok(())
+    Ok(skipped)
 }
 
 /// Writes the table of the counts out (`Counts::print`), and flushes the output. The table is made in

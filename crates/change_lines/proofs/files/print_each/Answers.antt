@@ -1,4 +1,4 @@
-use Rattle.std.proofs.Common.{◌≡◌, ◌<◌, ℕ, List, [], length, get_or, Option, Some, Result, Ok, Err, refl, sym, ap, subst, ◌∙◌, add-one, rules}
+use Rattle.std.proofs.Common.{◌≡◌, ◌<◌, ℕ, List, [], length, get_or, Some, Result, Err, refl, sym, ap, subst, ◌∙◌, add-one, rules}
 use Rattle.std.specs.Prelude.{slice_get}
 use Rattle.std.specs.Borrow.{Bor}
 use Rattle.std.specs.Option.{option_map}
@@ -30,7 +30,7 @@ returns-in-Err-clause-first g c =
     let old = g.O.Write.contents c.loop-index.out in
     let new = g.O.Write.contents c.print_file-done.new.out in
     let why = c.in-Err.stopped.failure in
-    let run = subst (λ (r : Result (Unit {0}) Failure). IsRunOfPath a bytes i path.now c.loop-index.counts c.print_file-done.new.counts old new r) stops.2 c.print_file-done.ensures.run in (
+    let run = subst (λ (r : Result ℕ Failure). IsRunOfPath a bytes i path.now c.loop-index.counts c.print_file-done.new.counts old new r) stops.2 c.print_file-done.ensures.run in (
       i,
       there a.files.now i small ∙ ap (λ (b : List ℕ). Some b) (sym stops.0),
       c.loop-index.counts,

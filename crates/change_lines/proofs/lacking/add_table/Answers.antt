@@ -1,5 +1,5 @@
-use Rattle.std.proofs.Common.{◌≡◌, ◌<◌, ◌≤◌, true, false, List, ◌++◌, ◌∷◌, [], length, slice_set, sym, ap, subst, ◌∙◌, arith, add-one, refl, rules}
-use Rattle.change_lines.specs.Lacking.{TableGroup, same_lacks, one_more, with_table, group_of}
+use Rattle.std.proofs.Common.{◌≡◌, ◌<◌, ◌≤◌, true, false, ◌++◌, ◌∷◌, [], length, slice_set, sym, ap, subst, ◌∙◌, add-one, refl, rules}
+use Rattle.change_lines.specs.Lacking.{same_lacks, with_table, group_of}
 use Rattle.change_lines.proofs.Grouped.{AreOthers, others_more, one_more_there, group_last}
 use Rattle.change_lines.proofs.Written.{on_ok}
 use Rattle.change_lines.proofs.lacking.add_table.Goals as goal

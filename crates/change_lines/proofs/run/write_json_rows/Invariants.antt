@@ -1,7 +1,6 @@
 use Rattle.std.proofs.Common.{◌≡◌, ◌+◌, ◌*◌, ◌<◌, ℕ, List, length}
 use Rattle.mysql_binlog_rows.specs.Images.{Pair, pair}
 use Rattle.mysql_binlog_rows.proofs.Covers.{SoFar}
-use Rattle.change_lines.specs.Readings.{Stays}
 use Rattle.change_lines.specs.Outputs.{Outputs}
 use Rattle.changed_rows.specs.Names.{up_to_most}
 use Rattle.change_lines.specs.Rows.{AreLinesBy, IsJsonLine}
@@ -9,8 +8,7 @@ use Rattle.change_lines.proofs.run.write_json_rows.Given as goal
 
 abbrev pub invariant-loop-read : goal.invariant-loop-read
 invariant-loop-read g l =
-    Stays l.fn.changes l.changes
-    × (l.change.table ≡ l.fn.change.table) × (l.change.rows ≡ l.fn.change.rows)
+    (l.change.table ≡ l.fn.change.table) × (l.change.rows ≡ l.fn.change.rows)
     × (ps : List Pair) × (text : List ℕ)
     × SoFar (pair l.fn.change.table l.fn.change.rows) l.fn.change.left ps l.change.left
     × AreLinesBy (IsJsonLine l.table l.fn.change.rows l.source) 0 ps text

@@ -3,15 +3,13 @@ use Rattle.mysql_binlog_rows.specs.Images.{Pair, pair}
 use Rattle.mysql_binlog_rows.proofs.Covers.{SoFar}
 use Rattle.row_lines.specs.Lines.{signed_line_text}
 use Rattle.changed_rows.specs.Names.{up_to_most}
-use Rattle.change_lines.specs.Readings.{Stays}
 use Rattle.change_lines.specs.Outputs.{Outputs}
 use Rattle.change_lines.specs.Rows.{AreLinesBy}
 use Rattle.change_lines.proofs.run.write_text_rows.Given as goal
 
 abbrev pub invariant-loop-read : goal.invariant-loop-read
 invariant-loop-read g l =
-    Stays l.fn.changes l.changes
-    × (l.change.table ≡ l.fn.change.table) × (l.change.rows ≡ l.fn.change.rows)
+    (l.change.table ≡ l.fn.change.table) × (l.change.rows ≡ l.fn.change.rows)
     × (ps : List Pair) × (text : List ℕ)
     × SoFar (pair l.fn.change.table l.fn.change.rows) l.fn.change.left ps l.change.left
     × AreLinesBy (λ row p line. line ≡ l.place ++ signed_line_text p) 0 ps text

@@ -1,10 +1,9 @@
-use Rattle.std.proofs.Common.{◌≡◌, ◌<◌, ◌≤◌, ℕ, true, false, List, length, refl, sym, ap, subst, ◌∙◌, arith, rules}
-use Rattle.changed_rows.specs.declared.count.TableName.{TableName}
+use Rattle.std.proofs.Common.{◌≡◌, ◌<◌, ℕ, true, false, List, length, refl, sym, ap, subst, ◌∙◌, arith, rules}
 use Rattle.changed_rows.specs.declared.lacks.Lacks.{Lacks}
 use Rattle.changed_rows.specs.Counted.{Name, name_of, name_text}
 use Rattle.changed_rows.specs.Lacks.{lacks_of}
 use Rattle.changed_rows.proofs.Counted.{listed}
-use Rattle.change_lines.specs.Lacking.{TakesTable, is_known, with_table, lack_note}
+use Rattle.change_lines.specs.Lacking.{is_known, with_table, lack_note}
 use Rattle.change_lines.specs.Notes.{Tells}
 use Rattle.change_lines.proofs.Written.{on_ok}
 use Rattle.change_lines.proofs.notes.Notes.see_lacks.Goals as goal

@@ -11,4 +11,4 @@ returns-in_default g c =
 pub returns : goal.returns
 returns g c =
     let some = some_told (shown_name c.args.path.now) c.args.failure.now in
-    (some.0, some.1, λ kept. absurd (let bad : true ≡ false = sym c.lose.ensures ∙ kept in cc))
+    (some.0, some.1, λ kept. absurd (let bad : true ≡ false = sym c.lose.ensures.lost ∙ kept in cc))

@@ -1,4 +1,4 @@
-use Rattle.std.proofs.Common.{◌≡◌, ◌<◌, ◌≤◌, ℕ, List, length, sym, ap, subst, ◌∙◌, add-one, rules}
+use Rattle.std.proofs.Common.{◌<◌, ◌≤◌, ℕ, List, length, subst, rules}
 use Rattle.std.specs.Prelude.{take}
 use Rattle.changed_rows.specs.declared.named.MissingName.{MissingName}
 use Rattle.change_lines.specs.Notes.{Tells, missing_note, missing_text}

@@ -1,4 +1,4 @@
-use Rattle.std.proofs.Common.{◌≡◌, ◌<◌, ◌≤◌, ◌++◌, ℕ, Bool, List, length, refl, sym, ap, subst, ◌∙◌, rules}
+use Rattle.std.proofs.Common.{◌<◌, ◌≤◌, ◌++◌, ℕ, Bool, List, length, refl, ap, subst, ◌∙◌, rules}
 use Rattle.std.specs.Prelude.{take}
 use Rattle.change_lines.specs.Notes.{Tells}
 use Rattle.change_lines.specs.Lacking.{TableGroup, lack_note, who_text, groups_text}

@@ -10,30 +10,30 @@ use Rattle.change_lines.proofs.CountedFiles.{counts_nothing, event_rows, first_r
 use Rattle.change_lines.proofs.run.Printer.count.Goals as goal
 
 pub returns-in_err-name-clause-first : goal.returns-in_err-name-clause-first
-returns-in_err-name-clause-first g c =
+returns-in_err-name-clause-first c =
     let e = c.args.change.now in
     passed_on _ failure.Memory _ c.from_residual.ensures.1 ([], e.left, nothing_read e.table e.rows e.left, tt)
 
 pub returns-in_err-name-clause-first_counts : goal.returns-in_err-name-clause-first_counts
-returns-in_err-name-clause-first_counts g c = passed_on _ failure.Memory _ c.from_residual.ensures.1 ([], inl (refl, tt), counts_nothing c.args.counts.now)
+returns-in_err-name-clause-first_counts c = passed_on _ failure.Memory _ c.from_residual.ensures.1 ([], inl (refl, tt), counts_nothing c.args.counts.now)
 
 pub returns-in_err-add_rows-clause-first : goal.returns-in_err-add_rows-clause-first
-returns-in_err-add_rows-clause-first g c =
+returns-in_err-add_rows-clause-first c =
     let e = c.args.change.now in
     passed_on _ failure.Memory _ c.from_residual-in_err-add_rows.ensures.1 ([], e.left, nothing_read e.table e.rows e.left, tt)
 
 pub returns-in_err-add_rows-clause-first_counts : goal.returns-in_err-add_rows-clause-first_counts
-returns-in_err-add_rows-clause-first_counts g c = passed_on _ failure.Memory _ c.from_residual-in_err-add_rows.ensures.1 ([], inl (refl, tt), c.in_err-add_rows.ensures.kept)
+returns-in_err-add_rows-clause-first_counts c = passed_on _ failure.Memory _ c.from_residual-in_err-add_rows.ensures.1 ([], inl (refl, tt), c.in_err-add_rows.ensures.kept)
 
 pub returns-in-None-clause-counts : goal.returns-in-None-clause-counts
-returns-in-None-clause-counts g c =
+returns-in-None-clause-counts c =
     let e = c.args.change.now in
     let is : c.of-operation.result ≡ operation_of e.rows.event_type = c.of-operation.ensures ∙ ap operation_of (c.event_type.ensures ∙ ap (λ (d : RowsEvent). d.event_type) c.rows.ensures) in
     let named : name_of c.in_ok-name.name ≡ (e.table.database, e.table.table) = c.in_ok-name.ensures ∙ ap (λ (t : TableMap). (t.database, t.table)) c.table.ensures in
-    event_rows e c.of-operation.result (name_of c.in_ok-name.name) c.count_rows-rows.result.0 c.args.counts.now c.add_rows.new.counts is named c.in_ok-add_rows.ensures.added (c.count_rows-rows.ensures.covers c.in-None.is)
+    event_rows c.args.self.now.settings.now.skips_faulty e c.of-operation.result (name_of c.in_ok-name.name) c.count_rows-rows.result.0 c.args.counts.now c.add_rows.new.counts is named c.in_ok-add_rows.ensures.added (c.count_rows-rows.ensures.covers c.in-None.is)
 
 pub returns-in-Some-clause-first_counts : goal.returns-in-Some-clause-first_counts
-returns-in-Some-clause-first_counts g c =
+returns-in-Some-clause-first_counts c =
     let e = c.args.change.now in
     let is : c.of-operation.result ≡ operation_of e.rows.event_type = c.of-operation.ensures ∙ ap operation_of (c.event_type.ensures ∙ ap (λ (d : RowsEvent). d.event_type) c.rows.ensures) in
     let named : name_of c.in_ok-name.name ≡ (e.table.database, e.table.table) = c.in_ok-name.ensures ∙ ap (λ (t : TableMap). (t.database, t.table)) c.table.ensures in
@@ -41,7 +41,7 @@ returns-in-Some-clause-first_counts g c =
     (of_some c.count_rows-rows.result.1 c.in-Some.error _ c.in-Some.is c.count_rows-rows.ensures.first)
 
 pub returns-in_err-name-clause-cause : goal.returns-in_err-name-clause-cause
-returns-in_err-name-clause-cause g c = passed_on _ failure.Memory _ c.from_residual.ensures.1 tt
+returns-in_err-name-clause-cause c = passed_on _ failure.Memory _ c.from_residual.ensures.1 tt
 
 pub returns-in_err-add_rows-clause-cause : goal.returns-in_err-add_rows-clause-cause
-returns-in_err-add_rows-clause-cause g c = passed_on _ failure.Memory _ c.from_residual-in_err-add_rows.ensures.1 tt
+returns-in_err-add_rows-clause-cause c = passed_on _ failure.Memory _ c.from_residual-in_err-add_rows.ensures.1 tt

@@ -11,6 +11,7 @@ use Rattle.binlog_file.specs.Workings.SourceWalks.{reading_in, kept_in}
 use Rattle.change_lines.specs.declared.error.Failure.TheVariants as failure
 use Rattle.changed_rows.specs.Filters.{wanted_by}
 use Rattle.change_lines.specs.CountedFiles.{AreCountedToEnd, AreFirstCounted}
+use Rattle.change_lines.specs.Lines.{manner_of}
 use Rattle.change_lines.proofs.Errors.{passed_on, on_error, on_errors, of_error, if_ok}
 use Rattle.change_lines.proofs.Causes.{of_event}
 use Rattle.change_lines.proofs.Failures.{nothing_appended, all_appended}
@@ -58,7 +59,7 @@ returns-clause-first g c =
     subst (λ (o : Option (List ℕ)). Consumes o (g.R.Read.remaining w.source.inner) magic) source
     (subst (λ (o : Option (List ℕ)). Consumes (g.R.Read.remaining c.new.result.inner) o magic) (sym (ap (λ (k : CountedState _). g.R.Read.remaining k.inner) c.new-changes.ensures.source)) file.ok) in
     first_lines why s.settings.now w.choice s.file.now x (g.R.Read.remaining w.source.inner) (reading_in w.walk) s.gtid _ left kept on small c.new-changes.ensures.choice gtid (λ y finds.
-    let of = written_of c.print_events-read.result why s.settings.now.form (wanted_by w.choice) s.file.now s.settings.now.filter.positions (spot_at (kept_in w.walk) None y) s.gtid (g.O.Write.contents c.args.out.now) s.lines.bytes.items (g.O.Write.contents c.print_events-read.new.out) c.print_events-read.new.self.lines.bytes.items
+    let of = written_of c.print_events-read.result why (manner_of s.settings.now) (wanted_by w.choice) s.file.now s.settings.now.filter.positions (spot_at (kept_in w.walk) None y) s.gtid (g.O.Write.contents c.args.out.now) s.lines.bytes.items (g.O.Write.contents c.print_events-read.new.out) c.print_events-read.new.self.lines.bytes.items
     (on_ok c.print_events-read.result _ _ (λ f. f c.new-changes.ensures.pending y finds) c.print_events-read.ensures.all)
     (on_error c.print_events-read.result _ _ (λ why f. f c.new-changes.ensures.pending y finds) c.print_events-read.ensures.first) is in
     (of.0, of.1, all_appended why _ _ _ _ of.0 _ of.2 of.3 held (appends of.2 of.4))))
@@ -85,7 +86,7 @@ returns-clause-counts g c =
     let left : Consumes (Some x) (g.R.Read.remaining w.source.inner) magic =
     subst (λ (o : Option (List ℕ)). Consumes o (g.R.Read.remaining w.source.inner) magic) source
     (subst (λ (o : Option (List ℕ)). Consumes (g.R.Read.remaining c.new.result.inner) o magic) (sym (ap (λ (k : CountedState _). g.R.Read.remaining k.inner) c.new-changes.ensures.source)) file.ok) in
-    let whole = file_counted s.settings.now w.choice x (g.R.Read.remaining w.source.inner) (reading_in w.walk) (AreCountedToEnd s.settings.now.filter.positions.stop) c.args.counts.now c.print_events-read.new.counts
+    let whole = file_counted s.settings.now w.choice x (g.R.Read.remaining w.source.inner) (reading_in w.walk) (AreCountedToEnd s.settings.now.skips_faulty s.settings.now.filter.positions.stop) c.args.counts.now c.print_events-read.new.counts
     left kept on small c.new-changes.ensures.choice (λ y finds. read same c.new-changes.ensures.pending y finds) in
     (whole.1.0, (whole.0, whole.1.1), whole.1.2))
     c.finish.ensures.all
@@ -102,8 +103,8 @@ returns-clause-first_counts g c =
     let left : Consumes (Some x) (g.R.Read.remaining w.source.inner) magic =
     subst (λ (o : Option (List ℕ)). Consumes o (g.R.Read.remaining w.source.inner) magic) source
     (subst (λ (o : Option (List ℕ)). Consumes (g.R.Read.remaining c.new.result.inner) o magic) (sym (ap (λ (k : CountedState _). g.R.Read.remaining k.inner) c.new-changes.ensures.source)) file.ok) in
-    let first = file_counted s.settings.now w.choice x (g.R.Read.remaining w.source.inner) (reading_in w.walk) (AreFirstCounted why s.settings.now.filter.positions.stop) c.args.counts.now c.print_events-read.new.counts
-    left kept on small c.new-changes.ensures.choice (λ y finds. counted_of c.print_events-read.result why s.settings.now.filter.positions.stop (wanted_by w.choice) (spot_at (kept_in w.walk) None y) c.args.counts.now c.print_events-read.new.counts
+    let first = file_counted s.settings.now w.choice x (g.R.Read.remaining w.source.inner) (reading_in w.walk) (AreFirstCounted why s.settings.now.skips_faulty s.settings.now.filter.positions.stop) c.args.counts.now c.print_events-read.new.counts
+    left kept on small c.new-changes.ensures.choice (λ y finds. counted_of c.print_events-read.result why s.settings.now.skips_faulty s.settings.now.filter.positions.stop (wanted_by w.choice) (spot_at (kept_in w.walk) None y) c.args.counts.now c.print_events-read.new.counts
     (on_ok c.print_events-read.result _ _ (λ f. f same c.new-changes.ensures.pending y finds) c.print_events-read.ensures.counts)
     (on_error c.print_events-read.result _ _ (λ why f. f same c.new-changes.ensures.pending y finds) c.print_events-read.ensures.first_counts) is) in
     (first.1.0, inr (first.0, first.1.1), first.1.2))
@@ -117,19 +118,20 @@ returns-clause-noted g c =
     let kept = ap (λ (k : EventStreamReader). kept_by k.kept) c.new-changes.ensures.reader ∙ file.kept in
     let on = ap (λ (k : EventStreamReader). k.is_over) c.new-changes.ensures.reader ∙ file.goes_on in
     on_ok c.finish.result _ _
-    (λ ended closed nothing x known small.
-    let read = if_ok c.print_events-read.result _ ended.0 c.print_events-read.ensures.noted in
-    let source = ap g.R.Read.remaining c.new.ensures.inner ∙ known in
-    let left : Consumes (Some x) (g.R.Read.remaining w.source.inner) magic =
-    subst (λ (o : Option (List ℕ)). Consumes o (g.R.Read.remaining w.source.inner) magic) source
-    (subst (λ (o : Option (List ℕ)). Consumes (g.R.Read.remaining c.new.result.inner) o magic) (sym (ap (λ (k : CountedState _). g.R.Read.remaining k.inner) c.new-changes.ensures.source)) file.ok) in
-    file_noted s.settings.now w.choice x (g.R.Read.remaining w.source.inner) (reading_in w.walk) s.is_open s.gaps c.print_events-read.new.self.gaps
-    left kept on small c.new-changes.ensures.choice closed nothing (λ y finds. read c.new-changes.ensures.pending y finds))
+    (λ ended.
+    let read = if_ok c.print_events-read.result _ ended.0 c.print_events-read.ensures.noted in (
+      read.0,
+      read.1,
+      λ closed nothing x known small.
+          let source = ap g.R.Read.remaining c.new.ensures.inner ∙ known in
+          let left : Consumes (Some x) (g.R.Read.remaining w.source.inner) magic =
+          subst (λ (o : Option (List ℕ)). Consumes o (g.R.Read.remaining w.source.inner) magic) source
+          (subst (λ (o : Option (List ℕ)). Consumes (g.R.Read.remaining c.new.result.inner) o magic) (sym (ap (λ (k : CountedState _). g.R.Read.remaining k.inner) c.new-changes.ensures.source)) file.ok) in
+          file_noted s.settings.now w.choice x (g.R.Read.remaining w.source.inner) (reading_in w.walk) s.is_open s.gaps c.print_events-read.new.self.gaps read.0
+          left kept on small c.new-changes.ensures.choice closed nothing (λ y finds. read.2 c.new-changes.ensures.pending y finds),
+      read.3,
+    ))
     c.finish.ensures.all
-
-pub returns-clause-told : goal.returns-clause-told
-returns-clause-told g c =
-    on_ok c.finish.result _ _ (λ ended none known. if_ok c.print_events-read.result _ ended.0 c.print_events-read.ensures.told none known) c.finish.ensures.all
 
 pub returns-clause-cause : goal.returns-clause-cause
 returns-clause-cause g c =

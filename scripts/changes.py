@@ -7,8 +7,8 @@ PROGRAM is the built program (crates/changes/out/changes). Each FILE is a `.bin.
 `.jsonl.gz` beside it: a line for each rows event in order, with `pos` (where the event begins), `time`, `server_id`, `gtid`, `db`, `table`,
 `op` and `lines` (its rows, in the form of the program `rows`).
 
-- `--text` prints these lines, each after its place, and nothing else (none of the files has a negative TIME of the old format in its
-  `.jsonl.gz` without its sign).
+- `--text` prints these lines, each after its place, with names in backquotes where they need it, and nothing else (none of the files has a negative TIME
+  of the old format in its `.jsonl.gz` without its sign).
 - Each line of JSON, read by Python's `json`, is that of a plain decoding of the file (that of scripts/json_rows.py), with its source.
 - Standard input gives the same as the file.
 - `--table` gives the lines of that table, for each table, and `--database` and `--op` those of theirs; `--count` gives their numbers.
@@ -20,6 +20,7 @@ PROGRAM is the built program (crates/changes/out/changes). Each FILE is a `.bin.
 """
 import gzip
 import json
+import re
 import subprocess
 import sys
 import tempfile
@@ -44,7 +45,7 @@ def run(program, *words, data=None, status=0, message=""):
     ran = subprocess.run([program, "--quiet", *words], input=data, capture_output=True)
     told = ran.stderr.decode()
     check(ran.returncode == status, f"{words}: status {ran.returncode}, {told}")
-    check(len(told.splitlines()) == (status != 0) and message in told, f"{words}: {told}")
+    check(len(told.splitlines()) == (status != 0) and re.search(message, told), f"{words}: {told}")
     return ran.stdout.decode().splitlines()
 
 
@@ -111,9 +112,30 @@ def check_json(program, path, rows, data):
     return lines
 
 
-def check_text(program, path, rows):
-    lines = [f"{path.name}:{e['pos']} {e['db']}.{e['table']} {line}" for e in rows for line in e["lines"]]
-    check(run(program, "--text", str(path)) == lines, "text differs")
+def shown(name):
+    """A name as `--text` has it: with a tab as `\\t`, and in backquotes if it has another character than letters, digits, `_`, `$`, `@` and those that
+    aren't ASCII. (No file has a name with another control character or a backslash.)"""
+    plain = re.fullmatch(r"(?:[0-9A-Za-z_$@]|[^\0-\x7f])+", name)
+    return name if plain else "`" + name.replace("`", "``").replace("\t", "\\t") + "`"
+
+
+def with_shown_names(line, image):
+    """The line of a row whose columns have the names of this image of it, with the names as `--text` has them."""
+    for name in image:
+        for before in ("{", ", "):
+            line = line.replace(f"{before}{name}=", f"{before}{shown(name)}=")
+    return line
+
+
+def check_text(program, path, rows, lines):
+    found = iter(json.loads(line) for line in lines)
+    wanted = []
+    for event in rows:
+        for line in event["lines"]:
+            row = next(found)
+            line = with_shown_names(line, row["before"] or row["after"])
+            wanted.append(f"{path.name}:{event['pos']} {shown(event['db'])}.{shown(event['table'])} {line}")
+    check(run(program, "--text", str(path)) == wanted, "text differs")
 
 
 def check_filters(program, path, rows, lines):
@@ -181,7 +203,7 @@ def check_faulty_rows(program, path, rows, lines, data, folder):
         raw = data[at:at + 9] + (size - 1).to_bytes(4, "little") + data[at + 13:at + size - sums - 1]
         faulty.write_bytes(data[:at] + raw + (zlib.crc32(raw).to_bytes(4, "little") if sums else b""))
         count = sum(e["pos"] < at for e in by_line) + last
-        found = run(program, str(faulty), status=1, message=f" at {at}: row {last} can't be read: ")
+        found = run(program, str(faulty), status=1, message=rf" at {at}: row {last} of \S+ can't be read: ")
         check(found == lines[:count], f"a faulty row at {at} differs")
         check_count(program, faulty, by_line[:count], status=1)
 
@@ -203,7 +225,7 @@ def check_file(program, name, folder):
     if path.stat().st_size < 120000:
         check_damage(program, path, rows, lines, data, folder_in(folder, "damaged"))
     check_faulty_rows(program, path, rows, lines, data, folder_in(folder, "faulty"))
-    check_text(program, path, rows)
+    check_text(program, path, rows, lines)
     return len(lines)
 
 

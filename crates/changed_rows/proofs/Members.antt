@@ -1,7 +1,7 @@
 -- Members that are written one after the other.
 use Rattle.std.proofs.Common.{◌≡◌, List, ◌++◌, refl, subst}
 use Rattle.std.specs.List.{flat_map}
-use Rattle.json.specs.Written.{Written}
+use Rattle.json_line.specs.Written.{Written}
 use Rattle.row_json.specs.Wrote.{Adds, Named, named_tokens, WroteMembers}
 use Rattle.row_json.proofs.Steps.{adds_members}
 

@@ -4,12 +4,13 @@
 ghost use Rattle.std.specs.Prelude.{◌≡◌, ◌*◌, [], ◌∷◌, decimal, OnOk};
 ghost use Rattle.std.specs.Option.{option_map};
 ghost use Rattle.json.specs.Json.{string, number};
+ghost use Rattle.json.specs.Print.{escape};
 ghost use Rattle.row_json.specs.Wrote.{AddsSome, WroteMembers};
 ghost use Rattle.changed_rows.specs.Origins.{text_or_null};
 ghost use Rattle.changed_rows.specs.Sources.{fields_of, source_at};
 
 use binlog_file::origin::Origin;
-use json::Writer;
+use json_line::Writer;
 use row_json::Members;
 use std::alloc::AllocError;
 
@@ -31,32 +32,38 @@ pub struct Source<'a> {
 }
 
 // Writes a member that is a string.
+#[inline(always)]
 fn write_string(out: &mut Writer, name: &str, text: &str) -> Result<(), AllocError>
+    requires { escape name.now ≡ name.now }
     ensures written { OnOk result
         (WroteMembers (λ ms. ms ≡ (name.now, string text.now) ∷ []) out.old out.new) }
     ensures stays { AddsSome out.old out.new }
 {
-    out.key(name)?;
+    out.plain_key(name)?;
     out.string(text)
 }
 
 // Writes a member that is a number.
+#[inline(always)]
 fn write_number(out: &mut Writer, name: &str, n: u64) -> Result<(), AllocError>
+    requires { escape name.now ≡ name.now }
     ensures written { OnOk result
         (WroteMembers (λ ms. ms ≡ (name.now, number (decimal n)) ∷ []) out.old out.new) }
     ensures stays { AddsSome out.old out.new }
 {
-    out.key(name)?;
+    out.plain_key(name)?;
     out.u64(n)
 }
 
 // Writes a member that is a string, or null.
+#[inline(always)]
 fn write_option(out: &mut Writer, name: &str, text: Option<&str>) -> Result<(), AllocError>
+    requires { escape name.now ≡ name.now }
     ensures written { OnOk result (WroteMembers (λ ms. ms
         ≡ (name.now, text_or_null (option_map (λ t. t.now) text.entry)) ∷ []) out.old out.new) }
     ensures stays { AddsSome out.old out.new }
 {
-    out.key(name)?;
+    out.plain_key(name)?;
     match text {
         Some(text) => out.string(text),
         None => out.null(),
@@ -107,6 +114,7 @@ impl<'a> Source<'a> {
 
     // Writes the members of the object.
     #[inline(always)]
+    #[tactic(auto, using(row_json::proofs::Steps::stays), unfolding(json::specs::Print::escape_byte))]
     fn write_members(&self, out: &mut Writer) -> Result<(), AllocError>
         ensures written { OnOk result
             (WroteMembers (λ ms. ms ≡ fields_of self.now) out.old out.new) }
@@ -134,7 +142,7 @@ impl<'a> Members for Source<'a> {
 
     #[inline(always)]
     fn write(&self, out: &mut Writer) -> Result<(), AllocError> {
-        out.key("source")?;
+        out.plain_key("source")?;
         out.begin_object()?;
         self.write_members(out)?;
         out.end_object()?;

@@ -23,8 +23,8 @@ fn weight_of(event: &TableMapEvent<'_>) -> usize
     let columns = event.columns_count() as usize;
     HOLDING
         .saturating_add(names.saturating_mul(4))
-        .saturating_add(event.optional_metadata_raw().len().saturating_mul(3))
-        .saturating_add(columns.saturating_mul(136))
+        .saturating_add(event.optional_metadata_raw().len().saturating_mul(4))
+        .saturating_add(columns.saturating_mul(200))
 }
 
 /// What is found out once of a table map event.

@@ -21,7 +21,7 @@ use Rattle.mysql_binlog_rows.specs.Images.{BinlogRow}
 use Rattle.json.specs.Token as token
 use Rattle.json.specs.Json.{Json}
 use Rattle.json.specs.Tree.{json_tokens}
-use Rattle.json.specs.Written.{Written}
+use Rattle.json_line.specs.Written.{Written}
 use Rattle.row_json.specs.Wrote.{Adds, Wrote, WroteMembers, Named, named_tokens}
 use Rattle.row_json.proofs.Steps.{adds_both, adds_same}
 

@@ -10,7 +10,7 @@ use Rattle.json.specs.Json.{Json, null, boolean, number, string, array, object, 
 use Rattle.json.specs.Tree.{json_tokens, items_tokens, members_tokens, HasNumbers, ItemsHaveNumbers, MembersHaveNumbers}
 use Rattle.json.specs.Print.{escape, print_from, print, separator, ends, ends_value, ArePrintableOrBad}
 use Rattle.json.specs.Lex.{tokens}
-use Rattle.json.specs.Written.{Written, Writes}
+use Rattle.json_line.specs.Written.{Written, Writes}
 use Rattle.json.proofs.Printed.Tokens.{print_from_push, print_from-append, ends_push}
 use Rattle.json.proofs.Numbered.{ArePrintableOrBad-tokens}
 use Rattle.row_json.specs.LongLines.{LinePart, part_bytes, characters}
@@ -201,7 +201,7 @@ pub goes_apart_if : {E : Type 0} (r : Result (Unit {0}) E) (ps : List LinePart) 
     ((ts : List Token) (h : Holds ps b ts) → written ≡ closing ps ++ print_from (has_parts ps) h.last) →
     ((ts : List Token) (h : Holds ps b ts) → ArePrintableOrBad h.last) → e.before ≡ [] → e.tokens ≡ [] → Writes r e d (token.string []) → OnOk r (Goes ps a (ps ++ p ∷ []) d (token.string (characters p.text) ∷ []))
 goes_apart_if (Ok _) ps p a b e d written empty cut_off text printable before none w =
-    goes_apart ps p a b d written empty cut_off text printable (w.room.0 ∙ before) (w.ok ∙ ap (λ (l : List Token). l ++ token.string [] ∷ []) none)
+    goes_apart ps p a b d written empty cut_off text printable (w.before ∙ before) (w.ok ∙ ap (λ (l : List Token). l ++ token.string [] ∷ []) none)
 goes_apart_if (Err _) ps p a b e d written empty cut_off text printable before none w = tt
 
 -- ---- values and members
@@ -233,7 +233,7 @@ goes_object ps qs a b d e ms begun written ended =
 pub long_line_is : (cs : List Column) (e : RowsEvent) (added ms : List Named) (pair : Pair) (ts us vs : List Token) (line : List ℕ) → Fits added → ts ≡ token.begin_object ∷ named_tokens (codes "op", string (operation_of pair)) →
     us ≡ flat_map named_tokens added → AreImages cs e pair ms → vs ≡ object_end ms → ArePrintableOrBad (ts ++ (us ++ vs)) → line ≡ print (ts ++ (us ++ vs)) ++ codes "\n" → IsLine cs e added pair line
 long_line_is cs e added ms pair ts us vs line fits first own are last printable is =
-    let at : List Token → Written = λ l. record { before = []; tokens = l; spare = 0 } in
+    let at : List Token → Written = λ l. record { before = []; tokens = l; capacity = 0 } in
     let x : Adds (at []) (at ts) (token.begin_object ∷ named_tokens (codes "op", string (operation_of pair))) = record { before = refl; tokens = first } in
     let y : Adds (at ts) (at (ts ++ us)) (flat_map named_tokens added) = record { before = refl; tokens = ap (λ (l : List Token). ts ++ l) own } in
     let z : Adds (at (ts ++ us)) (at (ts ++ (us ++ vs))) (object_end ms) = record { before = refl; tokens = sym (append_assoc ts us vs) ∙ ap (λ (l : List Token). (ts ++ us) ++ l) last } in

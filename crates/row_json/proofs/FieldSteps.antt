@@ -2,7 +2,7 @@
 use Rattle.std.proofs.Common.{◌≡◌, ◌+◌, ◌<◌, ℕ, List, [], ◌∷◌, ◌++◌, length, get_or, take, ap, ◌∙◌, subst}
 use Rattle.std.specs.List.{flat_map}
 use Rattle.std.proofs.lemmas.List.{take_more, map-append}
-use Rattle.json.specs.Written.{Written}
+use Rattle.json_line.specs.Written.{Written}
 use Rattle.row_json.specs.Fields.{Field, scalar_json, fields_json}
 use Rattle.row_json.specs.Wrote.{Adds, Named, named_tokens, WroteMembers}
 use Rattle.row_json.proofs.Steps.{adds_members}

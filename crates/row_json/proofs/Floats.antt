@@ -8,7 +8,7 @@ use Rattle.ryu.specs.Plain.{IsPlainNumber}
 use Rattle.json.specs.Token as token
 use Rattle.json.specs.Json as json
 use Rattle.json.specs.Json.{Json}
-use Rattle.json.specs.Written.{Written, Writes}
+use Rattle.json_line.specs.Written.{Written, Writes}
 use Rattle.row_json.specs.Wrote.{Wrote}
 use Rattle.row_json.specs.Floats.{IsNumberOf, special_text, IsFloatJson}
 use Rattle.row_json.proofs.Steps.{token_wrote}

@@ -3,6 +3,7 @@ pub mod Steps
 pub mod FieldSteps
 pub mod Floats
 pub mod Bytes
+pub mod Ascii
 pub mod Trees
 pub mod Walked
 pub mod Tables

@@ -8,7 +8,7 @@ use Rattle.json.specs.Tree.{json_tokens}
 use Rattle.json.specs.Json.{value, max_depth, if_last}
 use Rattle.json.specs.Print.{print}
 use Rattle.json.specs.Lex.{tokens}
-use Rattle.json.specs.Written.{Written}
+use Rattle.json_line.specs.Written.{Written}
 use Rattle.json.proofs.Printed.Trees.{value-json_tokens}
 use Rattle.row_json.specs.Columns.{Column}
 use Rattle.row_json.specs.Rows.{IsPairJson, IsLine}

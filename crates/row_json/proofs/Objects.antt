@@ -9,7 +9,7 @@ use Rattle.json.specs.Json.{string, object}
 use Rattle.json.specs.Token.{Token}
 use Rattle.json.specs.Token as token
 use Rattle.json.specs.Tree.{json_tokens}
-use Rattle.json.specs.Written.{Written}
+use Rattle.json_line.specs.Written.{Written}
 use Rattle.row_json.specs.Columns.{Column}
 use Rattle.row_json.specs.Rows.{operation_of, AreImages, IsPairJson}
 use Rattle.row_json.specs.Wrote.{Adds, Wrote, Named, named_tokens, members_of, object_end}

@@ -7,7 +7,7 @@ use Rattle.json.specs.Token.{Token}
 use Rattle.json.specs.Token as token
 use Rattle.json.specs.Json.{Json, object}
 use Rattle.json.specs.Tree.{json_tokens, items_tokens, members_tokens}
-use Rattle.json.specs.Written.{Written, Writes}
+use Rattle.json_line.specs.Written.{Written, Writes}
 use Rattle.row_json.specs.Wrote.{Adds, AddsSome, Wrote, Named, named_tokens, items_of, members_of, object_end}
 
 -- two writes, one after the other
@@ -22,12 +22,12 @@ adds_same {a} ts us e x = record { before = x.before; tokens = x.tokens ∙ ap (
 
 -- the written token of a call that succeeded
 pub adds_token : {E : Type 0} (r : Result (Unit {0}) E) (a b : Written) (t : Token) → Writes r a b t → OnOk r (Adds a b (t ∷ []))
-adds_token (Ok _) a b t w = record { before = w.room.0; tokens = w.ok }
+adds_token (Ok _) a b t w = record { before = w.before; tokens = w.ok }
 adds_token (Err _) a b t w = tt
 
 -- the same for a string or a key whose text is known otherwise
 pub adds_string : {E : Type 0} (r : Result (Unit {0}) E) (a b : Written) (s t : List ℕ) → s ≡ t → Writes r a b (token.string s) → OnOk r (Adds a b (token.string t ∷ []))
-adds_string (Ok _) a b s t e w = record { before = w.room.0; tokens = w.ok ∙ ap (λ (l : List ℕ). a.tokens ++ token.string l ∷ []) e }
+adds_string (Ok _) a b s t e w = record { before = w.before; tokens = w.ok ∙ ap (λ (l : List ℕ). a.tokens ++ token.string l ∷ []) e }
 adds_string (Err _) a b s t e w = tt
 
 -- a value of which it is known what it is
@@ -63,7 +63,7 @@ adds_object ms begun written ended =
 
 -- a call that wrote one token, which is the whole value
 pub token_wrote : {E : Type 0} (r : Result (Unit {0}) E) (a b : Written) (t : Token) (j : Json) (Is : Json → Type 0) → json_tokens j ≡ t ∷ [] → Writes r a b t → Is j → OnOk r (Wrote Is a b)
-token_wrote (Ok _) a b t j Is e w is = record { value = j; is = is; adds = adds_same (t ∷ []) (json_tokens j) (sym e) (record { before = w.room.0; tokens = w.ok }) }
+token_wrote (Ok _) a b t j Is e w is = record { value = j; is = is; adds = adds_same (t ∷ []) (json_tokens j) (sym e) (record { before = w.before; tokens = w.ok }) }
 token_wrote (Err _) a b t j Is e w is = tt
 
 pub wrote_weaker : {a b : Written} (Is Be : Json → Type 0) → ((j : Json) → Is j → Be j) → Wrote Is a b → Wrote Be a b
@@ -79,8 +79,8 @@ some_more x y = record { added = y.added ++ x.added; adds = adds_both y.added x.
 
 -- a call that writes one token
 pub some_token : {E : Type 0} {a b c : Written} (r : Result (Unit {0}) E) (t : Token) → Writes r b c t → AddsSome a b → AddsSome a c
-some_token (Ok _) t w x = some_more (record { added = t ∷ []; adds = record { before = w.room.0; tokens = w.ok } }) x
-some_token {b = b} (Err _) t w x = some_more (record { added = []; adds = record { before = w.room.0; tokens = w.err ∙ sym (append-nil b.tokens) } }) x
+some_token (Ok _) t w x = some_more (record { added = t ∷ []; adds = record { before = w.before; tokens = w.ok } }) x
+some_token {b = b} (Err _) t w x = some_more (record { added = []; adds = record { before = w.before; tokens = w.err ∙ sym (append-nil b.tokens) } }) x
 
 -- what is known to have been written
 pub some_adds : {a b : Written} (ts : List Token) → Adds a b ts → AddsSome a b

@@ -27,7 +27,7 @@ use Rattle.json.specs.Json as json
 use Rattle.json.specs.Json.{Json}
 use Rattle.json.specs.Token.{Token}
 use Rattle.json.specs.Tree.{json_tokens}
-use Rattle.json.specs.Written.{Written, Writes}
+use Rattle.json_line.specs.Written.{Written, Writes}
 use Rattle.row_json.specs.Wrote.{Wrote, Named}
 use Rattle.row_json.proofs.Steps.{token_wrote}
 use Rattle.row_json.specs.Documents.{IsScalarJson, IsDataJson, AreItems, AreMembers}

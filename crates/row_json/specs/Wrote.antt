@@ -5,7 +5,7 @@ use Rattle.json.specs.Token.{Token}
 use Rattle.json.specs.Token as token
 use Rattle.json.specs.Json.{Json, object, Items, no_items, item, Members, no_members, member, max_depth}
 use Rattle.json.specs.Tree.{json_tokens, depth}
-use Rattle.json.specs.Written.{Written}
+use Rattle.json_line.specs.Written.{Written}
 
 -- these tokens were written after the old ones
 pub record Adds (old new : Written) (ts : List Token) : Type 0 where

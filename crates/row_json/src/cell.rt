@@ -28,7 +28,7 @@ use crate::time::{Clock, Day, TimeText};
 use binlog_base::below::{ColumnType, Value};
 use binlog_base::fault::Fault;
 use binlog_values::decimal::{MAX_TEXT, PackedDecimal};
-use json::Writer;
+use json_line::Writer;
 use mysql_binlog_rows::value::{
     LentCell, MAX_TIMESTAMP_TEXT, MAX_YEAR_TEXT, Timestamp, Year, signed_old_time,
 };

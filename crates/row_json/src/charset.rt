@@ -7,6 +7,7 @@ ghost use Rattle.std.specs.String.{string_bytes};
 ghost use Rattle.row_json.specs.Charsets.{charset_of, latin1_character, latin1_text, may_be_text, str_in, text_in};
 
 use std::alloc::{AllocError, Global};
+use std::str;
 
 /// A character set, as far as it decides the JSON of a column.
 #[derive(Clone, Copy, Debug, PartialEq, Eq)]
@@ -133,10 +134,12 @@ fn may_be_text(charset: Charset, bytes: &[u8]) -> bool
 pub(crate) fn str_in(charset: Charset, bytes: &[u8]) -> Option<&str>
     ensures { option_map (λ t. t.now) result ≡ str_in charset bytes.now }
 {
-    if may_be_text(charset, bytes) {
-        simdutf8::basic::from_utf8(bytes).ok()
-    } else {
+    if !may_be_text(charset, bytes) {
         None
+    } else if bytes.is_ascii() {
+        Some(unsafe { str::from_utf8_unchecked(bytes) })
+    } else {
+        simdutf8::basic::from_utf8(bytes).ok()
     }
 }
 

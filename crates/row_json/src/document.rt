@@ -27,7 +27,7 @@ use binlog_base::fault::Fault;
 use binlog_values::jsonb::{JsonDom, JsonNumber, JsonScalar, JsonbString, ObjectKey, Value};
 use binlog_values::jsondiff::{JsonDiff, JsonDiffOperation};
 use binlog_values::time::{MysqlTime, MysqlTimestampType};
-use json::Writer;
+use json_line::Writer;
 use mysql_binlog_rows::value::{LentDiffs, LentJson};
 use std::alloc::{AllocError, Global};
 use std::collections::BTreeMap;

@@ -6,7 +6,7 @@ ghost use Rattle.row_json.specs.Fields.{scalar_json, fields_json};
 ghost use Rattle.row_json.specs.Wrote.{AddsSome, Wrote, WroteMembers};
 
 use crate::members::Members;
-use json::Writer;
+use json_line::Writer;
 use std::alloc::AllocError;
 
 /// A value of JSON that is neither an object nor an array.

@@ -6,7 +6,7 @@ ghost use Rattle.std.specs.Float.{binary32, binary64};
 ghost use Rattle.row_json.specs.Floats.{IsFloatJson};
 ghost use Rattle.row_json.specs.Wrote.{Wrote, AddsSome};
 
-use json::Writer;
+use json_line::Writer;
 use std::alloc::AllocError;
 use std::num::{f32_from_bits_with_nan, f64_from_bits_with_nan};
 

@@ -12,7 +12,7 @@ ghost use Rattle.row_json.specs.Wrote.{AddsSome, WroteMembers};
 use crate::row::{Part, write_member_of};
 use crate::table::ColumnJson;
 use binlog_base::fault::Fault;
-use json::Writer;
+use json_line::Writer;
 use mysql_binlog_rows::row::{BinlogRow, LentRow};
 use mysql_binlog_rows::rows_event::{LentPair, RowPair};
 use mysql_binlog_rows::value::{BinlogValue, LentCell};

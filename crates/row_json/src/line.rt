@@ -1,6 +1,8 @@
 //! Pairs of rows as lines.
 
-ghost use Rattle.std.specs.Prelude.{◌≡◌, ◌≢◌, ◌≤◌, ◌+◌, ◌*◌, ◌++◌, ℕ, List, [], length, IfErr, OnOk, OnErr, codes};
+ghost use Rattle.std.specs.Prelude.{◌≡◌, ◌≢◌, ◌≤◌, ◌+◌, ◌*◌, ◌++◌, ℕ, List, [], length, vec_capacity, IfErr, OnOk, OnErr, codes};
+ghost use Rattle.json.specs.Lex.{tokens};
+ghost use Rattle.json.specs.Print.{print};
 ghost use Rattle.binlog_base.specs.declared.fault.Fault.TheVariants as Fault;
 ghost use Rattle.row_json.specs.Rows.{IsLine};
 ghost use Rattle.row_json.specs.Faults.{HasNone, IsFaultOfPair};
@@ -11,7 +13,7 @@ use crate::pair::write_images;
 use crate::present::ImageColumns;
 use crate::table::TableJson;
 use binlog_base::fault::Fault;
-use json::Writer;
+use json_line::Writer;
 use mysql_binlog_rows::rows_event::{LentPair, RowPair, RowsEvent};
 use std::alloc::{AllocError, Global};
 use std::mem;
@@ -29,7 +31,7 @@ pub struct LineRoom {
     /// The columns of the images of the last line.
     columns: ImageColumns,
     /// The line.
-    line: Vec<u8>,
+    out: Writer,
 }
 
 impl LineRoom {
@@ -38,7 +40,7 @@ impl LineRoom {
         LineRoom {
             text: String::new(alloc),
             columns: ImageColumns::new(alloc),
-            line: Vec::new(alloc),
+            out: Writer::new(Vec::new(alloc)),
         }
     }
 
@@ -46,38 +48,52 @@ impl LineRoom {
     pub(crate) fn parts(&mut self) -> (&mut String, &mut ImageColumns) {
         (&mut self.text, &mut self.columns)
     }
+}
 
-    // Takes the buffer of the line, which is emptied: behind a buffer that holds something the writer
-    // makes room ready that a line seldom needs.
-    fn begin(&mut self, alloc: Global) -> Writer
-        ensures before { result.before ≡ [] }
-        ensures tokens { result.tokens ≡ [] }
-    {
-        let mut line = mem::replace(&mut self.line, Vec::new(alloc));
-        line.clear();
-        Writer::new(line)
-    }
+// Adds the line that was written and a line's end to the lines, without a copy of the line: the lines are
+// put behind it and turned to its front, and the buffers change places.
+#[cold]
+#[inline(never)]
+fn add_long(alloc: Global, out: &mut Writer, lines: &mut Vec<u8>) -> Result<(), AllocError>
+    ensures added { OnOk result (lines.new.items
+        ≡ lines.old.items ++ ((out.old.before ++ print out.old.tokens) ++ codes "\n")) }
+    ensures kept { OnErr result (lines.new.items ≡ lines.old.items) }
+    ensures given { OnOk result (out.new.capacity ≡ vec_capacity lines.old) }
+{
+    let mut line = mem::replace(out, Writer::new(Vec::new(alloc))).into_inner();
+    line.push(b'\n')?;
+    let len = line.len();
+    line.extend_from_slice(lines)?;
+    line.rotate_left(len);
+    mem::swap(lines, &mut line);
+    line.clear();
+    *out = Writer::new(line);
+    Ok(())
+}
 
-    // Adds the line and a line's end to the lines. A long line isn't copied: the lines before it, if they
-    // are no longer, are put in front of it, and the buffers change places.
-    fn add_to(&mut self, lines: &mut Vec<u8>) -> Result<(), AllocError>
-        ensures added { OnOk result
-            (lines.new.items ≡ lines.old.items ++ (self.old.line.items ++ codes "\n")) }
-        ensures kept { OnErr result (lines.new.items ≡ lines.old.items) }
-        ensures given { OnOk result (64 * 1024 ≤ length self.old.line.items + 1
-            → length lines.old.items ≤ length self.old.line.items + 1
-            → self.new.line ≡ lines.old) }
-    {
-        self.line.push(b'\n')?;
-        let len = self.line.len();
-        if len < LONG || len < lines.len() {
-            return lines.extend_from_slice(&self.line);
-        }
-        self.line.extend_from_slice(lines)?;
-        self.line.rotate_left(len);
-        mem::swap(lines, &mut self.line);
-        Ok(())
+// Adds the line that was written and a line's end to the lines. A long line isn't copied, if the lines
+// before it are no longer: the buffers change places.
+fn add_to(alloc: Global, out: &mut Writer, lines: &mut Vec<u8>) -> Result<(), AllocError>
+    ensures added { OnOk result (lines.new.items
+        ≡ lines.old.items ++ ((out.old.before ++ print out.old.tokens) ++ codes "\n")) }
+    ensures kept { OnErr result (lines.new.items ≡ lines.old.items) }
+    ensures given { OnOk result (64 * 1024 ≤ length (out.old.before ++ print out.old.tokens) + 1
+        → length lines.old.items ≤ length (out.old.before ++ print out.old.tokens) + 1
+        → out.new.capacity ≡ vec_capacity lines.old) }
+    ensures reads_back { tokens (print out.old.tokens) ≡ out.old.tokens }
+{
+    let line = out.as_bytes();
+    let len = line.len() + 1;
+    let before = lines.len();
+    if len >= LONG && len >= before {
+        return add_long(alloc, out, lines);
     }
+    lines.extend_from_slice(line)?;
+    if lines.push(b'\n').is_err() {
+        lines.truncate(before);
+        return Err(AllocError);
+    }
+    Ok(())
 }
 
 // Adds the line of a pair of rows of either kind, with the members of a caller.
@@ -98,20 +114,10 @@ fn add_line<P: Images, M: Members>(
         → IsFaultOfPair table.now event.now (P.pair pair.now) e) }
     ensures sound { OnOk result (HasNone (IsFaultOfPair table.now event.now (P.pair pair.now))) }
 {
-    let mut out = room.begin(alloc);
-    let written = write_images(
-        alloc,
-        &mut room.text,
-        &mut room.columns,
-        &mut out,
-        table,
-        event,
-        pair,
-        members,
-    );
-    room.line = out.into_inner();
-    written?;
-    room.add_to(lines)?;
+    let LineRoom { text, columns, out } = room;
+    out.restart();
+    write_images(alloc, text, columns, out, table, event, pair, members)?;
+    add_to(alloc, out, lines)?;
     Ok(())
 }
 

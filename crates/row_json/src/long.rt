@@ -2,12 +2,11 @@
 #![tactic(auto, using(crate::proofs::Steps::stays))]
 
 ghost use Rattle.std.specs.Prelude.{◌≡◌, ◌≢◌, ◌≤◌, ◌<◌, ◌+◌, ◌*◌, ◌++◌, ◌∷◌, [], List, drop, length, vec_len, vec_capacity, IsTrue, ◌↔◌, IfOk, IfErr, IfSome, OnOk, Some, codes};
-ghost use Rattle.std.specs.Char.{digit_char};
 ghost use Rattle.std.specs.Option.{option_map};
 ghost use Rattle.json.specs.Json.{string};
 ghost use Rattle.json.specs.Token.{Token};
 ghost use Rattle.json.specs.Token as token;
-ghost use Rattle.json.specs.Print.{escape, escape_byte, escape_letter, print_from, print, ArePrintableOrBad};
+ghost use Rattle.json.specs.Print.{escape, escape_byte, print_from, print, ArePrintableOrBad};
 ghost use Rattle.binlog_base.specs.declared.fault.Fault.TheVariants as Fault;
 ghost use Rattle.binlog_cells.specs.LentCells.{lent_cell};
 ghost use Rattle.row_json.specs.declared.row.Part.TheVariants as parts;
@@ -30,7 +29,7 @@ use crate::row::{Part, write_member_of};
 use crate::table::{ColumnJson, TableJson};
 use binlog_base::bits::BitView;
 use binlog_base::fault::Fault;
-use json::Writer;
+use json_line::{Writer, escape_letter, hex_digit};
 use mysql_binlog_rows::row::LentRow;
 use mysql_binlog_rows::rows_event::{LentPair, RowsEvent};
 use mysql_binlog_rows::value::LentCell;
@@ -80,33 +79,6 @@ pub struct LongText<'a> {
     bytes: &'a [u8],
 }
 
-// Returns the letter of a byte's short escape; 0 if it has none.
-fn escape_letter(byte: u8) -> u8
-    ensures { result ≡ escape_letter byte }
-{
-    match byte {
-        b'"' | b'\\' => byte,
-        8 => b'b',
-        9 => b't',
-        10 => b'n',
-        12 => b'f',
-        13 => b'r',
-        _ => 0,
-    }
-}
-
-// Returns a hexadecimal digit.
-fn digit(number: u8) -> u8
-    requires { number < 16 }
-    ensures { result ≡ digit_char number }
-{
-    if number < 10 {
-        b'0' + number
-    } else {
-        b'a' + (number - 10)
-    }
-}
-
 // Appends a byte as it stands in a string of JSON.
 #[tactic(auto, unfolding(json::specs::Print::escape_byte))]
 fn push_escaped(out: &mut Vec<u8>, byte: u8)
@@ -119,7 +91,14 @@ fn push_escaped(out: &mut Vec<u8>, byte: u8)
     let pushed = if letter > 0 {
         out.extend_from_slice(&[b'\\', letter])
     } else if byte < 0x20 {
-        out.extend_from_slice(&[b'\\', b'u', b'0', b'0', digit(byte / 16), digit(byte % 16)])
+        out.extend_from_slice(&[
+            b'\\',
+            b'u',
+            b'0',
+            b'0',
+            hex_digit(byte / 16),
+            hex_digit(byte % 16),
+        ])
     } else {
         out.extend_from_slice(&[byte])
     };
@@ -378,7 +357,7 @@ fn write_member<'a>(
 {
     match cell_apart(column, cell) {
         Some(apart) => {
-            draft.out.key(column.name())?;
+            column.write_key(&mut draft.out)?;
             draft.write_apart(alloc, apart)?;
             Ok(())
         }

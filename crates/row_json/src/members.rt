@@ -4,7 +4,7 @@
 ghost use Rattle.std.specs.Prelude.{◌≡◌, List, [], OnOk};
 ghost use Rattle.row_json.specs.Wrote.{AddsSome, Named, Fits, WroteMembers};
 
-use json::Writer;
+use json_line::Writer;
 use std::alloc::AllocError;
 
 /// Members of an object, which `write_pair_with` and `write_line_with` write between `op` and

@@ -11,7 +11,7 @@ ghost use Rattle.row_json.specs.Wrote.{Adds, AddsSome};
 
 use crate::text::write_base64;
 use byteorder::{BigEndian, ByteOrder, LittleEndian};
-use json::Writer;
+use json_line::Writer;
 use std::alloc::AllocError;
 
 /// Writes a BIT as a number; in base64 if it has more than 64 bits, which no server's has.

@@ -20,7 +20,7 @@ use crate::row::{Part, write_object};
 use crate::table::TableJson;
 use binlog_base::bits::{BitOrder, BitView};
 use binlog_base::fault::Fault;
-use json::Writer;
+use json_line::Writer;
 use mysql_binlog_rows::rows_event::{LentPair, RowPair, RowsEvent};
 use std::alloc::{AllocError, Global};
 
@@ -119,7 +119,7 @@ pub(crate) fn begin_pair<P: Images>(out: &mut Writer, pair: &P) -> Result<(), Al
     ensures stays { AddsSome out.old out.new }
 {
     out.begin_object()?;
-    out.key("op")?;
+    out.plain_key("op")?;
     out.string(operation_of(pair))
 }
 
@@ -143,7 +143,7 @@ fn end_pair<P: Images>(
     let before = present_in(event.columns_before_image());
     let after = present_in(event.columns_after_image());
     columns.keep(alloc, event, &before, &after)?;
-    out.key("before")?;
+    out.plain_key("before")?;
     write_image(
         alloc,
         text,
@@ -153,7 +153,7 @@ fn end_pair<P: Images>(
         columns.places_before(&before),
         pair.before(),
     )?;
-    out.key("after")?;
+    out.plain_key("after")?;
     write_image(
         alloc,
         text,

@@ -18,7 +18,7 @@ use crate::present::push_set;
 use crate::table::{ColumnJson, TableJson};
 use binlog_base::bits::BitView;
 use binlog_base::fault::Fault;
-use json::Writer;
+use json_line::Writer;
 use mysql_binlog_rows::row::{BinlogRow, LentRow};
 use mysql_binlog_rows::value::LentCell;
 use std::alloc::Global;
@@ -50,7 +50,7 @@ fn write_member_of_value<const APART: bool>(
     match value {
         LentCell::Diffs(_) => Ok(()),
         _ => {
-            out.key(column.name())?;
+            column.write_key(out)?;
             write_cell::<APART>(alloc, text, out, column, value)?;
             Ok(())
         }
@@ -75,7 +75,7 @@ fn write_member<const APART: bool>(
 {
     match cell {
         None => {
-            out.key(column.name())?;
+            column.write_key(out)?;
             out.null()?;
             Ok(())
         }
@@ -100,7 +100,7 @@ fn write_diffs_of_value(
 {
     match value {
         LentCell::Diffs(diffs) => {
-            out.key(column.name())?;
+            column.write_key(out)?;
             write_lent_diffs(alloc, text, out, diffs)?;
             Ok(())
         }

@@ -3,6 +3,8 @@
 ghost use Rattle.std.specs.Prelude.{◌≡◌, map, IfOk, IfErr};
 ghost use Rattle.std.specs.Option.{option_map};
 ghost use Rattle.std.specs.String.{string_bytes};
+ghost use Rattle.json.specs.Token as token;
+ghost use Rattle.json_line.specs.Written.{Writes};
 ghost use Rattle.binlog_base.specs.declared.fault.Fault.TheVariants as Fault;
 ghost use Rattle.binlog_base.specs.Items.{before_fault};
 ghost use Rattle.binlog_table.specs.Workings.ColumnsLeft.{seen_column};
@@ -14,6 +16,7 @@ use crate::names::Names;
 use binlog_base::fault::Fault;
 use binlog_table::table_map::TableMapEvent;
 use binlog_table::table_map::optional::{TableColumn, TableColumns};
+use json_line::{Piece, Writer};
 use std::alloc::{AllocError, Global};
 use std::marker::Model;
 
@@ -21,12 +24,15 @@ use std::marker::Model;
 #[derive(Debug, Drop)]
 pub struct ColumnJson {
     name: String,
+    // The name as a key.
+    key: Piece,
     kind: Kind,
     names: Vec<Option<String>>,
 }
 
 impl Model for ColumnJson {
-    ghost use Rattle.std.specs.Prelude.{map};
+    ghost use Rattle.std.specs.Prelude.{◌≡◌, [], ◌∷◌, map};
+    ghost use Rattle.json.specs.Token as token;
     ghost use Rattle.std.specs.Option.{option_map};
     ghost use Rattle.std.specs.String.{string_bytes};
     ghost use Rattle.row_json.specs.Columns as Spec;
@@ -38,6 +44,8 @@ impl Model for ColumnJson {
       kind = c.kind;
       names = map (option_map string_bytes) c.names.items;
     } };
+
+    ghost invariant = { λ c. c.key ≡ token.key (string_bytes c.name) ∷ [] };
 }
 
 impl ColumnJson {
@@ -47,6 +55,14 @@ impl ColumnJson {
         ensures { result.now ≡ self.now.name }
     {
         self.name.as_str()
+    }
+
+    /// Writes the name as a key.
+    #[inline(always)]
+    pub(crate) fn write_key(&self, out: &mut Writer) -> Result<(), AllocError>
+        ensures { Writes result out.old out.new (token.key self.now.name) }
+    {
+        out.append(&self.key)
     }
 
     /// Returns the kind.
@@ -106,8 +122,10 @@ fn column_of(
     ensures err { IfErr result (λ e. e ≡ Fault.Memory) }
 {
     let metadata = column.metadata.unwrap_or(&[]);
+    let name = name_of(alloc, index, column)?;
     Ok(ColumnJson {
-        name: name_of(alloc, index, column)?,
+        key: Piece::of_key(alloc, name.as_str())?,
+        name,
         kind: kind_of(column.column_type, metadata, column.charset),
         names: names.take(alloc, column.column_type, charset_of(column.charset))?,
     })

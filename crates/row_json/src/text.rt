@@ -12,7 +12,8 @@ ghost use Rattle.row_json.specs.Wrote.{Adds, AddsSome};
 
 use crate::charset::{Charset, push_latin1, str_in};
 use base64::engine::general_purpose::STANDARD;
-use json::{Writer, is_number};
+use json::is_number;
+use json_line::Writer;
 use std::alloc::AllocError;
 use std::str;
 
@@ -35,13 +36,14 @@ fn encode_short<'r>(bytes: &[u8], room: &'r mut [u8; SHORT_ENCODING]) -> &'r str
 }
 
 // Writes `{"base64":".."}`, with this encoding.
+#[tactic(auto, using(crate::proofs::Steps::stays), unfolding(json::specs::Print::escape_byte))]
 fn write_encoding(out: &mut Writer, encoding: &str) -> Result<(), AllocError>
     ensures written { OnOk result (Adds out.old out.new
         (json_tokens (object (member (codes "base64") (string encoding.now) no_members)))) }
     ensures stays { AddsSome out.old out.new }
 {
     out.begin_object()?;
-    out.key("base64")?;
+    out.plain_key("base64")?;
     out.string(encoding)?;
     out.end_object()
 }
@@ -107,6 +109,9 @@ pub(crate) fn write_text(
     ensures stays { AddsSome out.old out.new }
 {
     if let Charset::Latin1 = charset {
+        if out.ascii_string(bytes)? {
+            return Ok(());
+        }
         text.clear();
         push_latin1(text, bytes)?;
         return out.string(text.as_str());

@@ -7,12 +7,13 @@ mod long;
 mod memory;
 mod partial;
 mod trees;
+mod writer;
 
 use binlog_base::below::ParseBuf;
 use binlog_base::fault::Fault;
 use binlog_consts::consts::EventType;
 use binlog_table::table_map::TableMapEvent;
-use json::Writer;
+use json_line::Writer;
 use mysql_binlog_rows::rows_event::{LentPair, RowsEvent, RowsEventCtx, RowsEventRows};
 use row_json::{
     Charset, ColumnJson, EscapeRoom, Fields, Kind, LineRoom, LongLine, Members, NoMembers, Scalar,

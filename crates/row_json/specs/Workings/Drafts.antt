@@ -7,7 +7,7 @@ use Rattle.json.specs.Token.{Token}
 use Rattle.json.specs.Token as token
 use Rattle.json.specs.Tree.{json_tokens}
 use Rattle.json.specs.Print.{print, ends_value, ArePrintableOrBad}
-use Rattle.json.specs.Written.{Written}
+use Rattle.json_line.specs.Written.{Written}
 use Rattle.row_json.specs.LongLines.{LinePart, part_bytes}
 use Rattle.row_json.specs.Wrote.{Named, named_tokens}
 

@@ -11,7 +11,7 @@ use Rattle.binlog_values.specs.JsonbValues.{Frame, JsonbValue, nested, element_a
 use Rattle.binlog_values.specs.JsonbTrees.{entry_key, Tree, Branches, Members, no_members, member, merged, merged_items, Denotes, DenoteFrom}
 use Rattle.json.specs.Json.{Json}
 use Rattle.json.specs.Tree.{json_tokens}
-use Rattle.json.specs.Written.{Written}
+use Rattle.json_line.specs.Written.{Written}
 use Rattle.row_json.specs.Documents.{IsDataJson, AreItems, AreMembers}
 use Rattle.row_json.specs.Wrote.{Adds, Wrote, Named, named_tokens}
 

@@ -14,6 +14,7 @@ use binlog_base::fault::Fault;
 use binlog_consts::consts::EventType;
 use binlog_table::table_map::TableMapEvent;
 use binlog_values::jsonb::{JsonDom, Value};
+use json_line::{Piece, Writer};
 use mysql_binlog_rows::rows_event::{LentPair, RowsEvent};
 use row_json::{LineRoom, TableJson, write_line};
 use std::alloc::{AllocError, Global};
@@ -94,6 +95,23 @@ fn three_lines(rt: HostRuntime) -> Result<(), Fail> {
 #[test]
 fn long_texts(rt: HostRuntime) -> Result<(), Fail> {
     assert!(rt; long::is_right(rt.alloc(), &CASES[0])?);
+    Ok(())
+}
+
+/// Returns whether a key that needs escapes is written by a piece of it.
+fn is_key_written(alloc: Global) -> Result<bool, AllocError> {
+    let key = Piece::of_key(alloc, "a\"\n")?;
+    let mut out = Writer::new(Vec::new(alloc));
+    out.begin_object()?;
+    out.append(&key)?;
+    out.null()?;
+    out.end_object()?;
+    Ok(out.as_bytes() == b"{\"a\\\"\\n\":null}".as_slice())
+}
+
+#[test]
+fn pieces(rt: HostRuntime) -> Result<(), Fail> {
+    assert!(rt; is_key_written(rt.alloc())?);
     Ok(())
 }
 

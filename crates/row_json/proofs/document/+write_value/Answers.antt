@@ -22,8 +22,8 @@ write_array-returns-clause-written t c = λ f is all bs denoted flat.
       value = json.array (items_of w.0);
       is = (w.0, w.1, refl);
       adds = adds_same _ _ (ap (λ (l : List Token). token.begin_array ∷ l) (sym (items_end w.0)))
-          (adds_both (token.begin_array ∷ []) _ (record { before = c.begin_array.ensures.room.0; tokens = c.in_ok-begin_array.ensures.ok })
-          (adds_both _ (token.end_array ∷ []) w.2 (record { before = c.end_array.ensures.room.0; tokens = c.in_ok-end_array.ensures.ok })));
+          (adds_both (token.begin_array ∷ []) _ (record { before = c.begin_array.ensures.before; tokens = c.in_ok-begin_array.ensures.ok })
+          (adds_both _ (token.end_array ∷ []) w.2 (record { before = c.end_array.ensures.before; tokens = c.in_ok-end_array.ensures.ok })));
     }
 
 pub write_object-returns-clause-written : goal.write_object-returns-clause-written
@@ -32,7 +32,7 @@ write_object-returns-clause-written t c = λ f is all bs denoted flat.
     let w = c.in_ok-write_members.ensures.written f is (merged_into no_members bs) kept in record {
       value = json.object (members_of w.0);
       is = (w.0, w.1, refl);
-      adds = adds_object w.0 (record { before = c.begin_object.ensures.room.0; tokens = c.in_ok-begin_object.ensures.ok }) w.2 (record { before = c.end_object.ensures.room.0; tokens = c.in_ok-end_object.ensures.ok });
+      adds = adds_object w.0 (record { before = c.begin_object.ensures.before; tokens = c.in_ok-begin_object.ensures.ok }) w.2 (record { before = c.end_object.ensures.before; tokens = c.in_ok-end_object.ensures.ok });
     }
 
 pub write_element-returns-in_err-element-clause-memory : goal.write_element-returns-in_err-element-clause-memory
@@ -102,7 +102,7 @@ write_members-loop-name-preserved t c =
             before.0 ++ m ∷ [],
             subst (λ (x : Members). AreMembers x (before.0 ++ m ∷ [])) (sym l.whole) (members_more l.front (string_bytes e.0) (merged l.tree) before.0 w.value before.1 w.is),
             adds_same _ _ (one_more named_tokens before.0 m) (adds_both _ _ before.2 (adds_both (token.key (string_bytes e.0) ∷ []) (json_tokens w.value)
-                (record { before = c.key.ensures.room.0; tokens = c.in_ok-key.ensures.ok ∙ ap (λ k. c.loop-name.out.tokens ++ token.key k ∷ []) c.as_str.ensures.value }) w.adds)),
+                (record { before = c.key.ensures.before; tokens = c.in_ok-key.ensures.ok ∙ ap (λ k. c.loop-name.out.tokens ++ token.key k ∷ []) c.as_str.ensures.value }) w.adds)),
           ),
       some_more c.in_ok-write_element.ensures.stays (some_token c.key.result _ c.key.ensures inv.3),
     )

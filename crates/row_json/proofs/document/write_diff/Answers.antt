@@ -12,6 +12,6 @@ returns-clause-written c =
       value = _;
       is = (ms.0, ms.1, refl);
       adds = adds_same _ _ (ap (λ (l : List Token). token.begin_object ∷ (place_tokens d ++ l)) (sym (members_end ms.0)))
-          (adds_both (token.begin_object ∷ []) _ (record { before = c.begin_object.ensures.room.0; tokens = c.in_ok-begin_object.ensures.ok })
-          (adds_both _ _ c.in_ok-write_place.ensures.written (adds_both _ (token.end_object ∷ []) ms.2 (record { before = c.end_object.ensures.room.0; tokens = c.in_ok-end_object.ensures.ok }))));
+          (adds_both (token.begin_object ∷ []) _ (record { before = c.begin_object.ensures.before; tokens = c.in_ok-begin_object.ensures.ok })
+          (adds_both _ _ c.in_ok-write_place.ensures.written (adds_both _ (token.end_object ∷ []) ms.2 (record { before = c.end_object.ensures.before; tokens = c.in_ok-end_object.ensures.ok }))));
     }

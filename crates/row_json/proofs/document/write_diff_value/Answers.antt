@@ -15,7 +15,7 @@ returns-in_ok-write_document-in-Some-clause-written c =
       (codes "value", w.value) ∷ [],
       (w.value, w.is, refl),
       adds_same _ _ (ap (λ (l : List Token). token.key (codes "value") ∷ l) (sym (append-nil (json_tokens w.value))))
-          (adds_both (token.key (codes "value") ∷ []) (json_tokens w.value) (record { before = c.key.ensures.room.0; tokens = c.in_ok-key-in-Some.ensures.ok }) w.adds),
+          (adds_both (token.key (codes "value") ∷ []) (json_tokens w.value) (record { before = c.key.ensures.before; tokens = c.in_ok-key-in-Some.ensures.ok }) w.adds),
     )
 
 pub returns-in_ok-write_document-in-Some-clause-sound : goal.returns-in_ok-write_document-in-Some-clause-sound

@@ -39,8 +39,8 @@ returns-clause-written c =
       value = json.array (items_of inv.0);
       is = (inv.0, subst (λ (ds : List Diff). AreDiffs ds inv.0) (take_all c.loop-diff.diff-index c.args.diffs.now past) inv.1, refl);
       adds = adds_same _ _ (ap (λ (l : List Token). token.begin_array ∷ l) (sym (items_end inv.0)))
-          (adds_both (token.begin_array ∷ []) _ (record { before = c.begin_array.ensures.room.0; tokens = c.in_ok-begin_array.ensures.ok })
-          (adds_both _ (token.end_array ∷ []) inv.2 (record { before = c.end_array.ensures.room.0; tokens = c.in_ok-end_array.ensures.ok })));
+          (adds_both (token.begin_array ∷ []) _ (record { before = c.begin_array.ensures.before; tokens = c.in_ok-begin_array.ensures.ok })
+          (adds_both _ (token.end_array ∷ []) inv.2 (record { before = c.end_array.ensures.before; tokens = c.in_ok-end_array.ensures.ok })));
     }
 
 pub returns-clause-sound : goal.returns-clause-sound

@@ -11,6 +11,6 @@ pub returns-clause-written : goal.returns-clause-written
 returns-clause-written c =
     let name = c.args.name.now in
     let w = c.in_ok-write_scalar.ensures.written in
-    let key : Adds c.args.out.now c.key.new.self (token.key name ∷ []) = record { before = c.key.ensures.room.0; tokens = c.in_ok-key.ensures.ok } in
+    let key : Adds c.args.out.now c.key.new.self (token.key name ∷ []) = record { before = c.key.ensures.before; tokens = c.in_ok-key.ensures.ok } in
     let value = subst (λ (j : Json). Adds c.key.new.self c.write_scalar.new.out (json_tokens j)) w.is w.adds in
     ((name, scalar_json c.args.value.now) ∷ [], refl, one_member _ _ _ name name (scalar_json c.args.value.now) refl key value)

@@ -5,7 +5,7 @@ use Rattle.row_json.proofs.float.write_float.Goals as goal
 
 pub returns-then-is_finite-clause-written : goal.returns-then-is_finite-clause-written
 returns-then-is_finite-clause-written c =
-    float_wrote c.float.result c.args.out.now c.float.new.self binary32 c.args.bits c.f32_from_bits_with_nan-number.result c.f32_from_bits_with_nan-number.ensures (sym c.is_finite.ensures.value ∙ c.if-is_finite.true) c.float.ensures.room.1.0 c.float.ensures.plain
+    float_wrote c.float.result c.args.out.now c.float.new.self binary32 c.args.bits c.f32_from_bits_with_nan-number.result c.f32_from_bits_with_nan-number.ensures (sym c.is_finite.ensures.value ∙ c.if-is_finite.true) c.float.ensures.before c.float.ensures.plain
 
 pub returns-then-is_nan-clause-written : goal.returns-then-is_nan-clause-written
 returns-then-is_nan-clause-written c =

@@ -28,9 +28,9 @@ returns-clause-written c =
     let ps = start.parts.items in
     let qs = first.parts.items in
     let rs = second.parts.items in
-    let b_key : Adds start.out c.key.new.self (token.key (codes "before") ∷ []) = record { before = c.key.ensures.room.0; tokens = c.in_ok-key.ensures.ok } in
-    let a_key : Adds first.out c.key-2.new.self (token.key (codes "after") ∷ []) = record { before = c.key-2.ensures.room.0; tokens = c.in_ok-key-2.ensures.ok } in
-    let ended : Adds c.write_diffs_of.new.out c.end_object.new.self (token.end_object ∷ []) = record { before = c.end_object.ensures.room.0; tokens = c.in_ok-end_object.ensures.ok } in
+    let b_key : Adds start.out c.key.new.self (token.key (codes "before") ∷ []) = record { before = c.key.ensures.before; tokens = c.in_ok-key.ensures.ok } in
+    let a_key : Adds first.out c.key-2.new.self (token.key (codes "after") ∷ []) = record { before = c.key-2.ensures.before; tokens = c.in_ok-key-2.ensures.ok } in
+    let ended : Adds c.write_diffs_of.new.out c.end_object.new.self (token.end_object ∷ []) = record { before = c.end_object.ensures.before; tokens = c.in_ok-end_object.ensures.ok } in
     let ms : List Named = (codes "before", b.0) ∷ (codes "after", a.0) ∷ d.0 in
     let last : Goes qs first.out rs c.write_diffs_of.new.out (flat_map named_tokens ((codes "after", a.0) ∷ d.0)) =
     goes_members qs rs rs first.out second.out c.write_diffs_of.new.out ((codes "after", a.0) ∷ []) d.0 (goes_member qs rs first.out c.key-2.new.self second.out (codes "after") (codes "after") a.0 refl a_key a.2) (goes_adds rs second.out c.write_diffs_of.new.out (flat_map named_tokens d.0) d.2) in

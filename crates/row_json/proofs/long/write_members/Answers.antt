@@ -1,9 +1,9 @@
-use Rattle.std.proofs.Common.{◌≡◌, ◌+◌, ◌<◌, ◌≤◌, ℕ, suc, true, false, List, [], ◌∷◌, ◌++◌, length, drop, get_or, arith, refl, sym, subst, ◌∙◌, append_assoc, append-nil}
+use Rattle.std.proofs.Common.{◌≡◌, ◌+◌, ◌<◌, ◌≤◌, ℕ, List, [], ◌++◌, length, get_or, arith, sym, subst, append_assoc, append-nil}
 use Rattle.row_json.specs.Wrote.{Named}
 use Rattle.row_json.specs.Rows.{AreMembers}
 use Rattle.std.proofs.lemmas.Result.{err_from_is_err_and}
 use Rattle.binlog_base.specs.Values.{value_at}
-use Rattle.row_json.specs.Columns.{columns_in, set_from}
+use Rattle.row_json.specs.Columns.{columns_in}
 use Rattle.row_json.specs.Faults.{HasNone, IsFaultOfCell}
 use Rattle.row_json.proofs.Columns.{present_step, last_step, count_present, count_last}
 use Rattle.row_json.proofs.Places.{next_at, no_more, after_set, after_counted}

@@ -11,6 +11,7 @@ use Rattle.row_json.specs.declared.row.Part.TheVariants as part
 use Rattle.row_json.specs.Faults.{IsFaultOfBoth, IsFaultOfImage}
 use Rattle.row_json.proofs.Faults.{image_fault, image_sound, both_sound}
 use Rattle.std.proofs.lemmas.Result.{err_from_is_err_and}
+use Rattle.json.specs.Print.{escape_byte}
 use Rattle.row_json.proofs.pair.end_pair.Goals as goal
 
 pub returns-clause-written : goal.returns-clause-written
@@ -22,9 +23,9 @@ returns-clause-written g c =
     let pair = g.P.Images.pair c.args.pair.now in
     let before : c.present_in-before.result ≡ before_in c.args.event.now = c.present_in-before.ensures ∙ ap present_in c.columns_before_image.ensures in
     let after : c.present_in-after.result ≡ after_in c.args.event.now = c.present_in-after.ensures ∙ ap present_in c.columns_after_image.ensures in
-    let b_key : Adds c.args.out.now c.key.new.self (token.key (codes "before") ∷ []) = record { before = c.key.ensures.room.0; tokens = c.in_ok-key.ensures.ok } in
-    let a_key : Adds c.write_image.new.out c.key-2.new.self (token.key (codes "after") ∷ []) = record { before = c.key-2.ensures.room.0; tokens = c.in_ok-key-2.ensures.ok } in
-    let ended : Adds c.write_diffs_of.new.out c.end_object.new.self (token.end_object ∷ []) = record { before = c.end_object.ensures.room.0; tokens = c.in_ok-end_object.ensures.ok } in
+    let b_key : Adds c.args.out.now c.plain_key.new.self (token.key (codes "before") ∷ []) = record { before = c.plain_key.ensures.before; tokens = c.in_ok-plain_key.ensures.ok } in
+    let a_key : Adds c.write_image.new.out c.plain_key-2.new.self (token.key (codes "after") ∷ []) = record { before = c.plain_key-2.ensures.before; tokens = c.in_ok-plain_key-2.ensures.ok } in
+    let ended : Adds c.write_diffs_of.new.out c.end_object.new.self (token.end_object ∷ []) = record { before = c.end_object.ensures.before; tokens = c.in_ok-end_object.ensures.ok } in
     let ms : List Named = (codes "before", b.value) ∷ (codes "after", a.value) ∷ d.0 in
     let all : Adds c.args.out.now c.write_diffs_of.new.out (flat_map named_tokens ms) =
     adds_members ((codes "before", b.value) ∷ []) ((codes "after", a.value) ∷ d.0) (one_member _ _ _ (codes "before") (codes "before") b.value refl b_key b.adds) (adds_members ((codes "after", a.value) ∷ []) d.0 (one_member _ _ _ (codes "after") (codes "after") a.value refl a_key a.adds) d.2) in (
@@ -86,3 +87,11 @@ returns-in_err-write_diffs_of-clause-err g c =
     let second = image_sound part.Row cs c.present_in-after.result (after_in e) _ pair.1 after c.after.ensures c.in_ok-write_image-2.ensures.sound in
     let p = err_from_is_err_and c.from_residual-in_err-write_diffs_of.result c.from_residual-in_err-write_diffs_of.ensures.1 in
     rw (p.1, p.2) (λ other. inr (first, inr (second, image_fault part.Diffs cs c.present_in-after.result (after_in e) _ pair.1 f after c.after-2.ensures (c.in_err-write_diffs_of.ensures.err other))))
+
+pub plain_key-requires : goal.plain_key-requires
+unfolding escape_byte
+plain_key-requires g c = refl
+
+pub plain_key-requires-2 : goal.plain_key-requires-2
+unfolding escape_byte
+plain_key-requires-2 g c = refl

@@ -8,9 +8,9 @@ use Rattle.row_json.proofs.row.write_diffs_of_value.Goals as goal
 pub returns-in_ok-write_lent_diffs-in-Diffs-clause-written : goal.returns-in_ok-write_lent_diffs-in-Diffs-clause-written
 returns-in_ok-write_lent_diffs-in-Diffs-clause-written c =
     let name = c.args.column.now.name in
-    let key : Adds c.args.out.now c.key.new.self (token.key c.name.result.now ∷ []) = record { before = c.key.ensures.room.0; tokens = c.in_ok-key-in-Diffs.ensures.ok } in
+    let key : Adds c.args.out.now c.write_key.new.out (token.key name ∷ []) = record { before = c.write_key.ensures.before; tokens = c.in_ok-write_key-in-Diffs.ensures.ok } in
     let w = c.in_ok-write_lent_diffs-in-Diffs.ensures.written in
-    rw c.in-Diffs.is ((name, w.value) ∷ [], (w.value, w.is, refl), one_member _ _ _ c.name.result.now name w.value c.name.ensures key w.adds)
+    rw c.in-Diffs.is ((name, w.value) ∷ [], (w.value, w.is, refl), one_member _ _ _ name name w.value refl key w.adds)
 
 pub returns-in_default-clause-written : goal.returns-in_default-clause-written
 returns-in_default-clause-written c = ([], no_diffs_member c.args.column.now c.args.value.now c.in_default.not-Diffs, adds_nothing c.args.out.now)

@@ -9,6 +9,6 @@ use Rattle.row_json.proofs.row.write_member.Goals as goal
 pub returns-in_ok-null-in-None-clause-written : goal.returns-in_ok-null-in-None-clause-written
 returns-in_ok-null-in-None-clause-written g c =
     let name = c.args.column.now.name in
-    let key : Adds c.args.out.now c.key.new.self (token.key c.name.result.now ∷ []) = record { before = c.key.ensures.room.0; tokens = c.in_ok-key-in-None.ensures.ok } in
-    let value : Adds c.key.new.self c.null.new.self (json_tokens json.null) = record { before = c.null.ensures.room.0; tokens = c.in_ok-null-in-None.ensures.ok } in
-    rw c.in-None.is ((name, json.null) ∷ [], refl, one_member _ _ _ c.name.result.now name json.null c.name.ensures key value)
+    let key : Adds c.args.out.now c.write_key.new.out (token.key name ∷ []) = record { before = c.write_key.ensures.before; tokens = c.in_ok-write_key-in-None.ensures.ok } in
+    let value : Adds c.write_key.new.out c.null.new.self (json_tokens json.null) = record { before = c.null.ensures.before; tokens = c.in_ok-null-in-None.ensures.ok } in
+    rw c.in-None.is ((name, json.null) ∷ [], refl, one_member _ _ _ name name json.null refl key value)

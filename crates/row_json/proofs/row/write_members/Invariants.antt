@@ -1,4 +1,4 @@
-use Rattle.std.proofs.Common.{◌≡◌, ◌+◌, ◌<◌, ◌≤◌, ℕ, List, ◌++◌, drop, length}
+use Rattle.std.proofs.Common.{◌≡◌, ◌+◌, ◌<◌, ℕ, List, ◌++◌, drop, length}
 use Rattle.std.specs.List.{flat_map}
 use Rattle.binlog_base.specs.Values.{value_at}
 use Rattle.row_json.specs.Columns.{columns_in, set_from}

@@ -9,7 +9,7 @@ returns-clause-written g c =
     let ms = c.in_ok-write_members.ensures.written in record {
       value = json.object (members_of ms.0);
       is = (ms.0, rw (← c.columns.ensures) ms.1, refl);
-      adds = adds_object ms.0 (record { before = c.begin_object.ensures.room.0; tokens = c.in_ok-begin_object.ensures.ok }) ms.2 (record { before = c.end_object.ensures.room.0; tokens = c.in_ok-end_object.ensures.ok });
+      adds = adds_object ms.0 (record { before = c.begin_object.ensures.before; tokens = c.in_ok-begin_object.ensures.ok }) ms.2 (record { before = c.end_object.ensures.before; tokens = c.in_ok-end_object.ensures.ok });
     }
 
 pub returns-clause-sound : goal.returns-clause-sound

@@ -13,9 +13,9 @@ returns-clause-written c =
     let name = c.args.self.now.name.now in
     let fields = fields_json c.args.self.now.fields.now in
     let m = c.in_ok-write_fields.ensures.written in
-    let key : Adds c.args.out.now c.key.new.self (token.key name ∷ []) = record { before = c.key.ensures.room.0; tokens = c.in_ok-key.ensures.ok } in
-    let begun : Adds c.key.new.self c.begin_object.new.self (token.begin_object ∷ []) = record { before = c.begin_object.ensures.room.0; tokens = c.in_ok-begin_object.ensures.ok } in
+    let key : Adds c.args.out.now c.key.new.self (token.key name ∷ []) = record { before = c.key.ensures.before; tokens = c.in_ok-key.ensures.ok } in
+    let begun : Adds c.key.new.self c.begin_object.new.self (token.begin_object ∷ []) = record { before = c.begin_object.ensures.before; tokens = c.in_ok-begin_object.ensures.ok } in
     let own = subst (λ (ms : List Named). Adds c.begin_object.new.self c.write_fields.new.out (flat_map named_tokens ms)) m.1 m.2 in
-    let ended : Adds c.write_fields.new.out c.end_object.new.self (token.end_object ∷ []) = record { before = c.end_object.ensures.room.0; tokens = c.in_ok-end_object.ensures.ok } in
+    let ended : Adds c.write_fields.new.out c.end_object.new.self (token.end_object ∷ []) = record { before = c.end_object.ensures.before; tokens = c.in_ok-end_object.ensures.ok } in
     let value = json.object (members_of fields) in
     ((name, value) ∷ [], refl, one_member _ _ _ name name value refl key (adds_object fields begun own ended))

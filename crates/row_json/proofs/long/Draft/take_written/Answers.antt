@@ -1,7 +1,7 @@
 use Rattle.std.proofs.Common.{◌≡◌, ◌<◌, ◌++◌, length, sym, ap, ◌∙◌, subst, arith}
 use Rattle.json.specs.Lex.{tokens}
 use Rattle.json.specs.Print.{print}
-use Rattle.json.specs.Written.{Written}
+use Rattle.json_line.specs.Written.{Written}
 use Rattle.row_json.proofs.Drafts.{text_without, all_of_it, but_the_first, last_printable}
 use Rattle.row_json.proofs.long.Draft.take_written.Goals as goal
 

@@ -15,7 +15,7 @@ returns c =
     let len : vec_len t.result ≡ length t.result.items = grind arith in
     let cut_off : c.pop.new.self.items ≡ take (length t.result.items - 1) t.result.items = c.pop.ensures.rest ∙ ap (λ (n : ℕ). take (n - 1) t.result.items) len in
     let p : LinePart = record { before = c.pop.new.self.items; text = c.args.text } in
-    let empty : Adds a c.string.new.self (token.string [] ∷ []) = record { before = c.string.ensures.room.0; tokens = c.in_ok-string.ensures.ok } in
+    let empty : Adds a c.string.new.self (token.string [] ∷ []) = record { before = c.string.ensures.before; tokens = c.in_ok-string.ensures.ok } in
     let same : t.new.self.parts.items ≡ ps = ap (λ (v : Vec LinePart Global). v.items) t.ensures.parts in
     let parts : c.push.new.self.items ≡ ps ++ p ∷ [] = c.in_ok-push.ensures.items ∙ ap (λ (qs : List LinePart). qs ++ p ∷ []) same in
     subst (λ (qs : List LinePart). OnOk c.string-2.result (Goes ps a qs c.string-2.new.self (token.string (characters c.args.text) ∷ []))) (sym parts)

@@ -1,0 +1,19 @@
+-- What the writer's clauses see of its buffer.
+use Rattle.std.specs.Prelude.{◌≡◌, ℕ, List, ◌++◌, refl, Result, MatchResult}
+use Rattle.std.specs.Coded.{Coded, code_by, coded×, coded_list, coded_ℕ}
+
+-- the bytes of a buffer, how many more may be written at once, and how many its memory holds
+pub record Filled : Type 0 where
+  pub items : List ℕ
+  pub ready : ℕ
+  pub capacity : ℕ
+
+-- it is stored as the tuple of its fields
+abbrev pub filled_code : Coded Filled
+filled_code =
+    code_by (List ℕ × (ℕ × ℕ)) (coded× (coded_list coded_ℕ) (coded× coded_ℕ coded_ℕ))
+    (λ f. (f.items, (f.ready, f.capacity))) (λ p. record { items = p.0; ready = p.1.0; capacity = p.1.1 }) (λ _. refl)
+
+-- the bytes are appended, all or none
+abbrev pub Puts : {E : Type 0} → Result (Unit {0}) E → Filled → Filled → List ℕ → Type 0
+Puts r old new bytes = MatchResult r (λ _. new.items ≡ old.items ++ bytes) (λ _. new.items ≡ old.items)

@@ -1,0 +1,22 @@
+-- Proofs that several functions of this crate share.
+pub mod Pieces
+pub mod Pushed
+pub mod Has
+pub mod Walked
+pub mod ReadBack
+pub mod Unpacked
+pub mod Told
+pub mod Fitting
+pub mod CompletedColumns
+pub mod Signs
+pub mod CharacterSets
+pub mod ValueNames
+pub mod Stays
+pub mod Read
+pub mod Halving
+pub mod Taken
+pub mod Tables
+pub mod Escapes
+pub mod NamesRead
+pub mod Indexes
+pub mod TableBy
